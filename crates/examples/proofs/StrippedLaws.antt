@@ -1,6 +1,10 @@
--- This file proves that a module without its custom sections decodes to the others.
-use Rattle.wasm_base.proofs.Words.{◌≡◌, ◌≢◌, ℕ, List, [], ◌∷◌, ◌++◌, length, Bool, true, false, if◌then◌else◌, ◌==◌, refl, sym, ap, subst, ◌∙◌, ne_eqb}
+-- This file proves that a module without its custom sections decodes to the others, and how errors
+-- propagate.
+use Rattle.wasm_base.proofs.Words.{◌≡◌, ◌≢◌, ℕ, List, [], ◌∷◌, ◌++◌, length, Bool, true, false, if◌then◌else◌, ◌==◌, Result, Ok, Err, refl, sym, ap, subst, ◌∙◌, ne_eqb}
 use Rattle.wasm_base.proofs.Words.{append-nil, padded, any_section, header, members, wasm_module, Decodes, DecodesWhole, DecodesOneMore, members_start, members_step, whole_decodes}
+use Rattle.std.proofs.Common.{IfErr, IsErrAnd}
+use Rattle.wasm_base.specs.declared.fault.ReadFault.TheVariants.{Memory}
+use Rattle.wasm_reader.specs.declared.read_error.ReadError.{ReadError}
 use Rattle.wasm_sections.proofs.Words.{prefixed_decodes}
 use Rattle.examples.specs.Stripped.{not_custom, IsStripped}
 
@@ -50,3 +54,8 @@ stripped_done bytes {rest = rest} e h l = record {
   read = whole_decodes wasm_module bytes rest h.sections (prefixed_decodes header (members any_section) e h.read) (ap length l);
   kept = h.kept;
 }
+
+-- The cause of an error implies the same when a call propagates the error.
+pub error_stays : {T P : Type 0} (r : Result T ReadError) (e : ReadError) → IsErrAnd r (λ y. y ≡ e) → (e.cause ≢ Memory → P) → IfErr r (λ y. y.cause ≢ Memory → P)
+error_stays (Ok x) e h p = elim h [ ]
+error_stays (Err y) e h p = λ n. p (λ k. n (ap (λ z. z.cause) h ∙ k))

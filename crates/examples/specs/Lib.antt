@@ -12,16 +12,4 @@ pub mod Compiled
 pub mod Coverage
 pub mod Object
 pub mod Large
-pub mod Customs
-pub mod Declarations
-pub mod Decodings
-pub mod Dumps
-pub mod Libraries
-pub mod FirstValues
-pub mod Handed
-pub mod Iterated
-pub mod ReadPadded
-pub mod Relocated
-pub mod Stored
 pub mod Stripped
-pub mod Called

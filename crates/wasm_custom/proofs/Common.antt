@@ -16,7 +16,7 @@ pub use Rattle.wasm_custom.proofs.CoreStackLaws.{i64_none, stack_fills, stack_no
 pub use Rattle.wasm_custom.proofs.CustomLaws.{custom_back, encodable_of, raw_back}
 pub use Rattle.wasm_custom.proofs.DecodeMarked.{marked_none}
 pub use Rattle.wasm_custom.proofs.DecodeNamed.{counted_decodes, counted_more, counted_none, counted_rejects, name_none, name_other}
-pub use Rattle.wasm_custom.proofs.DylinkLaws.{dylink_none, export_flags_none, exports_decodes, exports_none, import_flags_none, imports_decodes, imports_none, memory_decodes, memory_none}
+pub use Rattle.wasm_custom.proofs.DylinkLaws.{dylink_begins, dylink_none, export_flags_none, exports_decodes, exports_none, import_flags_none, imports_decodes, imports_none, memory_decodes, memory_none}
 pub use Rattle.wasm_custom.proofs.DylinkLaws.{needed_decodes, needed_encoded, needed_none, needs_none, paths_decodes, paths_encoded, paths_none, section_fills, section_none, section_rejects}
 pub use Rattle.wasm_custom.proofs.EntriesLaws.{counted_appended, entries_back, same_encodable}
 pub use Rattle.wasm_custom.proofs.FeatureLaws.{prefix_none}

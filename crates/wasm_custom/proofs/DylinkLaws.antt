@@ -1,21 +1,22 @@
 -- This file proves that sections of dynamic libraries are unambiguous, and how they are decoded and
 -- minimized.
 use Rattle.wasm_base.proofs.Words.{◌≡◌, ◌≢◌, ◌+◌, ℕ, List, [], ◌∷◌, ◌++◌, length, length-append, false, ap, ap₂, refl, sym, subst, ◌∙◌, Format, u32, byte, name, just, vec, pair, mapped, fixed}
-use Rattle.wasm_base.proofs.Words.{prefixed, size_prefixed, members, choice, impossible, minimal, Mode, Unambiguous, Decodes, Rejects, RejectsWhole, AppendsMinimal, HasEncoding, HasEncodableSize}
+use Rattle.wasm_base.proofs.Words.{prefixed, size_prefixed, members, any_bytes, any_bytes_whole, choice, impossible, minimal, padded, Mode, Grammar, builders, admitted, is_admitted, padded_of, true, IsIncludedIn, BeginsWith, IsOther, Unambiguous, Decodes, Rejects, RejectsWhole, AppendsMinimal, HasEncoding, HasEncodableSize}
 use Rattle.wasm_base.proofs.Words.{IsEncodableName, IsEncodableVec, unsigned_encoding, size_prefixed_encoding, vec_encoding, AllDetermine, ItemLaws, SectionLaws, pair_encodes, u32_encodes}
 use Rattle.wasm_base.proofs.Words.{name_encodes, vec_encodes, size_prefixed_encodes, tagged_encodes, tagged_begins, mapped_unambiguous, pair_unambiguous, name_unambiguous, u32_unambiguous}
-use Rattle.wasm_base.proofs.Words.{byte_unambiguous, vec_unambiguous, size_prefixed_unambiguous, whole_from_unique, fixed_unambiguous, choice_of, ascii, mapped_decodes, mapped_rejects, tagged_decodes}
-use Rattle.wasm_base.proofs.Words.{tagged_none, tagged_rejects, no_choice, mapped_appended, pair_appended, prefixed_appended, prefixed_encoded, mapped_encoded, left_encoded, right_encoded}
+use Rattle.wasm_base.proofs.Words.{byte_unambiguous, vec_unambiguous, size_prefixed_unambiguous, whole_from_unique, fixed_unambiguous, choice_of, ascii, mapped_decodes, mapped_rejects}
+use Rattle.wasm_base.proofs.FormatLaws.{AllUnambiguous}
+use Rattle.wasm_base.proofs.Words.{no_choice, mapped_appended, pair_appended, prefixed_appended, prefixed_encoded, mapped_encoded, left_encoded, right_encoded}
 use Rattle.wasm_custom.specs.{CustomLayoutLaws, needs_encoding, AreNeeds, needs_of, needs, DylinkExport, export_flags_encoding, IsDylinkExport, export_flags_of, export_flags}
-use Rattle.wasm_custom.specs.{DylinkImport, import_flags_encoding, IsDylinkImport, import_flags_of, import_flags, DylinkItem, dylink_encoding, IsDylink, dylink_tags, dylink_item, dylink_items}
+use Rattle.wasm_custom.specs.{DylinkImport, import_flags_encoding, IsDylinkImport, import_flags_of, import_flags, DylinkItem, dylink_encoding, IsDylink, dylink_tags, built_dylink, other_dylink, full_dylink, dylink_item, dylink_items}
 use Rattle.wasm_custom.specs.{dylink_name, dylink_payload}
-use Rattle.wasm_custom.specs.Dylink.{Memory, Needed, ExportFlags, ImportFlags, RuntimePath}
+use Rattle.wasm_custom.specs.Dylink.{Memory, Needed, ExportFlags, ImportFlags, RuntimePath, OtherDylink}
 use Rattle.wasm_custom.specs.declared.dylink_symbols.DylinkMemory.{DylinkMemory}
 use Rattle.wasm_custom.proofs.CustomLaws.{content_encodable}
 use Rattle.wasm_custom.proofs.DecodeNamed.{named_none, items_fill, no_items}
 use Rattle.wasm_custom.proofs.EntriesLaws.{entries_laws, items_appended, items_encoded}
 use Rattle.wasm_custom.proofs.LinkLaws.{content_appended, content_of}
-use Rattle.wasm_custom.proofs.WiderLaws.{tag_appended, known_encoded}
+use Rattle.wasm_custom.proofs.WiderLaws.{choice_or, tagged_included, wider_unambiguous, wider_begins, tag_none, tag_rejects, both_is, both_is_not, other_is, other_is_not, tag_appended, unknown_appended, known_encoded, unknown_encoded}
 
 -- ---- memory and table
 
@@ -122,26 +123,48 @@ dylink_id (Needed names) = 2
 dylink_id (ExportFlags exports) = 3
 dylink_id (ImportFlags imports) = 4
 dylink_id (RuntimePath paths) = 5
+dylink_id (OtherDylink id content) = id
 
-dylink_ids : AllDetermine dylink_id dylink_tags
-dylink_ids = (λ mode s x h. ap dylink_id h.1, (λ mode s x h. ap dylink_id h.1, (λ mode s x h. ap dylink_id h.1, (λ mode s x h. ap dylink_id h.1, (λ mode s x h. ap dylink_id h.1, tt)))))
+-- The id of a subsection of the builders' grammar, and 0 for the others.
+abbrev built_id : DylinkItem → ℕ
+built_id (OtherDylink id content) = 0
+built_id x = dylink_id x
+
+full_ids : AllDetermine dylink_id dylink_tags
+full_ids = (λ mode s x h. ap dylink_id h.1, (λ mode s x h. ap dylink_id h.1, (λ mode s x h. ap dylink_id h.1, (λ mode s x h. ap dylink_id h.1, (λ mode s x h. ap dylink_id h.1, tt)))))
+
+built_ids : AllDetermine built_id dylink_tags
+built_ids = (λ mode s x h. ap built_id h.1, (λ mode s x h. ap built_id h.1, (λ mode s x h. ap built_id h.1, (λ mode s x h. ap built_id h.1, (λ mode s x h. ap built_id h.1, tt)))))
+
+contents_unambiguous : AllUnambiguous dylink_tags
+contents_unambiguous = (
+  mapped_unambiguous Memory (λ x y e. cc) (size_prefixed_unambiguous (whole_from_unique needs_unambiguous)),
+  (
+    mapped_unambiguous Needed (λ x y e. cc) (size_prefixed_unambiguous (whole_from_unique (vec_unambiguous name_unambiguous))),
+    (
+      mapped_unambiguous ExportFlags (λ x y e. cc) (size_prefixed_unambiguous (whole_from_unique (vec_unambiguous export_flags_unambiguous))),
+      (
+        mapped_unambiguous ImportFlags (λ x y e. cc) (size_prefixed_unambiguous (whole_from_unique (vec_unambiguous import_flags_unambiguous))),
+        (mapped_unambiguous RuntimePath (λ x y e. cc) (size_prefixed_unambiguous (whole_from_unique (vec_unambiguous name_unambiguous))), tt),
+      ),
+    ),
+  ),
+)
+
+built_unambiguous : Unambiguous built_dylink
+built_unambiguous = choice_of byte built_id dylink_tags byte_unambiguous contents_unambiguous built_ids
+
+full_unambiguous : Unambiguous full_dylink
+full_unambiguous = choice_or dylink_id dylink_tags other_dylink contents_unambiguous full_ids (λ b. mapped_unambiguous (OtherDylink b) (λ x y e. cc) (size_prefixed_unambiguous any_bytes_whole)) (λ b mode s x h. ap dylink_id h.1)
+
+built_is_full : IsIncludedIn (built_dylink padded) (full_dylink padded)
+built_is_full = tagged_included dylink_tags dylink_tags other_dylink padded (λ s x h. h, (λ s x h. h, (λ s x h. h, (λ s x h. h, (λ s x h. h, tt)))))
 
 pub dylink_unambiguous : Unambiguous dylink_item
-dylink_unambiguous =
-    choice_of byte dylink_id dylink_tags byte_unambiguous (
-      mapped_unambiguous Memory (λ x y e. cc) (size_prefixed_unambiguous (whole_from_unique needs_unambiguous)),
-      (
-        mapped_unambiguous Needed (λ x y e. cc) (size_prefixed_unambiguous (whole_from_unique (vec_unambiguous name_unambiguous))),
-        (
-          mapped_unambiguous ExportFlags (λ x y e. cc) (size_prefixed_unambiguous (whole_from_unique (vec_unambiguous export_flags_unambiguous))),
-          (
-            mapped_unambiguous ImportFlags (λ x y e. cc) (size_prefixed_unambiguous (whole_from_unique (vec_unambiguous import_flags_unambiguous))),
-            (mapped_unambiguous RuntimePath (λ x y e. cc) (size_prefixed_unambiguous (whole_from_unique (vec_unambiguous name_unambiguous))), tt),
-          ),
-        ),
-      ),
-    )
-    dylink_ids
+dylink_unambiguous = wider_unambiguous built_dylink full_dylink built_unambiguous full_unambiguous built_is_full
+
+pub dylink_begins : BeginsWith (λ b. Unit {0}) dylink_item
+dylink_begins = wider_begins (λ b. Unit {0}) tagged_begins tagged_begins
 
 -- The vector of a subsection encodes its members.
 vector_encodes : {X : Type 0} (C : List X → DylinkItem) (id : ℕ) (F : Format X) (Is : X → Type 0) (encoding : X → List ℕ) → ((x : X) → Is x → F minimal (encoding x) x) → (xs : List X) → IsEncodableVec Is xs → HasEncodableSize (id ∷ size_prefixed_encoding (vec_encoding encoding xs)) → mapped C (size_prefixed (vec F)) minimal (size_prefixed_encoding (vec_encoding encoding xs)) (C xs)
@@ -150,6 +173,7 @@ vector_encodes C id F Is encoding each xs plain encodable =
     (xs, refl, size_prefixed_encodes (vec F) content xs (content_encodable id content encodable) (vec_encodes F Is encoding each xs plain))
 
 dylink_encodes : (x : DylinkItem) → IsDylink x → HasEncodableSize (dylink_encoding x) → dylink_item minimal (dylink_encoding x) x
+dylink_encodes (OtherDylink id content) plain encodable = absurd plain
 dylink_encodes (Memory m) plain encodable =
     let content = needs_encoding m in
     tagged_encodes minimal 1 (size_prefixed_encoding content) (Memory m) (m, refl, size_prefixed_encodes needs content m (content_encodable 1 content encodable) (needs_encodes m plain))
@@ -170,7 +194,7 @@ dylink_layout = record {
   name_utf8 = ascii {bytes = dylink_name} refl;
   front_unique = fixed_unambiguous [] (tt {0});
   front_encodes = (refl, refl);
-  begins = λ e. tagged_begins;
+  begins = λ e. dylink_begins;
 }
 
 pub dylink_section : SectionLaws dylink_items dylink_payload
@@ -178,50 +202,50 @@ dylink_section = entries_laws dylink_laws dylink_layout (λ given plain. plain) 
 
 -- ---- decoding
 
-abbrev after_id : ℕ → Format DylinkItem
-after_id b = choice dylink_tags (λ c. impossible) b
+pub dylink_none : (w : Grammar) (bytes : List ℕ) → Rejects byte (padded_of w) bytes → Rejects dylink_item (padded_of w) bytes
+dylink_none w bytes n = tag_none dylink_tags dylink_tags other_dylink w bytes n
 
-id_is : {m : Mode} (c : ℕ) {bytes rest last : List ℕ} {b : ℕ} {x : DylinkItem} → Decodes byte m bytes b rest → b ≡ c → Decodes (after_id c) m rest x last → Decodes dylink_item m bytes x last
-id_is {m = m} c {rest = rest} {last = last} {x = x} h e g = tagged_decodes {G = after_id} h (subst (λ z. Decodes (after_id z) m rest x last) (sym e) g)
+pub memory_decodes : (w : Grammar) (bytes rest last : List ℕ) (b : ℕ) (x : DylinkMemory) → Decodes byte (padded_of w) bytes b rest → b ≡ 1 → Decodes (size_prefixed needs) (padded_of w) rest x last → Decodes dylink_item (padded_of w) bytes (Memory x) last
+memory_decodes w bytes rest last b x h e g = both_is dylink_tags dylink_tags other_dylink 1 (mapped Memory (size_prefixed needs)) refl refl w h e (mapped_decodes Memory g)
 
-id_is_not : {m : Mode} (c : ℕ) {bytes rest : List ℕ} {b : ℕ} → Decodes byte m bytes b rest → b ≡ c → Rejects (after_id c) m rest → Rejects dylink_item m bytes
-id_is_not {m = m} c {rest = rest} h e n = tagged_rejects {G = after_id} byte_unambiguous h (subst (λ z. Rejects (after_id z) m rest) (sym e) n)
+pub memory_none : (w : Grammar) (bytes rest : List ℕ) (b : ℕ) → Decodes byte (padded_of w) bytes b rest → b ≡ 1 → Rejects (size_prefixed needs) (padded_of w) rest → Rejects dylink_item (padded_of w) bytes
+memory_none w bytes rest b h e n = both_is_not dylink_tags dylink_tags other_dylink 1 (mapped Memory (size_prefixed needs)) refl refl w h e (mapped_rejects Memory n)
 
-pub dylink_none : {m : Mode} (bytes : List ℕ) → Rejects byte m bytes → Rejects dylink_item m bytes
-dylink_none bytes n = tagged_none byte after_id bytes n
+pub needed_decodes : (w : Grammar) (bytes rest last : List ℕ) (b : ℕ) (xs : List (List ℕ)) → Decodes byte (padded_of w) bytes b rest → b ≡ 2 → Decodes (size_prefixed (vec name)) (padded_of w) rest xs last → Decodes dylink_item (padded_of w) bytes (Needed xs) last
+needed_decodes w bytes rest last b xs h e g = both_is dylink_tags dylink_tags other_dylink 2 (mapped Needed (size_prefixed (vec name))) refl refl w h e (mapped_decodes Needed g)
 
-pub memory_decodes : {m : Mode} (bytes rest last : List ℕ) (b : ℕ) (x : DylinkMemory) → Decodes byte m bytes b rest → b ≡ 1 → Decodes (size_prefixed needs) m rest x last → Decodes dylink_item m bytes (Memory x) last
-memory_decodes bytes rest last b x h e g = id_is 1 h e (mapped_decodes Memory g)
+pub needed_none : (w : Grammar) (bytes rest : List ℕ) (b : ℕ) → Decodes byte (padded_of w) bytes b rest → b ≡ 2 → Rejects (size_prefixed (vec name)) (padded_of w) rest → Rejects dylink_item (padded_of w) bytes
+needed_none w bytes rest b h e n = both_is_not dylink_tags dylink_tags other_dylink 2 (mapped Needed (size_prefixed (vec name))) refl refl w h e (mapped_rejects Needed n)
 
-pub memory_none : {m : Mode} (bytes rest : List ℕ) (b : ℕ) → Decodes byte m bytes b rest → b ≡ 1 → Rejects (size_prefixed needs) m rest → Rejects dylink_item m bytes
-memory_none bytes rest b h e n = id_is_not 1 h e (mapped_rejects Memory n)
+pub exports_decodes : (w : Grammar) (bytes rest last : List ℕ) (b : ℕ) (xs : List DylinkExport) → Decodes byte (padded_of w) bytes b rest → b ≡ 3 → Decodes (size_prefixed (vec export_flags)) (padded_of w) rest xs last → Decodes dylink_item (padded_of w) bytes (ExportFlags xs) last
+exports_decodes w bytes rest last b xs h e g = both_is dylink_tags dylink_tags other_dylink 3 (mapped ExportFlags (size_prefixed (vec export_flags))) refl refl w h e (mapped_decodes ExportFlags g)
 
-pub needed_decodes : {m : Mode} (bytes rest last : List ℕ) (b : ℕ) (xs : List (List ℕ)) → Decodes byte m bytes b rest → b ≡ 2 → Decodes (size_prefixed (vec name)) m rest xs last → Decodes dylink_item m bytes (Needed xs) last
-needed_decodes bytes rest last b xs h e g = id_is 2 h e (mapped_decodes Needed g)
+pub exports_none : (w : Grammar) (bytes rest : List ℕ) (b : ℕ) → Decodes byte (padded_of w) bytes b rest → b ≡ 3 → Rejects (size_prefixed (vec export_flags)) (padded_of w) rest → Rejects dylink_item (padded_of w) bytes
+exports_none w bytes rest b h e n = both_is_not dylink_tags dylink_tags other_dylink 3 (mapped ExportFlags (size_prefixed (vec export_flags))) refl refl w h e (mapped_rejects ExportFlags n)
 
-pub needed_none : {m : Mode} (bytes rest : List ℕ) (b : ℕ) → Decodes byte m bytes b rest → b ≡ 2 → Rejects (size_prefixed (vec name)) m rest → Rejects dylink_item m bytes
-needed_none bytes rest b h e n = id_is_not 2 h e (mapped_rejects Needed n)
+pub imports_decodes : (w : Grammar) (bytes rest last : List ℕ) (b : ℕ) (xs : List DylinkImport) → Decodes byte (padded_of w) bytes b rest → b ≡ 4 → Decodes (size_prefixed (vec import_flags)) (padded_of w) rest xs last → Decodes dylink_item (padded_of w) bytes (ImportFlags xs) last
+imports_decodes w bytes rest last b xs h e g = both_is dylink_tags dylink_tags other_dylink 4 (mapped ImportFlags (size_prefixed (vec import_flags))) refl refl w h e (mapped_decodes ImportFlags g)
 
-pub exports_decodes : {m : Mode} (bytes rest last : List ℕ) (b : ℕ) (xs : List DylinkExport) → Decodes byte m bytes b rest → b ≡ 3 → Decodes (size_prefixed (vec export_flags)) m rest xs last → Decodes dylink_item m bytes (ExportFlags xs) last
-exports_decodes bytes rest last b xs h e g = id_is 3 h e (mapped_decodes ExportFlags g)
+pub imports_none : (w : Grammar) (bytes rest : List ℕ) (b : ℕ) → Decodes byte (padded_of w) bytes b rest → b ≡ 4 → Rejects (size_prefixed (vec import_flags)) (padded_of w) rest → Rejects dylink_item (padded_of w) bytes
+imports_none w bytes rest b h e n = both_is_not dylink_tags dylink_tags other_dylink 4 (mapped ImportFlags (size_prefixed (vec import_flags))) refl refl w h e (mapped_rejects ImportFlags n)
 
-pub exports_none : {m : Mode} (bytes rest : List ℕ) (b : ℕ) → Decodes byte m bytes b rest → b ≡ 3 → Rejects (size_prefixed (vec export_flags)) m rest → Rejects dylink_item m bytes
-exports_none bytes rest b h e n = id_is_not 3 h e (mapped_rejects ExportFlags n)
+pub paths_decodes : (w : Grammar) (bytes rest last : List ℕ) (b : ℕ) (xs : List (List ℕ)) → Decodes byte (padded_of w) bytes b rest → b ≡ 5 → Decodes (size_prefixed (vec name)) (padded_of w) rest xs last → Decodes dylink_item (padded_of w) bytes (RuntimePath xs) last
+paths_decodes w bytes rest last b xs h e g = both_is dylink_tags dylink_tags other_dylink 5 (mapped RuntimePath (size_prefixed (vec name))) refl refl w h e (mapped_decodes RuntimePath g)
 
-pub imports_decodes : {m : Mode} (bytes rest last : List ℕ) (b : ℕ) (xs : List DylinkImport) → Decodes byte m bytes b rest → b ≡ 4 → Decodes (size_prefixed (vec import_flags)) m rest xs last → Decodes dylink_item m bytes (ImportFlags xs) last
-imports_decodes bytes rest last b xs h e g = id_is 4 h e (mapped_decodes ImportFlags g)
+pub paths_none : (w : Grammar) (bytes rest : List ℕ) (b : ℕ) → Decodes byte (padded_of w) bytes b rest → b ≡ 5 → Rejects (size_prefixed (vec name)) (padded_of w) rest → Rejects dylink_item (padded_of w) bytes
+paths_none w bytes rest b h e n = both_is_not dylink_tags dylink_tags other_dylink 5 (mapped RuntimePath (size_prefixed (vec name))) refl refl w h e (mapped_rejects RuntimePath n)
 
-pub imports_none : {m : Mode} (bytes rest : List ℕ) (b : ℕ) → Decodes byte m bytes b rest → b ≡ 4 → Rejects (size_prefixed (vec import_flags)) m rest → Rejects dylink_item m bytes
-imports_none bytes rest b h e n = id_is_not 4 h e (mapped_rejects ImportFlags n)
+-- A subsection of any other id, which the standard's grammar alone has.
+pub others_decodes : (w : Grammar) (bytes rest last : List ℕ) (b : ℕ) (content : List ℕ) → Decodes byte (padded_of w) bytes b rest → IsOther dylink_tags b → is_admitted w ≡ true → Decodes (size_prefixed any_bytes) (padded_of w) rest content last → Decodes dylink_item (padded_of w) bytes (OtherDylink b content) last
+others_decodes w bytes rest last b content h o f g = other_is dylink_tags dylink_tags other_dylink o w f h (mapped_decodes (OtherDylink b) g)
 
-pub paths_decodes : {m : Mode} (bytes rest last : List ℕ) (b : ℕ) (xs : List (List ℕ)) → Decodes byte m bytes b rest → b ≡ 5 → Decodes (size_prefixed (vec name)) m rest xs last → Decodes dylink_item m bytes (RuntimePath xs) last
-paths_decodes bytes rest last b xs h e g = id_is 5 h e (mapped_decodes RuntimePath g)
+pub others_none : (w : Grammar) (bytes rest : List ℕ) (b : ℕ) → Decodes byte (padded_of w) bytes b rest → IsOther dylink_tags b → is_admitted w ≡ true → Rejects (size_prefixed any_bytes) (padded_of w) rest → Rejects dylink_item (padded_of w) bytes
+others_none w bytes rest b h o f n = other_is_not dylink_tags dylink_tags other_dylink o w f h (mapped_rejects (OtherDylink b) n)
 
-pub paths_none : {m : Mode} (bytes rest : List ℕ) (b : ℕ) → Decodes byte m bytes b rest → b ≡ 5 → Rejects (size_prefixed (vec name)) m rest → Rejects dylink_item m bytes
-paths_none bytes rest b h e n = id_is_not 5 h e (mapped_rejects RuntimePath n)
-
-pub dylink_unknown : {m : Mode} (bytes rest : List ℕ) (b : ℕ) → Decodes byte m bytes b rest → b ≢ 1 → b ≢ 2 → b ≢ 3 → b ≢ 4 → b ≢ 5 → Rejects dylink_item m bytes
-dylink_unknown bytes rest b h p q r s t = tagged_rejects {G = after_id} byte_unambiguous h (no_choice dylink_tags b rest (p, (q, (r, (s, (t, tt))))))
+-- The builders' grammar has no subsection of the id.
+pub dylink_unknown : (w : Grammar) (bytes rest : List ℕ) (b : ℕ) → Decodes byte (padded_of w) bytes b rest → is_admitted w ≡ false → b ≢ 1 → b ≢ 2 → b ≢ 3 → b ≢ 4 → b ≢ 5 → Rejects dylink_item (padded_of w) bytes
+dylink_unknown builders bytes rest b h f p q r s t = tag_rejects dylink_tags dylink_tags other_dylink builders h (no_choice dylink_tags b rest (p, (q, (r, (s, (t, tt))))))
+dylink_unknown admitted bytes rest b h f p q r s t = absurd (cc f)
 
 pub ruleset dylink_steps = (dylink_unknown)
 
@@ -244,14 +268,23 @@ memory_appended x old front new e a = prefixed_appended (1 ∷ []) (size_prefixe
 pub memory_content : (x : DylinkMemory) → HasEncoding (prefixed (1 ∷ []) (size_prefixed needs)) x → HasEncoding (size_prefixed needs) x
 memory_content x h = prefixed_encoded (1 ∷ []) (size_prefixed needs) x h
 
--- An encoding by the id and the content is one of the subsection.
-by_id : (x : DylinkItem) {old new : List ℕ} → AppendsMinimal (prefixed (dylink_id x ∷ []) (after_id (dylink_id x))) x old new → AppendsMinimal dylink_item x old new
-by_id x a =
-    let b = tag_appended dylink_tags dylink_tags dylink_id dylink_ids x a in
-    record { encoding = b.encoding; appended = b.appended; encodes = b.encodes }
+-- The format after an id of the builders' grammar.
+abbrev after_id : ℕ → Format DylinkItem
+after_id b = choice dylink_tags (λ c. impossible) b
 
-id_encoded : (x : DylinkItem) → HasEncoding dylink_item x → HasEncoding (prefixed (dylink_id x ∷ []) (after_id (dylink_id x))) x
-id_encoded x h = known_encoded dylink_tags dylink_tags dylink_id dylink_ids x (record { bytes = h.bytes; decoded = h.decoded })
+-- An encoding by the id and the content is one of the subsection.
+by_id : (x : DylinkItem) {old new : List ℕ} → AppendsMinimal (prefixed (built_id x ∷ []) (after_id (built_id x))) x old new → AppendsMinimal dylink_item x old new
+by_id x a = tag_appended dylink_tags dylink_tags other_dylink built_id built_ids x a
+
+id_encoded : (x : DylinkItem) → HasEncoding dylink_item x → HasEncoding (prefixed (built_id x ∷ []) (after_id (built_id x))) x
+id_encoded x h = known_encoded dylink_tags dylink_tags other_dylink built_id built_ids x h
+
+-- The builders' grammar has no encoding of a subsection of any other id.
+pub others_short : (id : ℕ) (content old new : List ℕ) → AppendsMinimal (prefixed (id ∷ []) (size_prefixed any_bytes)) content old new → AppendsMinimal dylink_item (OtherDylink id content) old new
+others_short id content old new a = unknown_appended dylink_tags dylink_tags other_dylink built_id built_ids (OtherDylink id content) refl (prefixed (id ∷ []) (size_prefixed any_bytes)) content a
+
+pub others_encoded : (id : ℕ) (content : List ℕ) → HasEncoding dylink_item (OtherDylink id content) → ⊥
+others_encoded id content h = unknown_encoded dylink_tags dylink_tags other_dylink built_id built_ids (OtherDylink id content) refl h
 
 pub memory_short : (x : DylinkMemory) (old new : List ℕ) → AppendsMinimal (prefixed (1 ∷ []) (size_prefixed needs)) x old new → AppendsMinimal dylink_item (Memory x) old new
 memory_short x old new a = by_id (Memory x) (content_appended Memory (λ x z k. cc k) 1 (size_prefixed needs) (size_prefixed needs) x (λ s x k. k) (λ s x k. k) a)
@@ -283,7 +316,7 @@ imports_encoded xs h = content_of ImportFlags (λ x z k. cc k) 4 (size_prefixed 
 pub paths_encoded : (xs : List (List ℕ)) → HasEncoding dylink_item (RuntimePath xs) → HasEncoding (prefixed (5 ∷ []) (size_prefixed (vec name))) xs
 paths_encoded xs h = content_of RuntimePath (λ x z k. cc k) 5 (size_prefixed (vec name)) (size_prefixed (vec name)) xs (λ s x k. k) (id_encoded (RuntimePath xs) h)
 
-pub ruleset short_steps = (memory_short, needed_short, exports_short, imports_short, paths_short, memory_encoded, needed_encoded, exports_encoded, imports_encoded, paths_encoded)
+pub ruleset short_steps = (others_short, others_encoded, memory_short, needed_short, exports_short, imports_short, paths_short, memory_encoded, needed_encoded, exports_encoded, imports_encoded, paths_encoded)
 
 pub section_appended : (xs : List DylinkItem) (old middle new : List ℕ) → HasEncodableSize dylink_name → middle ≡ old ++ size_prefixed_encoding dylink_name → AppendsMinimal (members dylink_item) xs middle new → AppendsMinimal dylink_payload xs old new
 section_appended xs old middle new encodable e a = items_appended dylink_name false dylink_item xs encodable e a

@@ -20,6 +20,7 @@ pub mod CoreDumpLaws
 pub mod CoreStackLaws
 pub mod SingleLaws
 pub mod DylinkLaws
+pub mod DylinkMinimal
 pub mod RelocationLaws
 pub mod RejectionLaws
 pub mod Calls

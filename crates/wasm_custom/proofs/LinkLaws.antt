@@ -1,18 +1,18 @@
 -- This file proves that linking sections are unambiguous, and how they are decoded and minimized.
 use Rattle.wasm_base.proofs.Words.{ℕ, [], ◌∷◌, length, false, true, refl, sym, ap, arith, length-append, map, map-id, ◌≡◌, ◌≢◌, ◌<◌, ◌≤◌, ◌⊎◌, inl, inr, List, subst, ◌++◌, take, drop, ItemLaws, u32, byte}
-use Rattle.wasm_base.proofs.Words.{name, just, vec, Format, size_prefixed, members, mapped, prefixed, minimal, unsigned_encoding, Mode, padded, standard, standard_minimal, Grammar, builders, admitted}
+use Rattle.wasm_base.proofs.Words.{name, any_bytes, any_bytes_whole, IsOther, just, vec, Format, size_prefixed, members, mapped, prefixed, minimal, unsigned_encoding, Mode, padded, standard, standard_minimal, Grammar, builders, admitted}
 use Rattle.wasm_base.proofs.Words.{is_admitted, padded_of, Unambiguous, Decodes, Rejects, size_prefixed_encoding, HasEncodableSize, vec_encoding, just_unambiguous, name_unambiguous, ascii}
 use Rattle.wasm_base.proofs.Words.{mapped_unambiguous, vec_unambiguous, size_prefixed_unambiguous, whole_from_unique, byte_unambiguous, choice_of, u32_unambiguous, flag_encodes, tagged_begins}
 use Rattle.wasm_base.proofs.Words.{tagged_encodes, name_encodes, vec_encodes, size_prefixed_encodes, RejectsWhole, AllDetermine, BeginsWith, IsIncludedIn, mapped_decodes, mapped_rejects, no_choice}
 use Rattle.wasm_base.proofs.Words.{AppendsMinimal, HasEncoding, tagged_encoded, content_encoded, behind_encodable, prefixed_encoded, prefixed_appended, u32_appended, tagged_appended}
 use Rattle.wasm_base.proofs.Words.{size_prefixed_appended, SectionLaws}
-use Rattle.wasm_custom.specs.{CustomLayoutLaws, listing, entries, LinkItem, Target, link_encoding, IsLink, IsObjectLink, link_tags, built_link, full_link_tags, full_link, link, linking_name, version}
+use Rattle.wasm_custom.specs.{CustomLayoutLaws, listing, entries, LinkItem, Target, link_encoding, IsLink, IsObjectLink, link_tags, built_link, full_link_tags, other_link, full_link, link, linking_name, version}
 use Rattle.wasm_custom.specs.{link_items, linking_payload, object_items, object_payload, named_payload, symbol_encoding, IsSymbol, IsObjectSymbol, built_symbol, full_symbol, symbol, Symbol}
 use Rattle.wasm_custom.specs.{SegmentInfo, segment_encoding, IsSegment, segment, init_encoding, IsInit, init_function, Comdat, comdat_encoding, IsComdat, comdat}
-use Rattle.wasm_custom.specs.Linking.{Segments, InitFunctions, Comdats, Symbols}
+use Rattle.wasm_custom.specs.Linking.{Segments, InitFunctions, Comdats, Symbols, OtherLink}
 use Rattle.wasm_custom.specs.declared.init_functions.InitFunction.{InitFunction}
 use Rattle.wasm_custom.proofs.CustomLaws.{named_encoded, content_encodable, just_appended, named_appended}
-use Rattle.wasm_custom.proofs.WiderLaws.{mapped_included, members_included, behind_included, vec_included, size_prefixed_included, tagged_included, decodes_included, rejects_included}
+use Rattle.wasm_custom.proofs.WiderLaws.{choice_or, other_is, other_is_not, mapped_included, members_included, behind_included, vec_included, size_prefixed_included, tagged_included, decodes_included, rejects_included}
 use Rattle.wasm_custom.proofs.WiderLaws.{wider_unambiguous, wider_begins, tag_is, tag_is_not, tag_none, tag_rejects, tag_appended, unknown_appended, known_encoded, unknown_encoded}
 use Rattle.wasm_custom.proofs.SymbolLaws.{built_symbol_unambiguous, full_symbol_unambiguous, built_is_full, symbol_encodes, full_symbol_encodes}
 use Rattle.wasm_custom.proofs.SegmentLaws.{segment_unambiguous, segment_encodes}
@@ -27,20 +27,27 @@ link_id (InitFunctions functions) = 6
 link_id (Comdats comdats) = 7
 link_id (Symbols symbols) = 8
 link_id (Target n) = 9
+link_id (OtherLink id content) = id
+
+-- The id of a subsection of the builders' grammar, and 0 for the others.
+abbrev built_id : LinkItem → ℕ
+built_id (Symbols symbols) = 8
+built_id (Target n) = 9
+built_id x = 0
 
 -- The id is determined by a subsection of the builders' grammar.
-built_ids : AllDetermine link_id link_tags
-built_ids = (λ mode s x h. ap link_id h.1, (λ mode s x h. ap link_id h.1, tt))
+built_ids : AllDetermine built_id link_tags
+built_ids = (λ mode s x h. ap built_id h.1, (λ mode s x h. ap built_id h.1, tt))
 
 built_unambiguous : Unambiguous built_link
 built_unambiguous =
-    choice_of byte link_id link_tags byte_unambiguous
+    choice_of byte built_id link_tags byte_unambiguous
     (mapped_unambiguous Symbols (λ x y e. cc) (size_prefixed_unambiguous (whole_from_unique (vec_unambiguous built_symbol_unambiguous))), (mapped_unambiguous Target (λ x y e. cc) (size_prefixed_unambiguous (whole_from_unique name_unambiguous)), tt))
     built_ids
 
 pub full_link_unambiguous : Unambiguous full_link
 full_link_unambiguous =
-    choice_of byte link_id full_link_tags byte_unambiguous (
+    choice_or link_id full_link_tags other_link (
       mapped_unambiguous Segments (λ x y e. cc) (size_prefixed_unambiguous (whole_from_unique (vec_unambiguous segment_unambiguous))),
       (
         mapped_unambiguous InitFunctions (λ x y e. cc) (size_prefixed_unambiguous (whole_from_unique (vec_unambiguous init_unambiguous))),
@@ -54,13 +61,15 @@ full_link_unambiguous =
       ),
     )
     (λ mode s x h. ap link_id h.1, (λ mode s x h. ap link_id h.1, (λ mode s x h. ap link_id h.1, (λ mode s x h. ap link_id h.1, (λ mode s x h. ap link_id h.1, tt)))))
+    (λ b. mapped_unambiguous (OtherLink b) (λ x y e. cc) (size_prefixed_unambiguous any_bytes_whole))
+    (λ b mode s x h. ap link_id h.1)
 
 -- A table of symbols of one format is a table of a format that includes it.
 pub tables_included : (F G : Format Symbol) (m : Mode) → IsIncludedIn (F m) (G m) → IsIncludedIn (size_prefixed (vec F) m) (size_prefixed (vec G) m)
 tables_included F G m h = size_prefixed_included (vec F) (vec G) m (vec_included F G m h)
 
 built_is_full_link : (m : Mode) → IsIncludedIn (built_link m) (full_link m)
-built_is_full_link m = tagged_included link_tags full_link_tags m (mapped_included Symbols (size_prefixed (vec built_symbol)) (size_prefixed (vec full_symbol)) m (tables_included built_symbol full_symbol m (built_is_full m)), (λ s x h. h, tt))
+built_is_full_link m = tagged_included link_tags full_link_tags other_link m (mapped_included Symbols (size_prefixed (vec built_symbol)) (size_prefixed (vec full_symbol)) m (tables_included built_symbol full_symbol m (built_is_full m)), (λ s x h. h, tt))
 
 pub link_unambiguous : Unambiguous link
 link_unambiguous = wider_unambiguous built_link full_link built_unambiguous full_link_unambiguous (built_is_full_link padded)
@@ -76,6 +85,7 @@ link_encodes (Symbols symbols) plain encodable =
     let content = vec_encoding symbol_encoding symbols in
     tagged_encodes minimal 8 (size_prefixed_encoding content) (Symbols symbols)
     (symbols, refl, size_prefixed_encodes (vec built_symbol) content symbols (content_encodable 8 content encodable) (vec_encodes built_symbol IsSymbol symbol_encoding symbol_encodes symbols plain))
+link_encodes (OtherLink id content) plain encodable = absurd plain
 link_encodes (Target n) plain encodable =
     let inside = content_encodable 9 (size_prefixed_encoding n) encodable in
     tagged_encodes minimal 9 (size_prefixed_encoding (size_prefixed_encoding n)) (Target n) (n, refl, size_prefixed_encodes name (size_prefixed_encoding n) n inside (name_encodes n plain (omega (arith, inside, length-append (unsigned_encoding (length n)) n))))
@@ -113,6 +123,7 @@ object_encodes (Symbols symbols) plain encodable =
     let content = vec_encoding symbol_encoding symbols in
     tagged_encodes minimal 8 (size_prefixed_encoding content) (Symbols symbols)
     (symbols, refl, size_prefixed_encodes (vec full_symbol) content symbols (content_encodable 8 content encodable) (vec_encodes full_symbol IsObjectSymbol symbol_encoding full_symbol_encodes symbols plain))
+object_encodes (OtherLink id content) plain encodable = absurd plain
 object_encodes (Target n) plain encodable =
     let inside = content_encodable 9 (size_prefixed_encoding n) encodable in
     tagged_encodes minimal 9 (size_prefixed_encoding (size_prefixed_encoding n)) (Target n) (n, refl, size_prefixed_encodes name (size_prefixed_encoding n) n inside (name_encodes n plain (omega (arith, inside, length-append (unsigned_encoding (length n)) n))))
@@ -159,64 +170,67 @@ pub ruleset object_linking = (decoded_is_object, object_is_decoded, minimal_is_o
 -- ---- subsections
 
 pub link_none : (w : Grammar) (bytes : List ℕ) → Rejects byte (padded_of w) bytes → Rejects link (padded_of w) bytes
-link_none w bytes n = tag_none link_tags full_link_tags w bytes n
+link_none w bytes n = tag_none link_tags full_link_tags other_link w bytes n
 
 -- The subsections of the standard's grammar alone.
 pub segments_decodes : (w : Grammar) (bytes rest last : List ℕ) (b : ℕ) (xs : List SegmentInfo) → Decodes byte (padded_of w) bytes b rest → b ≡ 5 → is_admitted w ≡ true → Decodes (size_prefixed (vec segment)) (padded_of w) rest xs last → Decodes link (padded_of w) bytes (Segments xs) last
 segments_decodes builders bytes rest last b xs h e f g = absurd (cc f)
-segments_decodes admitted bytes rest last b xs h e f g = tag_is link_tags full_link_tags admitted 5 h e (mapped_decodes Segments g)
+segments_decodes admitted bytes rest last b xs h e f g = tag_is link_tags full_link_tags other_link admitted 5 h e (mapped_decodes Segments g)
 
 pub segments_none : (w : Grammar) (bytes rest : List ℕ) (b : ℕ) → Decodes byte (padded_of w) bytes b rest → b ≡ 5 → is_admitted w ≡ true → Rejects (size_prefixed (vec segment)) (padded_of w) rest → Rejects link (padded_of w) bytes
 segments_none builders bytes rest b h e f n = absurd (cc f)
-segments_none admitted bytes rest b h e f n = tag_is_not link_tags full_link_tags admitted 5 h e (mapped_rejects Segments n)
+segments_none admitted bytes rest b h e f n = tag_is_not link_tags full_link_tags other_link admitted 5 h e (mapped_rejects Segments n)
 
 pub inits_decodes : (w : Grammar) (bytes rest last : List ℕ) (b : ℕ) (xs : List InitFunction) → Decodes byte (padded_of w) bytes b rest → b ≡ 6 → is_admitted w ≡ true → Decodes (size_prefixed (vec init_function)) (padded_of w) rest (map (λ f. f) xs) last → Decodes link (padded_of w) bytes (InitFunctions xs) last
 inits_decodes builders bytes rest last b xs h e f g = absurd (cc f)
-inits_decodes admitted bytes rest last b xs h e f g = tag_is link_tags full_link_tags admitted 6 h e (mapped_decodes InitFunctions (subst (λ z. Decodes (size_prefixed (vec init_function)) standard rest z last) (map-id xs) g))
+inits_decodes admitted bytes rest last b xs h e f g = tag_is link_tags full_link_tags other_link admitted 6 h e (mapped_decodes InitFunctions (subst (λ z. Decodes (size_prefixed (vec init_function)) standard rest z last) (map-id xs) g))
 
 pub inits_skip : (w : Grammar) (bytes rest last : List ℕ) (b : ℕ) (xs : List InitFunction) → Decodes byte (padded_of w) bytes b rest → b ≡ 6 → is_admitted w ≡ true → Decodes (size_prefixed (vec init_function)) (padded_of w) rest xs last → Decodes link (padded_of w) bytes (InitFunctions xs) last
 inits_skip w bytes rest last b xs h e f g = inits_decodes w bytes rest last b xs h e f (subst (λ z. Decodes (size_prefixed (vec init_function)) (padded_of w) rest z last) (sym (map-id xs)) g)
 
 pub inits_none : (w : Grammar) (bytes rest : List ℕ) (b : ℕ) → Decodes byte (padded_of w) bytes b rest → b ≡ 6 → is_admitted w ≡ true → Rejects (size_prefixed (vec init_function)) (padded_of w) rest → Rejects link (padded_of w) bytes
 inits_none builders bytes rest b h e f n = absurd (cc f)
-inits_none admitted bytes rest b h e f n = tag_is_not link_tags full_link_tags admitted 6 h e (mapped_rejects InitFunctions n)
+inits_none admitted bytes rest b h e f n = tag_is_not link_tags full_link_tags other_link admitted 6 h e (mapped_rejects InitFunctions n)
 
 pub comdats_decodes : (w : Grammar) (bytes rest last : List ℕ) (b : ℕ) (xs : List Comdat) → Decodes byte (padded_of w) bytes b rest → b ≡ 7 → is_admitted w ≡ true → Decodes (size_prefixed (vec comdat)) (padded_of w) rest xs last → Decodes link (padded_of w) bytes (Comdats xs) last
 comdats_decodes builders bytes rest last b xs h e f g = absurd (cc f)
-comdats_decodes admitted bytes rest last b xs h e f g = tag_is link_tags full_link_tags admitted 7 h e (mapped_decodes Comdats g)
+comdats_decodes admitted bytes rest last b xs h e f g = tag_is link_tags full_link_tags other_link admitted 7 h e (mapped_decodes Comdats g)
 
 pub comdats_none : (w : Grammar) (bytes rest : List ℕ) (b : ℕ) → Decodes byte (padded_of w) bytes b rest → b ≡ 7 → is_admitted w ≡ true → Rejects (size_prefixed (vec comdat)) (padded_of w) rest → Rejects link (padded_of w) bytes
 comdats_none builders bytes rest b h e f n = absurd (cc f)
-comdats_none admitted bytes rest b h e f n = tag_is_not link_tags full_link_tags admitted 7 h e (mapped_rejects Comdats n)
+comdats_none admitted bytes rest b h e f n = tag_is_not link_tags full_link_tags other_link admitted 7 h e (mapped_rejects Comdats n)
 
 -- The subsections of both grammars.
 pub symbols_decodes : (w : Grammar) (bytes rest last : List ℕ) (b : ℕ) (xs : List Symbol) → Decodes byte (padded_of w) bytes b rest → b ≡ 8 → Decodes (size_prefixed (vec symbol)) (padded_of w) rest xs last → Decodes link (padded_of w) bytes (Symbols xs) last
-symbols_decodes builders bytes rest last b xs h e g = tag_is link_tags full_link_tags builders 8 h e (mapped_decodes Symbols (decodes_included (size_prefixed (vec symbol)) (size_prefixed (vec built_symbol)) padded (tables_included symbol built_symbol padded (λ s x k. k)) g))
-symbols_decodes admitted bytes rest last b xs h e g = tag_is link_tags full_link_tags admitted 8 h e (mapped_decodes Symbols (decodes_included (size_prefixed (vec symbol)) (size_prefixed (vec full_symbol)) standard (tables_included symbol full_symbol standard (λ s x k. k)) g))
+symbols_decodes builders bytes rest last b xs h e g = tag_is link_tags full_link_tags other_link builders 8 h e (mapped_decodes Symbols (decodes_included (size_prefixed (vec symbol)) (size_prefixed (vec built_symbol)) padded (tables_included symbol built_symbol padded (λ s x k. k)) g))
+symbols_decodes admitted bytes rest last b xs h e g = tag_is link_tags full_link_tags other_link admitted 8 h e (mapped_decodes Symbols (decodes_included (size_prefixed (vec symbol)) (size_prefixed (vec full_symbol)) standard (tables_included symbol full_symbol standard (λ s x k. k)) g))
 
 pub symbols_none : (w : Grammar) (bytes rest : List ℕ) (b : ℕ) → Decodes byte (padded_of w) bytes b rest → b ≡ 8 → Rejects (size_prefixed (vec symbol)) (padded_of w) rest → Rejects link (padded_of w) bytes
-symbols_none builders bytes rest b h e n = tag_is_not link_tags full_link_tags builders 8 h e (mapped_rejects Symbols (rejects_included (size_prefixed (vec built_symbol)) (size_prefixed (vec symbol)) padded (tables_included built_symbol symbol padded (λ s x k. k)) n))
-symbols_none admitted bytes rest b h e n = tag_is_not link_tags full_link_tags admitted 8 h e (mapped_rejects Symbols (rejects_included (size_prefixed (vec full_symbol)) (size_prefixed (vec symbol)) standard (tables_included full_symbol symbol standard (λ s x k. k)) n))
+symbols_none builders bytes rest b h e n = tag_is_not link_tags full_link_tags other_link builders 8 h e (mapped_rejects Symbols (rejects_included (size_prefixed (vec built_symbol)) (size_prefixed (vec symbol)) padded (tables_included built_symbol symbol padded (λ s x k. k)) n))
+symbols_none admitted bytes rest b h e n = tag_is_not link_tags full_link_tags other_link admitted 8 h e (mapped_rejects Symbols (rejects_included (size_prefixed (vec full_symbol)) (size_prefixed (vec symbol)) standard (tables_included full_symbol symbol standard (λ s x k. k)) n))
 
 pub arch_decodes : (w : Grammar) (bytes rest last : List ℕ) (b : ℕ) (n : List ℕ) → Decodes byte (padded_of w) bytes b rest → b ≡ 9 → Decodes (size_prefixed name) (padded_of w) rest n last → Decodes link (padded_of w) bytes (Target n) last
-arch_decodes builders bytes rest last b n h e g = tag_is link_tags full_link_tags builders 9 h e (mapped_decodes Target g)
-arch_decodes admitted bytes rest last b n h e g = tag_is link_tags full_link_tags admitted 9 h e (mapped_decodes Target g)
+arch_decodes builders bytes rest last b n h e g = tag_is link_tags full_link_tags other_link builders 9 h e (mapped_decodes Target g)
+arch_decodes admitted bytes rest last b n h e g = tag_is link_tags full_link_tags other_link admitted 9 h e (mapped_decodes Target g)
 
 pub arch_none : (w : Grammar) (bytes rest : List ℕ) (b : ℕ) → Decodes byte (padded_of w) bytes b rest → b ≡ 9 → Rejects (size_prefixed name) (padded_of w) rest → Rejects link (padded_of w) bytes
-arch_none builders bytes rest b h e n = tag_is_not link_tags full_link_tags builders 9 h e (mapped_rejects Target n)
-arch_none admitted bytes rest b h e n = tag_is_not link_tags full_link_tags admitted 9 h e (mapped_rejects Target n)
+arch_none builders bytes rest b h e n = tag_is_not link_tags full_link_tags other_link builders 9 h e (mapped_rejects Target n)
+arch_none admitted bytes rest b h e n = tag_is_not link_tags full_link_tags other_link admitted 9 h e (mapped_rejects Target n)
 
--- No subsection has the id, or only the standard's grammar has one.
-pub link_unknown : (w : Grammar) (bytes rest : List ℕ) (b : ℕ) → Decodes byte (padded_of w) bytes b rest → (is_admitted w ≡ true → (b < 5) ⊎ (7 < b)) → b ≢ 8 → b ≢ 9 → Rejects link (padded_of w) bytes
-link_unknown builders bytes rest b h f p q = tag_rejects link_tags full_link_tags builders h (no_choice link_tags b rest (p, (q, tt)))
-link_unknown admitted bytes rest b h f p q = tag_rejects link_tags full_link_tags admitted h (no_choice full_link_tags b rest (outside (f refl) 5 (omega arith) (omega arith), (outside (f refl) 6 (omega arith) (omega arith), (outside (f refl) 7 (omega arith) (omega arith), (p, (q, tt))))))
-  where
-    outside : (b < 5) ⊎ (7 < b) → (c : ℕ) → 5 ≤ c → c ≤ 7 → b ≢ c
-    outside (inl l) c low high e = omega (arith, l, low, e)
-    outside (inr l) c low high e = omega (arith, l, high, e)
+-- A subsection of any other id, which the standard's grammar alone has.
+pub others_decodes : (w : Grammar) (bytes rest last : List ℕ) (b : ℕ) (content : List ℕ) → Decodes byte (padded_of w) bytes b rest → IsOther full_link_tags b → is_admitted w ≡ true → Decodes (size_prefixed any_bytes) (padded_of w) rest content last → Decodes link (padded_of w) bytes (OtherLink b content) last
+others_decodes w bytes rest last b content h o f g = other_is link_tags full_link_tags other_link o w f h (mapped_decodes (OtherLink b) g)
+
+pub others_none : (w : Grammar) (bytes rest : List ℕ) (b : ℕ) → Decodes byte (padded_of w) bytes b rest → IsOther full_link_tags b → is_admitted w ≡ true → Rejects (size_prefixed any_bytes) (padded_of w) rest → Rejects link (padded_of w) bytes
+others_none w bytes rest b h o f n = other_is_not link_tags full_link_tags other_link o w f h (mapped_rejects (OtherLink b) n)
+
+-- The builders' grammar has no subsection of the id.
+pub link_unknown : (w : Grammar) (bytes rest : List ℕ) (b : ℕ) → Decodes byte (padded_of w) bytes b rest → is_admitted w ≡ false → b ≢ 8 → b ≢ 9 → Rejects link (padded_of w) bytes
+link_unknown builders bytes rest b h f p q = tag_rejects link_tags full_link_tags other_link builders h (no_choice link_tags b rest (p, (q, tt)))
+link_unknown admitted bytes rest b h f p q = absurd (cc f)
 
 pub link_of_builders : (w : Grammar) (bytes rest : List ℕ) (b : ℕ) → Decodes byte (padded_of w) bytes b rest → is_admitted w ≡ false → b < 8 → Rejects link (padded_of w) bytes
-link_of_builders w bytes rest b h f l = link_unknown w bytes rest b h (λ t. absurd (cc (f, t))) (omega (arith, l)) (omega (arith, l))
+link_of_builders w bytes rest b h f l = link_unknown w bytes rest b h f (omega (arith, l)) (omega (arith, l))
 
 pub ruleset link_steps = (arch_decodes, arch_none, link_unknown, link_of_builders)
 
@@ -259,6 +273,9 @@ pub vector_appended : {X : Type 0} (F : Format X) (id : ℕ) (xs : List X) (star
     → new ≡ take start middle ++ size_prefixed_encoding (drop start middle) → AppendsMinimal (prefixed (id ∷ []) (size_prefixed (vec F))) xs old new
 vector_appended F id xs start old front middle new e l a encodable is = prefixed_appended (id ∷ []) (size_prefixed (vec F)) xs old front new e (size_prefixed_appended (vec F) xs start front middle new l a encodable is)
 
+pub other_appended : (id : ℕ) (content old front new : List ℕ) → front ≡ old ++ id ∷ [] → AppendsMinimal (size_prefixed any_bytes) content front new → AppendsMinimal (prefixed (id ∷ []) (size_prefixed any_bytes)) content old new
+other_appended id content old front new e a = prefixed_appended (id ∷ []) (size_prefixed any_bytes) content old front new e a
+
 pub target_appended : (n old front new : List ℕ) → front ≡ old ++ 9 ∷ [] → AppendsMinimal (size_prefixed name) n front new → AppendsMinimal (prefixed (9 ∷ []) (size_prefixed name)) n old new
 target_appended n old front new e a = prefixed_appended (9 ∷ []) (size_prefixed name) n old front new e a
 
@@ -284,21 +301,24 @@ module _ {X Y : Type 0} (f : X → Y) (apart : (x z : X) → f z ≡ f x → z �
 
 -- The bytes that a call appends for a subsection are its minimal encoding.
 pub segments_short : (xs : List SegmentInfo) (old new : List ℕ) → AppendsMinimal (prefixed (5 ∷ []) (size_prefixed (vec segment))) xs old new → AppendsMinimal link (Segments xs) old new
-segments_short xs old new a = unknown_appended link_tags full_link_tags link_id built_ids (Segments xs) refl (prefixed (5 ∷ []) (size_prefixed (vec segment))) xs a
+segments_short xs old new a = unknown_appended link_tags full_link_tags other_link built_id built_ids (Segments xs) refl (prefixed (5 ∷ []) (size_prefixed (vec segment))) xs a
 
 pub inits_short : (xs : List InitFunction) (old new : List ℕ) → AppendsMinimal (prefixed (6 ∷ []) (size_prefixed (vec init_function))) (map (λ f. f) xs) old new → AppendsMinimal link (InitFunctions xs) old new
-inits_short xs old new a = unknown_appended link_tags full_link_tags link_id built_ids (InitFunctions xs) refl (prefixed (6 ∷ []) (size_prefixed (vec init_function))) (map (λ f. f) xs) a
+inits_short xs old new a = unknown_appended link_tags full_link_tags other_link built_id built_ids (InitFunctions xs) refl (prefixed (6 ∷ []) (size_prefixed (vec init_function))) (map (λ f. f) xs) a
 
 pub comdats_short : (xs : List Comdat) (old new : List ℕ) → AppendsMinimal (prefixed (7 ∷ []) (size_prefixed (vec comdat))) xs old new → AppendsMinimal link (Comdats xs) old new
-comdats_short xs old new a = unknown_appended link_tags full_link_tags link_id built_ids (Comdats xs) refl (prefixed (7 ∷ []) (size_prefixed (vec comdat))) xs a
+comdats_short xs old new a = unknown_appended link_tags full_link_tags other_link built_id built_ids (Comdats xs) refl (prefixed (7 ∷ []) (size_prefixed (vec comdat))) xs a
 
 pub symbols_short : (xs : List Symbol) (old new : List ℕ) → AppendsMinimal (prefixed (8 ∷ []) (size_prefixed (vec symbol))) xs old new → AppendsMinimal link (Symbols xs) old new
 symbols_short xs old new a =
-    tag_appended link_tags full_link_tags link_id built_ids (Symbols xs)
+    tag_appended link_tags full_link_tags other_link built_id built_ids (Symbols xs)
     (content_appended Symbols (λ x z k. cc k) 8 (size_prefixed (vec symbol)) (size_prefixed (vec built_symbol)) xs (tables_included built_symbol symbol padded (λ s x k. k)) (tables_included symbol built_symbol minimal (λ s x k. k)) a)
 
 pub arch_short : (n old new : List ℕ) → AppendsMinimal (prefixed (9 ∷ []) (size_prefixed name)) n old new → AppendsMinimal link (Target n) old new
-arch_short n old new a = tag_appended link_tags full_link_tags link_id built_ids (Target n) (content_appended Target (λ x z k. cc k) 9 (size_prefixed name) (size_prefixed name) n (λ s x k. k) (λ s x k. k) a)
+arch_short n old new a = tag_appended link_tags full_link_tags other_link built_id built_ids (Target n) (content_appended Target (λ x z k. cc k) 9 (size_prefixed name) (size_prefixed name) n (λ s x k. k) (λ s x k. k) a)
+
+pub others_short : (id : ℕ) (content old new : List ℕ) → AppendsMinimal (prefixed (id ∷ []) (size_prefixed any_bytes)) content old new → AppendsMinimal link (OtherLink id content) old new
+others_short id content old new a = unknown_appended link_tags full_link_tags other_link built_id built_ids (OtherLink id content) refl (prefixed (id ∷ []) (size_prefixed any_bytes)) content a
 
 pub links_appended : (xs : List LinkItem) (old front middle new : List ℕ) → HasEncodableSize linking_name → front ≡ old ++ size_prefixed_encoding linking_name → middle ≡ front ++ unsigned_encoding 2 → AppendsMinimal (members link) xs middle new → AppendsMinimal linking_payload xs old new
 links_appended xs old front middle new encodable e f a =
@@ -314,28 +334,34 @@ module _ {X : Type 0} (F : Format X) (id : ℕ) (xs : List X) where
   pub vector_encodable : (start : ℕ) (old new : List ℕ) → Unambiguous F → start ≡ length old → AppendsMinimal (vec F) xs old new → HasEncoding (prefixed (id ∷ []) (size_prefixed (vec F))) xs → HasEncodableSize (drop start new)
   vector_encodable start old new k e a h = behind_encodable (vec F) xs start old new (vec_unambiguous k).encodings e a (prefixed_encoded (id ∷ []) (size_prefixed (vec F)) xs h)
 
+pub other_encoded : (id : ℕ) (content : List ℕ) → HasEncoding (prefixed (id ∷ []) (size_prefixed any_bytes)) content → HasEncoding (size_prefixed any_bytes) content
+other_encoded id content h = prefixed_encoded (id ∷ []) (size_prefixed any_bytes) content h
+
 pub target_encoded : (n : List ℕ) → HasEncoding (prefixed (9 ∷ []) (size_prefixed name)) n → HasEncoding (size_prefixed name) n
 target_encoded n h = prefixed_encoded (9 ∷ []) (size_prefixed name) n h
 
 -- A subsection that has an encoding has one with its content. The builders' grammar has no encoding
 -- of the other subsections.
 pub segments_encoded : (xs : List SegmentInfo) → HasEncoding link (Segments xs) → ⊥
-segments_encoded xs h = unknown_encoded link_tags full_link_tags link_id built_ids (Segments xs) refl h
+segments_encoded xs h = unknown_encoded link_tags full_link_tags other_link built_id built_ids (Segments xs) refl h
 
 pub inits_encoded : (xs : List InitFunction) → HasEncoding link (InitFunctions xs) → ⊥
-inits_encoded xs h = unknown_encoded link_tags full_link_tags link_id built_ids (InitFunctions xs) refl h
+inits_encoded xs h = unknown_encoded link_tags full_link_tags other_link built_id built_ids (InitFunctions xs) refl h
 
 pub comdats_encoded : (xs : List Comdat) → HasEncoding link (Comdats xs) → ⊥
-comdats_encoded xs h = unknown_encoded link_tags full_link_tags link_id built_ids (Comdats xs) refl h
+comdats_encoded xs h = unknown_encoded link_tags full_link_tags other_link built_id built_ids (Comdats xs) refl h
+
+pub others_encoded : (id : ℕ) (content : List ℕ) → HasEncoding link (OtherLink id content) → ⊥
+others_encoded id content h = unknown_encoded link_tags full_link_tags other_link built_id built_ids (OtherLink id content) refl h
 
 pub symbols_encoded : (xs : List Symbol) → HasEncoding link (Symbols xs) → HasEncoding (prefixed (8 ∷ []) (size_prefixed (vec symbol))) xs
 symbols_encoded xs h =
-    content_of Symbols (λ x z k. cc k) 8 (size_prefixed (vec symbol)) (size_prefixed (vec built_symbol)) xs (tables_included built_symbol symbol padded (λ s x k. k)) (known_encoded link_tags full_link_tags link_id built_ids (Symbols xs) h)
+    content_of Symbols (λ x z k. cc k) 8 (size_prefixed (vec symbol)) (size_prefixed (vec built_symbol)) xs (tables_included built_symbol symbol padded (λ s x k. k)) (known_encoded link_tags full_link_tags other_link built_id built_ids (Symbols xs) h)
 
 pub arch_encoded : (n : List ℕ) → HasEncoding link (Target n) → HasEncoding (prefixed (9 ∷ []) (size_prefixed name)) n
-arch_encoded n h = content_of Target (λ x z k. cc k) 9 (size_prefixed name) (size_prefixed name) n (λ s x k. k) (known_encoded link_tags full_link_tags link_id built_ids (Target n) h)
+arch_encoded n h = content_of Target (λ x z k. cc k) 9 (size_prefixed name) (size_prefixed name) n (λ s x k. k) (known_encoded link_tags full_link_tags other_link built_id built_ids (Target n) h)
 
-pub ruleset short_steps = (segments_short, inits_short, comdats_short, symbols_short, arch_short, segments_encoded, inits_encoded, comdats_encoded, symbols_encoded, arch_encoded)
+pub ruleset short_steps = (segments_short, inits_short, comdats_short, symbols_short, arch_short, others_short, others_encoded, segments_encoded, inits_encoded, comdats_encoded, symbols_encoded, arch_encoded)
 
 pub links_encoded : (xs : List LinkItem) → HasEncoding linking_payload xs → HasEncoding (members link) xs
 links_encoded xs h = tagged_encoded (just version u32) (λ u. listing false link) tt xs (λ s z h. refl) (named_encoded linking_name (entries (just version u32) false link) xs h)

@@ -11,8 +11,9 @@ use Rattle.wasm_custom.specs.{marked_name, core_payload, f32_of, f64_of, value_t
 use Rattle.wasm_custom.specs.{source_map_payload, debug_file_payload, build_id_payload, prefix_code}
 use Rattle.wasm_custom.specs.{plain_of, addend32_of, addend64_of, relocation_code, after_kind, relocation, comdat_symbol_of, comdat_symbol, Comdat, comdat_of, comdat, SegmentInfo, segment_of, segment, init_of, init_function}
 use Rattle.wasm_custom.specs.{Symbol, indexed, of_data, of_section, indexed_of, data_of, has_name, has_definition, definition_of, indexed_symbol, data_symbol, section_symbol, built_symbol, full_symbol_tags, full_symbol, symbol, kind_code}
-use Rattle.wasm_custom.specs.{LinkItem, Target, link, linking_name, version, linking_payload}
-use Rattle.wasm_custom.specs.Linking.{Segments, InitFunctions, Comdats, Symbols}
+use Rattle.wasm_base.proofs.Words.{any_bytes, IsOther}
+use Rattle.wasm_custom.specs.{LinkItem, Target, link_tags, full_link_tags, other_link, link, linking_name, version, linking_payload}
+use Rattle.wasm_custom.specs.Linking.{Segments, InitFunctions, Comdats, Symbols, OtherLink}
 use Rattle.wasm_custom.specs.declared.core_values.CoreDumpValue.TheVariants.{Missing, I32, I64}
 use Rattle.wasm_custom.specs.declared.init_functions.InitFunction.{InitFunction}
 use Rattle.wasm_custom.specs.declared.relocations.RelocationKind.{RelocationKind}
@@ -20,7 +21,7 @@ use Rattle.wasm_custom.specs.declared.relocations.RelocationKind.TheVariants as 
 use Rattle.wasm_custom.specs.declared.symbols.SymbolKind.{SymbolKind}
 use Rattle.wasm_custom.specs.declared.symbols.SymbolKind.TheVariants.{Function, Global, Tag, Table}
 use Rattle.wasm_custom.proofs.SymbolLaws.{code_of}
-use Rattle.wasm_custom.proofs.WiderLaws.{tag_appended}
+use Rattle.wasm_custom.proofs.WiderLaws.{no_other, other_minimizes, tag_appended}
 use Rattle.wasm_custom.proofs.LinkLaws.{tables_included, segments_decodes, inits_decodes, comdats_decodes, symbols_decodes, arch_decodes, links_fill}
 
 -- ---- payloads
@@ -100,16 +101,16 @@ in_full : (x : Symbol) (old new : List ℕ) → AppendsMinimal (by_mode full_sym
 in_full x old new a = record { encoding = a.encoding; appended = a.appended; encodes = λ s h. a.encodes s h }
 
 pub indexed_full : (kind : SymbolKind) (flags index : ℕ) (n : _) (old new : List ℕ) → AppendsMinimal (prefixed (kind_code kind ∷ []) (indexed_symbol kind)) (indexed kind flags index n) old new → AppendsMinimal full_symbol (indexed kind flags index n) old new
-indexed_full Function flags index n old new a = in_full (indexed Function flags index n) old new (tag_appended full_symbol_tags full_symbol_tags code_of full_kinds (indexed Function flags index n) a)
-indexed_full Global flags index n old new a = in_full (indexed Global flags index n) old new (tag_appended full_symbol_tags full_symbol_tags code_of full_kinds (indexed Global flags index n) a)
-indexed_full Tag flags index n old new a = in_full (indexed Tag flags index n) old new (tag_appended full_symbol_tags full_symbol_tags code_of full_kinds (indexed Tag flags index n) a)
-indexed_full Table flags index n old new a = in_full (indexed Table flags index n) old new (tag_appended full_symbol_tags full_symbol_tags code_of full_kinds (indexed Table flags index n) a)
+indexed_full Function flags index n old new a = in_full (indexed Function flags index n) old new (tag_appended full_symbol_tags full_symbol_tags no_other code_of full_kinds (indexed Function flags index n) a)
+indexed_full Global flags index n old new a = in_full (indexed Global flags index n) old new (tag_appended full_symbol_tags full_symbol_tags no_other code_of full_kinds (indexed Global flags index n) a)
+indexed_full Tag flags index n old new a = in_full (indexed Tag flags index n) old new (tag_appended full_symbol_tags full_symbol_tags no_other code_of full_kinds (indexed Tag flags index n) a)
+indexed_full Table flags index n old new a = in_full (indexed Table flags index n) old new (tag_appended full_symbol_tags full_symbol_tags no_other code_of full_kinds (indexed Table flags index n) a)
 
 pub data_full : (flags : ℕ) (n : List ℕ) (d : _) (old new : List ℕ) → AppendsMinimal (prefixed (0x01 ∷ []) data_symbol) (of_data flags n d) old new → AppendsMinimal full_symbol (of_data flags n d) old new
-data_full flags n d old new a = in_full (of_data flags n d) old new (tag_appended full_symbol_tags full_symbol_tags code_of full_kinds (of_data flags n d) a)
+data_full flags n d old new a = in_full (of_data flags n d) old new (tag_appended full_symbol_tags full_symbol_tags no_other code_of full_kinds (of_data flags n d) a)
 
 pub section_full : (flags index : ℕ) (old new : List ℕ) → AppendsMinimal (prefixed (0x03 ∷ []) section_symbol) (of_section flags index) old new → AppendsMinimal full_symbol (of_section flags index) old new
-section_full flags index old new a = in_full (of_section flags index) old new (tag_appended full_symbol_tags full_symbol_tags code_of full_kinds (of_section flags index) a)
+section_full flags index old new a = in_full (of_section flags index) old new (tag_appended full_symbol_tags full_symbol_tags no_other code_of full_kinds (of_section flags index) a)
 
 pub ruleset full_steps = (indexed_full, data_full, section_full)
 
@@ -175,6 +176,9 @@ module _ (w : Grammar) {b : ℕ} {bytes rest last old middle new : List ℕ} (h 
       encodes : (v : Grammar) (s : List ℕ) (n : List ℕ) → size_prefixed name (minimal_of v) s n → link (minimal_of v) (9 ∷ s) (Target n)
       encodes builders s n k = tagged_encodes minimal 9 s (Target n) (n, refl, k)
       encodes admitted s n k = tagged_encodes standard_minimal 9 s (Target n) (n, refl, k)
+
+  pub others_minimize : IsOther full_link_tags b → is_admitted w ≡ true → Minimizes w (size_prefixed any_bytes) rest last middle new → Minimizes w link bytes last old new
+  others_minimize o f g = other_minimizes link_tags full_link_tags other_link o w f h a (mapped_minimizes (OtherLink b) g)
 
 -- ---- sections
 

@@ -12,7 +12,7 @@ use Rattle.wasm_custom.specs.{full_symbol, symbol}
 use Rattle.wasm_custom.specs.declared.symbols.DataSymbolDefinition.{DataSymbolDefinition}
 use Rattle.wasm_custom.specs.declared.symbols.SymbolKind.{SymbolKind}
 use Rattle.wasm_custom.specs.declared.symbols.SymbolKind.TheVariants.{Function, Global, Tag, Table}
-use Rattle.wasm_custom.proofs.WiderLaws.{tagged_included, wider_unambiguous, tag_is, tag_is_not, tag_none, tag_rejects, tag_appended, unknown_appended, known_encoded, unknown_encoded}
+use Rattle.wasm_custom.proofs.WiderLaws.{no_other, both_is, both_is_not, tagged_included, wider_unambiguous, tag_is, tag_is_not, tag_none, tag_rejects, tag_appended, unknown_appended, known_encoded, unknown_encoded}
 
 -- ---- unambiguous
 
@@ -69,7 +69,7 @@ full_symbol_unambiguous =
     )
 
 pub built_is_full : (m : Mode) → IsIncludedIn (built_symbol m) (full_symbol m)
-built_is_full m = tagged_included symbol_tags full_symbol_tags m (λ s x h. h, (λ s x h. h, (λ s x h. h, (λ s x h. h, tt))))
+built_is_full m = tagged_included symbol_tags full_symbol_tags no_other m (λ s x h. h, (λ s x h. h, (λ s x h. h, (λ s x h. h, tt))))
 
 pub symbol_unambiguous : Unambiguous symbol
 symbol_unambiguous = wider_unambiguous built_symbol full_symbol built_symbol_unambiguous full_symbol_unambiguous (built_is_full padded)
@@ -191,64 +191,54 @@ pub ruleset section_steps = (section_decodes, section_no_index)
 
 -- ---- kinds
 
--- The format after the byte of a kind that both grammars have.
-module _ (c : ℕ) (F : Format Symbol) (e : choice symbol_tags (λ b. impossible) c ≡ F) (f : choice full_symbol_tags (λ b. impossible) c ≡ F) where
-  kind_is : (w : Grammar) {bytes rest last : List ℕ} {b : ℕ} {x : Symbol} → Decodes byte (padded_of w) bytes b rest → b ≡ c → Decodes F (padded_of w) rest x last → Decodes symbol (padded_of w) bytes x last
-  kind_is builders {rest = rest} {last = last} {x = x} h is g = tag_is symbol_tags full_symbol_tags builders c h is (subst (λ F. Decodes F padded rest x last) (sym e) g)
-  kind_is admitted {rest = rest} {last = last} {x = x} h is g = tag_is symbol_tags full_symbol_tags admitted c h is (subst (λ F. Decodes F standard rest x last) (sym f) g)
-
-  kind_is_not : (w : Grammar) {bytes rest : List ℕ} {b : ℕ} → Decodes byte (padded_of w) bytes b rest → b ≡ c → Rejects F (padded_of w) rest → Rejects symbol (padded_of w) bytes
-  kind_is_not builders {rest = rest} h is n = tag_is_not symbol_tags full_symbol_tags builders c h is (subst (λ F. Rejects F padded rest) (sym e) n)
-  kind_is_not admitted {rest = rest} h is n = tag_is_not symbol_tags full_symbol_tags admitted c h is (subst (λ F. Rejects F standard rest) (sym f) n)
-
 pub symbol_none : (w : Grammar) (bytes : List ℕ) → Rejects byte (padded_of w) bytes → Rejects symbol (padded_of w) bytes
-symbol_none w bytes n = tag_none symbol_tags full_symbol_tags w bytes n
+symbol_none w bytes n = tag_none symbol_tags full_symbol_tags no_other w bytes n
 
 module _ (w : Grammar) (bytes rest : List ℕ) (b : ℕ) (h : Decodes byte (padded_of w) bytes b rest) where
   pub function_decodes : (last : List ℕ) (x : Symbol) → b ≡ 0x00 → Decodes (indexed_symbol Function) (padded_of w) rest x last → Decodes symbol (padded_of w) bytes x last
-  function_decodes last x e g = kind_is 0x00 (indexed_symbol Function) refl refl w h e g
+  function_decodes last x e g = both_is symbol_tags full_symbol_tags no_other 0x00 (indexed_symbol Function) refl refl w h e g
 
   pub function_none : b ≡ 0x00 → Rejects (indexed_symbol Function) (padded_of w) rest → Rejects symbol (padded_of w) bytes
-  function_none e n = kind_is_not 0x00 (indexed_symbol Function) refl refl w h e n
+  function_none e n = both_is_not symbol_tags full_symbol_tags no_other 0x00 (indexed_symbol Function) refl refl w h e n
 
   pub of_data_decodes : (last : List ℕ) (x : Symbol) → b ≡ 0x01 → Decodes data_symbol (padded_of w) rest x last → Decodes symbol (padded_of w) bytes x last
-  of_data_decodes last x e g = kind_is 0x01 data_symbol refl refl w h e g
+  of_data_decodes last x e g = both_is symbol_tags full_symbol_tags no_other 0x01 data_symbol refl refl w h e g
 
   pub of_data_none : b ≡ 0x01 → Rejects data_symbol (padded_of w) rest → Rejects symbol (padded_of w) bytes
-  of_data_none e n = kind_is_not 0x01 data_symbol refl refl w h e n
+  of_data_none e n = both_is_not symbol_tags full_symbol_tags no_other 0x01 data_symbol refl refl w h e n
 
   pub global_decodes : (last : List ℕ) (x : Symbol) → b ≡ 0x02 → Decodes (indexed_symbol Global) (padded_of w) rest x last → Decodes symbol (padded_of w) bytes x last
-  global_decodes last x e g = kind_is 0x02 (indexed_symbol Global) refl refl w h e g
+  global_decodes last x e g = both_is symbol_tags full_symbol_tags no_other 0x02 (indexed_symbol Global) refl refl w h e g
 
   pub global_none : b ≡ 0x02 → Rejects (indexed_symbol Global) (padded_of w) rest → Rejects symbol (padded_of w) bytes
-  global_none e n = kind_is_not 0x02 (indexed_symbol Global) refl refl w h e n
+  global_none e n = both_is_not symbol_tags full_symbol_tags no_other 0x02 (indexed_symbol Global) refl refl w h e n
 
   pub table_decodes : (last : List ℕ) (x : Symbol) → b ≡ 0x05 → Decodes (indexed_symbol Table) (padded_of w) rest x last → Decodes symbol (padded_of w) bytes x last
-  table_decodes last x e g = kind_is 0x05 (indexed_symbol Table) refl refl w h e g
+  table_decodes last x e g = both_is symbol_tags full_symbol_tags no_other 0x05 (indexed_symbol Table) refl refl w h e g
 
   pub table_none : b ≡ 0x05 → Rejects (indexed_symbol Table) (padded_of w) rest → Rejects symbol (padded_of w) bytes
-  table_none e n = kind_is_not 0x05 (indexed_symbol Table) refl refl w h e n
+  table_none e n = both_is_not symbol_tags full_symbol_tags no_other 0x05 (indexed_symbol Table) refl refl w h e n
 
 -- The kinds of the standard's grammar alone.
 pub of_section_decodes : (w : Grammar) (bytes rest : List ℕ) (b : ℕ) → Decodes byte (padded_of w) bytes b rest → (last : List ℕ) (x : Symbol) → is_admitted w ≡ true → b ≡ 0x03 → Decodes section_symbol (padded_of w) rest x last → Decodes symbol (padded_of w) bytes x last
 of_section_decodes builders bytes rest b h last x f e g = absurd (cc f)
-of_section_decodes admitted bytes rest b h last x f e g = tag_is symbol_tags full_symbol_tags admitted 0x03 h e g
+of_section_decodes admitted bytes rest b h last x f e g = tag_is symbol_tags full_symbol_tags no_other admitted 0x03 h e g
 
 pub of_section_none : (w : Grammar) (bytes rest : List ℕ) (b : ℕ) → Decodes byte (padded_of w) bytes b rest → is_admitted w ≡ true → b ≡ 0x03 → Rejects section_symbol (padded_of w) rest → Rejects symbol (padded_of w) bytes
 of_section_none builders bytes rest b h f e n = absurd (cc f)
-of_section_none admitted bytes rest b h f e n = tag_is_not symbol_tags full_symbol_tags admitted 0x03 h e n
+of_section_none admitted bytes rest b h f e n = tag_is_not symbol_tags full_symbol_tags no_other admitted 0x03 h e n
 
 pub tag_symbol_decodes : (w : Grammar) (bytes rest : List ℕ) (b : ℕ) → Decodes byte (padded_of w) bytes b rest → (last : List ℕ) (x : Symbol) → is_admitted w ≡ true → b ≡ 0x04 → Decodes (indexed_symbol Tag) (padded_of w) rest x last → Decodes symbol (padded_of w) bytes x last
 tag_symbol_decodes builders bytes rest b h last x f e g = absurd (cc f)
-tag_symbol_decodes admitted bytes rest b h last x f e g = tag_is symbol_tags full_symbol_tags admitted 0x04 h e g
+tag_symbol_decodes admitted bytes rest b h last x f e g = tag_is symbol_tags full_symbol_tags no_other admitted 0x04 h e g
 
 pub tag_symbol_none : (w : Grammar) (bytes rest : List ℕ) (b : ℕ) → Decodes byte (padded_of w) bytes b rest → is_admitted w ≡ true → b ≡ 0x04 → Rejects (indexed_symbol Tag) (padded_of w) rest → Rejects symbol (padded_of w) bytes
 tag_symbol_none builders bytes rest b h f e n = absurd (cc f)
-tag_symbol_none admitted bytes rest b h f e n = tag_is_not symbol_tags full_symbol_tags admitted 0x04 h e n
+tag_symbol_none admitted bytes rest b h f e n = tag_is_not symbol_tags full_symbol_tags no_other admitted 0x04 h e n
 
 pub symbol_unknown : (w : Grammar) (bytes rest : List ℕ) (b : ℕ) → Decodes byte (padded_of w) bytes b rest → b ≢ 0x00 → b ≢ 0x01 → b ≢ 0x02 → (is_admitted w ≡ true → b ≢ 0x03) → (is_admitted w ≡ true → b ≢ 0x04) → b ≢ 0x05 → Rejects symbol (padded_of w) bytes
-symbol_unknown builders bytes rest b h p q r s t u = tag_rejects symbol_tags full_symbol_tags builders h (no_choice symbol_tags b rest (p, (q, (r, (u, tt)))))
-symbol_unknown admitted bytes rest b h p q r s t u = tag_rejects symbol_tags full_symbol_tags admitted h (no_choice full_symbol_tags b rest (p, (q, (r, (s refl, (t refl, (u, tt)))))))
+symbol_unknown builders bytes rest b h p q r s t u = tag_rejects symbol_tags full_symbol_tags no_other builders h (no_choice symbol_tags b rest (p, (q, (r, (u, tt)))))
+symbol_unknown admitted bytes rest b h p q r s t u = tag_rejects symbol_tags full_symbol_tags no_other admitted h (no_choice full_symbol_tags b rest (p, (q, (r, (s refl, (t refl, (u, tt)))))))
 
 pub section_of_builders : (w : Grammar) (bytes rest : List ℕ) (b : ℕ) → Decodes byte (padded_of w) bytes b rest → is_admitted w ≡ false → b ≡ 0x03 → Rejects symbol (padded_of w) bytes
 section_of_builders w bytes rest b h f e = symbol_unknown w bytes rest b h (omega (arith, e)) (omega (arith, e)) (omega (arith, e)) (λ t. absurd (cc (f, t))) (λ t. absurd (cc (f, t))) (omega (arith, e))
@@ -312,16 +302,16 @@ section_appended flags index old front middle new e a b =
 
 -- The bytes that a call appends for a symbol of a kind are the minimal encoding of the symbol.
 pub indexed_short : (kind : SymbolKind) (flags index : ℕ) (n : Option (List ℕ)) (old new : List ℕ) → AppendsMinimal (prefixed (kind_code kind ∷ []) (indexed_symbol kind)) (indexed kind flags index n) old new → AppendsMinimal symbol (indexed kind flags index n) old new
-indexed_short Function flags index n old new a = tag_appended symbol_tags full_symbol_tags code_of built_kinds (indexed Function flags index n) a
-indexed_short Global flags index n old new a = tag_appended symbol_tags full_symbol_tags code_of built_kinds (indexed Global flags index n) a
-indexed_short Tag flags index n old new a = unknown_appended symbol_tags full_symbol_tags code_of built_kinds (indexed Tag flags index n) refl (prefixed (0x04 ∷ []) (indexed_symbol Tag)) (indexed Tag flags index n) a
-indexed_short Table flags index n old new a = tag_appended symbol_tags full_symbol_tags code_of built_kinds (indexed Table flags index n) a
+indexed_short Function flags index n old new a = tag_appended symbol_tags full_symbol_tags no_other code_of built_kinds (indexed Function flags index n) a
+indexed_short Global flags index n old new a = tag_appended symbol_tags full_symbol_tags no_other code_of built_kinds (indexed Global flags index n) a
+indexed_short Tag flags index n old new a = unknown_appended symbol_tags full_symbol_tags no_other code_of built_kinds (indexed Tag flags index n) refl (prefixed (0x04 ∷ []) (indexed_symbol Tag)) (indexed Tag flags index n) a
+indexed_short Table flags index n old new a = tag_appended symbol_tags full_symbol_tags no_other code_of built_kinds (indexed Table flags index n) a
 
 pub data_short : (flags : ℕ) (n : List ℕ) (d : Option DataSymbolDefinition) (old new : List ℕ) → AppendsMinimal (prefixed (0x01 ∷ []) data_symbol) (of_data flags n d) old new → AppendsMinimal symbol (of_data flags n d) old new
-data_short flags n d old new a = tag_appended symbol_tags full_symbol_tags code_of built_kinds (of_data flags n d) a
+data_short flags n d old new a = tag_appended symbol_tags full_symbol_tags no_other code_of built_kinds (of_data flags n d) a
 
 pub section_short : (flags index : ℕ) (old new : List ℕ) → AppendsMinimal (prefixed (0x03 ∷ []) section_symbol) (of_section flags index) old new → AppendsMinimal symbol (of_section flags index) old new
-section_short flags index old new a = unknown_appended symbol_tags full_symbol_tags code_of built_kinds (of_section flags index) refl (prefixed (0x03 ∷ []) section_symbol) (of_section flags index) a
+section_short flags index old new a = unknown_appended symbol_tags full_symbol_tags no_other code_of built_kinds (of_section flags index) refl (prefixed (0x03 ∷ []) section_symbol) (of_section flags index) a
 
 -- ---- fields of a symbol that has an encoding
 
@@ -351,13 +341,13 @@ number_encoded n h = record { bytes = unsigned_encoding n; decoded = u32_in padd
 
 -- A symbol that has an encoding has one of its kind.
 pub indexed_kind_encoded : (kind : SymbolKind) (flags index : ℕ) (n : Option (List ℕ)) → HasEncoding symbol (indexed kind flags index n) → HasEncoding (prefixed (kind_code kind ∷ []) (indexed_symbol kind)) (indexed kind flags index n)
-indexed_kind_encoded Function flags index n h = known_encoded symbol_tags full_symbol_tags code_of built_kinds (indexed Function flags index n) h
-indexed_kind_encoded Global flags index n h = known_encoded symbol_tags full_symbol_tags code_of built_kinds (indexed Global flags index n) h
-indexed_kind_encoded Tag flags index n h = absurd (unknown_encoded symbol_tags full_symbol_tags code_of built_kinds (indexed Tag flags index n) refl h)
-indexed_kind_encoded Table flags index n h = known_encoded symbol_tags full_symbol_tags code_of built_kinds (indexed Table flags index n) h
+indexed_kind_encoded Function flags index n h = known_encoded symbol_tags full_symbol_tags no_other code_of built_kinds (indexed Function flags index n) h
+indexed_kind_encoded Global flags index n h = known_encoded symbol_tags full_symbol_tags no_other code_of built_kinds (indexed Global flags index n) h
+indexed_kind_encoded Tag flags index n h = absurd (unknown_encoded symbol_tags full_symbol_tags no_other code_of built_kinds (indexed Tag flags index n) refl h)
+indexed_kind_encoded Table flags index n h = known_encoded symbol_tags full_symbol_tags no_other code_of built_kinds (indexed Table flags index n) h
 
 pub data_kind_encoded : (flags : ℕ) (n : List ℕ) (d : Option DataSymbolDefinition) → HasEncoding symbol (of_data flags n d) → HasEncoding (prefixed (0x01 ∷ []) data_symbol) (of_data flags n d)
-data_kind_encoded flags n d h = known_encoded symbol_tags full_symbol_tags code_of built_kinds (of_data flags n d) h
+data_kind_encoded flags n d h = known_encoded symbol_tags full_symbol_tags no_other code_of built_kinds (of_data flags n d) h
 
 pub ruleset short_steps = (indexed_short, data_short, section_short, indexed_kind_encoded, data_kind_encoded)
 

@@ -1,7 +1,7 @@
 -- This file defines the section of a dynamic library, its encoding and its format. Tool
 -- conventions, WebAssembly Dynamic Linking, The "dylink.0" Section.
 use Rattle.std.specs.Prelude.{ℕ, ◌^◌, ◌<◌, List, [], ◌∷◌, ◌++◌, codes, map, false}
-use Rattle.wasm_base.specs.Words.{Kind, ContainsItems, Format, u32, byte, name, impossible, fixed, mapped, pair, tagged, choice, vec, size_prefixed, IsEncodableName, unsigned_encoding}
+use Rattle.wasm_base.specs.Words.{Kind, ContainsItems, Format, u32, byte, name, any_bytes, impossible, fixed, mapped, pair, tagged, choice, by_mode, vec, size_prefixed, IsEncodableName, unsigned_encoding}
 use Rattle.wasm_base.specs.Words.{size_prefixed_encoding, vec_encoding, IsEncodableVec, SectionDecoding}
 use Rattle.wasm_custom.specs.Customs.{subsection_encoding, named_payload, decoding_as}
 use Rattle.wasm_custom.specs.Entries.{entries}
@@ -101,13 +101,15 @@ AreDylinkImports = IsListOf import_flags_encoding IsDylinkImport
 -- ---- subsections
 
 -- A subsection: the memory and the table, the libraries that are needed, flags of exports and of
--- imports, or the folders in which the loader searches for libraries.
+-- imports, the folders in which the loader searches for libraries, or the id and the content of any
+-- other subsection.
 pub data DylinkItem : Type 0 where
   Memory : DylinkMemory → DylinkItem
   Needed : List (List ℕ) → DylinkItem
   ExportFlags : List DylinkExport → DylinkItem
   ImportFlags : List DylinkImport → DylinkItem
   RuntimePath : List (List ℕ) → DylinkItem
+  OtherDylink : ℕ → List ℕ → DylinkItem
 
 -- The encoding of a subsection: its id, from 1 for the memory and the table to 5 for folders, and
 -- its size-prefixed content.
@@ -117,15 +119,17 @@ dylink_encoding (Needed names) = subsection_encoding 2 (vec_encoding size_prefix
 dylink_encoding (ExportFlags exports) = subsection_encoding 3 (vec_encoding export_flags_encoding exports)
 dylink_encoding (ImportFlags imports) = subsection_encoding 4 (vec_encoding import_flags_encoding imports)
 dylink_encoding (RuntimePath paths) = subsection_encoding 5 (vec_encoding size_prefixed_encoding paths)
+dylink_encoding (OtherDylink id content) = subsection_encoding id content
 
--- The subsection is well-formed: its items are well-formed, and their number is at
--- most 2^32 - 1.
+-- The subsection of a `DylinkSection` is well-formed: its items are well-formed, and their number
+-- is at most 2^32 - 1. No other subsection is one of a `DylinkSection`.
 abbrev pub IsDylink : DylinkItem → Type 0
 IsDylink (Memory m) = AreNeeds m
 IsDylink (Needed names) = IsEncodableVec IsEncodableName names
 IsDylink (ExportFlags exports) = IsEncodableVec IsDylinkExport exports
 IsDylink (ImportFlags imports) = IsEncodableVec IsDylinkImport imports
 IsDylink (RuntimePath paths) = IsEncodableVec IsEncodableName paths
+IsDylink (OtherDylink id content) = ⊥
 
 -- The formats of a subsection by its id: memory and table after 1, names of libraries after 2,
 -- flags of exports after 3, flags of imports after 4, and folders after 5.
@@ -138,9 +142,21 @@ dylink_tags =
     (5, mapped RuntimePath (size_prefixed (vec name))) ∷
     []
 
--- A subsection: an id, then its size-prefixed content.
+-- A subsection of the builders' grammar: an id, then its size-prefixed content.
+abbrev pub built_dylink : Format DylinkItem
+built_dylink = tagged byte (choice dylink_tags (λ b. impossible))
+
+-- The format of a subsection of any other id: its content is not decoded.
+abbrev pub other_dylink : ℕ → Format DylinkItem
+other_dylink id = mapped (OtherDylink id) (size_prefixed any_bytes)
+
+-- A subsection of any id: the id, then its size-prefixed content.
+abbrev pub full_dylink : Format DylinkItem
+full_dylink = tagged byte (choice dylink_tags other_dylink)
+
+-- A subsection: in the standard's grammar of any id, and in the builders' of five.
 abbrev pub dylink_item : Format DylinkItem
-dylink_item = tagged byte (choice dylink_tags (λ b. impossible))
+dylink_item = by_mode built_dylink full_dylink full_dylink
 
 -- The kind of subsections.
 abbrev pub dylink_items : Kind DylinkItem DylinkItem
@@ -181,3 +197,4 @@ dylink_view (items.Needed names) = Needed (map (λ n. n.now) names.items)
 dylink_view (items.ExportFlags exports) = ExportFlags (map export_flags_view exports.items)
 dylink_view (items.ImportFlags imports) = ImportFlags (map import_flags_view imports.items)
 dylink_view (items.RuntimePath paths) = RuntimePath (map (λ n. n.now) paths.items)
+dylink_view (items.Other id bytes) = OtherDylink id bytes.now

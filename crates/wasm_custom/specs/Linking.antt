@@ -1,7 +1,7 @@
 -- This file defines the linking section, its encoding and its format. Tool conventions, Linking,
 -- Linking Metadata Section.
 use Rattle.std.specs.Prelude.{ℕ, List, [], ◌∷◌, IsUtf8, codes, map, false}
-use Rattle.wasm_base.specs.Words.{Kind, ContainsItems, Format, byte, name, impossible, mapped, tagged, choice, by_mode, vec, size_prefixed, u32, just, size_prefixed_encoding, vec_encoding}
+use Rattle.wasm_base.specs.Words.{Kind, ContainsItems, Format, byte, name, any_bytes, impossible, mapped, tagged, choice, by_mode, vec, size_prefixed, u32, just, size_prefixed_encoding, vec_encoding}
 use Rattle.wasm_base.specs.Words.{IsEncodableVec, SectionDecoding}
 use Rattle.wasm_custom.specs.Customs.{subsection_encoding, named_payload, decoding_as}
 use Rattle.wasm_custom.specs.Symbols.{Symbol, symbol_encoding, IsSymbol, IsObjectSymbol, built_symbol, full_symbol, symbol_view}
@@ -13,14 +13,15 @@ use Rattle.wasm_custom.specs.declared.init_functions.InitFunction.{InitFunction}
 use Rattle.wasm_custom.specs.declared.linking.LinkItem as read
 use Rattle.wasm_custom.specs.declared.linking.LinkItem.TheVariants as items
 
--- A subsection: segments, init functions, COMDAT groups, a symbol table, or the architecture of the
--- target, which is not in the tool conventions.
+-- A subsection: segments, init functions, COMDAT groups, a symbol table, the architecture of the
+-- target, which is not in the tool conventions, or the id and the content of any other subsection.
 pub data LinkItem : Type 0 where
   Segments : List SegmentInfo → LinkItem
   InitFunctions : List InitFunction → LinkItem
   Comdats : List Comdat → LinkItem
   Symbols : List Symbol → LinkItem
   Target : List ℕ → LinkItem
+  OtherLink : ℕ → List ℕ → LinkItem
 
 -- The encoding of a subsection: its id, from 5 for segments to 9 for the architecture, and its
 -- size-prefixed content.
@@ -30,6 +31,7 @@ link_encoding (InitFunctions functions) = subsection_encoding 6 (vec_encoding in
 link_encoding (Comdats comdats) = subsection_encoding 7 (vec_encoding comdat_encoding comdats)
 link_encoding (Symbols symbols) = subsection_encoding 8 (vec_encoding symbol_encoding symbols)
 link_encoding (Target n) = subsection_encoding 9 (size_prefixed_encoding n)
+link_encoding (OtherLink id content) = subsection_encoding id content
 
 -- The subsection of a `LinkingSection` is well-formed: its symbols are well-formed and their number
 -- is at most 2^32 - 1, or its name is UTF-8. No other subsection is one of a `LinkingSection`.
@@ -39,13 +41,14 @@ IsLink (Target n) = IsUtf8 n
 IsLink _ = ⊥
 
 -- The subsection of an `ObjectLinking` is well-formed: its items are well-formed and their number
--- is at most 2^32 - 1, or its name is UTF-8.
+-- is at most 2^32 - 1, or its name is UTF-8. No other subsection is one of an `ObjectLinking`.
 abbrev pub IsObjectLink : LinkItem → Type 0
 IsObjectLink (Segments segments) = IsEncodableVec IsSegment segments
 IsObjectLink (InitFunctions functions) = IsEncodableVec IsInit functions
 IsObjectLink (Comdats comdats) = IsEncodableVec IsComdat comdats
 IsObjectLink (Symbols symbols) = IsEncodableVec IsObjectSymbol symbols
 IsObjectLink (Target n) = IsUtf8 n
+IsObjectLink (OtherLink id content) = ⊥
 
 -- The formats of a subsection by its id, as the builders' grammar has them: a symbol table after 8,
 -- the name of an architecture after 9.
@@ -68,9 +71,13 @@ full_link_tags =
     (9, mapped Target (size_prefixed name)) ∷
     []
 
+-- The format of a subsection of any other id: its content is not decoded.
+abbrev pub other_link : ℕ → Format LinkItem
+other_link id = mapped (OtherLink id) (size_prefixed any_bytes)
+
 -- A subsection of any kind: an id, then its size-prefixed content.
 abbrev pub full_link : Format LinkItem
-full_link = tagged byte (choice full_link_tags (λ b. impossible))
+full_link = tagged byte (choice full_link_tags other_link)
 
 -- A subsection: in the standard's grammar of any kind, and in the builders' of two kinds.
 abbrev pub link : Format LinkItem
@@ -131,3 +138,4 @@ link_view (items.InitFunctions functions) = InitFunctions functions.items
 link_view (items.Comdats comdats) = Comdats (map comdat_view comdats.items)
 link_view (items.Symbols symbols) = Symbols (map symbol_view symbols.items)
 link_view (items.Arch n) = Target n.now
+link_view (items.Other id bytes) = OtherLink id bytes.now

@@ -19,12 +19,13 @@ use crate::dylink_symbols::{
     DylinkPath,
 };
 use crate::entries::{CustomEntries, CustomKind};
-use crate::linking::{append_vector, read_vector};
+use crate::linking::{append_other, append_vector, read_vector};
 use crate::named::after_name;
+use crate::standard::require_standard;
 use crate::subsections::Subsection;
 use std::alloc::{Allocator, Global};
 use wasm_base::{
-    DecodeError, Encode, Grammar, Kind, Layout, ReadFault, Readable, Result, Shorten, SizePrefixed,
+    DecodeError, Encode, Grammar, Kind, Layout, Readable, Result, Shorten, SizePrefixed,
     append_all, read_to_end,
 };
 
@@ -139,6 +140,8 @@ pub enum DylinkItem<'a, A: Allocator = Global> {
     ImportFlags(Vec<DylinkImport<'a>, A>),
     /// The folders in which the loader searches for libraries.
     RuntimePath(Vec<&'a str, A>),
+    /// A subsection of another id, whose content is not decoded. The builders' grammar has none.
+    Other { id: u8, bytes: &'a [u8] },
 }
 
 impl<'a, A: Allocator> Layout for DylinkItem<'a, A> {
@@ -183,7 +186,11 @@ impl<'a, A: Allocator + Copy + 'a, G: Grammar> Readable<'a, A, G> for DylinkItem
                 let (paths, rest) = read_vector::<'a, &'a str, A, G>(rest, alloc)?;
                 Ok((DylinkItem::RuntimePath(paths), rest))
             }
-            _ => Err(ReadFault::UnknownTag.just_before(rest)),
+            _ => {
+                require_standard::<G>(rest)?;
+                let (bytes, rest) = <&'a [u8] as Readable<'a, A, G>>::read(rest, alloc)?;
+                Ok((DylinkItem::Other { id, bytes }, rest))
+            }
         }
     }
 }
@@ -226,6 +233,7 @@ impl<'a, A: Allocator> Shorten for DylinkItem<'a, A> {
             DylinkItem::ExportFlags(exports) => append_vector(3, exports, sink),
             DylinkItem::ImportFlags(imports) => append_vector(4, imports, sink),
             DylinkItem::RuntimePath(paths) => append_vector(5, paths, sink),
+            DylinkItem::Other { id, bytes } => append_other(*id, bytes, sink),
         }
     }
 }

@@ -1,7 +1,7 @@
 // The linking section: its builder, its reader and its minimizer.
 ghost use Rattle.std.specs.Prelude.{◌≡◌, [], ◌∷◌, false, ⊤, ◌≢◌, IfOk, IfErr, Err, OnOk, OnErr, map};
 ghost use Rattle.wasm_base.specs.Calls.{Adds};
-ghost use Rattle.wasm_base.specs.Formats.{u32 as u32_format, just, name as name_format, prefixed, size_prefixed, vec};
+ghost use Rattle.wasm_base.specs.Formats.{any_bytes, u32 as u32_format, just, name as name_format, prefixed, size_prefixed, vec};
 ghost use Rattle.wasm_base.specs.Continuing.{RejectsWhole};
 ghost use Rattle.wasm_base.specs.Numbers.{padded_of};
 ghost use Rattle.wasm_base.specs.Decoding.{Unambiguous, Decodes, Rejects};
@@ -102,7 +102,7 @@ impl<A: Allocator> LinkingSection<A> {
 pub(crate) const VERSION: u32 = 2;
 
 /// A decoded subsection of a linking section. The builders' grammar has symbol tables and
-/// architectures alone.
+/// architectures alone. In the standard's grammar, a subsection of an unknown id is kept as bytes.
 #[derive(Debug, Drop)]
 pub enum LinkItem<'a, A: Allocator = Global> {
     /// The data segments, in the order of the data section.
@@ -115,6 +115,8 @@ pub enum LinkItem<'a, A: Allocator = Global> {
     Symbols(Vec<Symbol<'a>, A>),
     /// The architecture of the target.
     Arch(&'a str),
+    /// A subsection of another id, whose content is not decoded.
+    Other { id: u8, bytes: &'a [u8] },
 }
 
 /// Decodes a size-prefixed vector, which is the content of most subsections.
@@ -176,7 +178,11 @@ impl<'a, A: Allocator + Copy + 'a, G: Grammar> Readable<'a, A, G> for LinkItem<'
                 >>::read(rest, alloc)?;
                 Ok((LinkItem::Arch(name), rest))
             }
-            _ => Err(ReadFault::UnknownTag.just_before(rest)),
+            _ => {
+                require_standard::<G>(rest)?;
+                let (bytes, rest) = <&'a [u8] as Readable<'a, A, G>>::read(rest, alloc)?;
+                Ok((LinkItem::Other { id, bytes }, rest))
+            }
         }
     }
 }
@@ -235,6 +241,21 @@ pub(crate) fn append_vector<T: Shorten, A: Allocator, B: Allocator>(
     prefix_size_since(sink, start)
 }
 
+/// Appends the subsection of this id and this content.
+#[tactic(auto, using(crate::proofs::LinkLaws::other_appended, crate::proofs::LinkLaws::other_encoded))]
+pub(crate) fn append_other<B: Allocator>(
+    id: u8,
+    content: &[u8],
+    sink: &mut Vec<u8, B>,
+) -> Result<()>
+    ensures ok { OnOk result (AppendsMinimal (prefixed (id ∷ []) (size_prefixed any_bytes)) content.now sink.old.items sink.new.items) }
+    ensures front { IsFrontOf sink.old.items sink.new.items }
+    ensures too_long { HasEncoding (prefixed (id ∷ []) (size_prefixed any_bytes)) content.now → result ≢ Err TooLong }
+{
+    id.encode(sink)?;
+    content.write_minimal(sink)
+}
+
 /// Appends the subsection of an architecture.
 #[tactic(auto, using(crate::proofs::LinkLaws::target_appended, crate::proofs::LinkLaws::target_encoded))]
 fn append_target<B: Allocator>(name: &str, sink: &mut Vec<u8, B>) -> Result<()>
@@ -255,6 +276,7 @@ impl<'a, A: Allocator> Shorten for LinkItem<'a, A> {
             LinkItem::Comdats(comdats) => append_vector(7, comdats, sink),
             LinkItem::Symbols(symbols) => append_vector(8, symbols, sink),
             LinkItem::Arch(name) => append_target(name, sink),
+            LinkItem::Other { id, bytes } => append_other(*id, bytes, sink),
         }
     }
 }

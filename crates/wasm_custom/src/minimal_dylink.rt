@@ -10,10 +10,9 @@ ghost use Rattle.wasm_custom.specs.Dylink.{export_flags, import_flags, dylink_it
 use crate::dylink::DylinkItem;
 use crate::dylink_symbols::{DylinkExport, DylinkImport, DylinkMemory};
 use crate::named::after_name;
+use crate::standard::require_standard;
 use std::alloc::Allocator;
-use wasm_base::{
-    DecodeError, Encode, Grammar, Minimize, ReadFault, Readable, SizePrefixed, minimize_to_end,
-};
+use wasm_base::{DecodeError, Encode, Grammar, Minimize, Readable, SizePrefixed, minimize_to_end};
 
 impl<G: Grammar> Minimize<G> for DylinkMemory {
     fn minimize<'a, A: Allocator + Copy, B: Allocator>(
@@ -100,7 +99,11 @@ impl<'s, G: Grammar, C: Allocator> Minimize<G> for DylinkItem<'s, C> {
                 )?;
                 Ok(rest)
             }
-            _ => Err(ReadFault::UnknownTag.just_before(rest)),
+            _ => {
+                require_standard::<G>(rest)?;
+                let rest = <&'a [u8] as Minimize<G>>::minimize(rest, alloc, sink)?;
+                Ok(rest)
+            }
         }
     }
 }

@@ -19,8 +19,8 @@ use crate::standard::require_standard;
 use crate::symbols::Symbol;
 use std::alloc::Allocator;
 use wasm_base::{
-    DecodeError, Encode, Grammar, Minimize, ReadFault, Readable, Shared, SizePrefixed,
-    minimize_shared, minimize_to_end,
+    DecodeError, Encode, Grammar, Minimize, Readable, Shared, SizePrefixed, minimize_shared,
+    minimize_to_end,
 };
 
 impl<'s, G: Grammar> Minimize<G> for SegmentInfo<'s> {
@@ -143,7 +143,11 @@ impl<'s, G: Grammar, C: Allocator> Minimize<G> for LinkItem<'s, C> {
                 let rest = <SizePrefixed<&'a str> as Minimize<G>>::minimize(rest, alloc, sink)?;
                 Ok(rest)
             }
-            _ => Err(ReadFault::UnknownTag.just_before(rest)),
+            _ => {
+                require_standard::<G>(rest)?;
+                let rest = <&'a [u8] as Minimize<G>>::minimize(rest, alloc, sink)?;
+                Ok(rest)
+            }
         }
     }
 }

@@ -21,7 +21,7 @@ use crate::segments::SegmentInfo;
 use crate::standard::require_standard;
 use crate::symbols::Symbol;
 use std::alloc::Allocator;
-use wasm_base::{DecodeError, Dropped, Grammar, ReadFault, Readable, SizePrefixed, Skip};
+use wasm_base::{DecodeError, Dropped, Grammar, Readable, SizePrefixed, Skip};
 
 /// Skips a size-prefixed vector.
 fn skip_vector<'a, P: Skip<'a, A, G>, A: Allocator + Copy, G: Grammar>(
@@ -101,7 +101,11 @@ impl<'a, A: Allocator + Copy, G: Grammar> Skip<'a, A, G> for LinkItem<'a, A> {
                 let rest = <SizePrefixed<Dropped<&'a str>> as Skip<'a, A, G>>::skip(rest, alloc)?;
                 Ok(rest)
             }
-            _ => Err(ReadFault::UnknownTag.just_before(rest)),
+            _ => {
+                require_standard::<G>(rest)?;
+                let rest = <Dropped<&'a [u8]> as Skip<'a, A, G>>::skip(rest, alloc)?;
+                Ok(rest)
+            }
         }
     }
 }
@@ -133,7 +137,11 @@ impl<'a, A: Allocator + Copy, G: Grammar> Skip<'a, A, G> for DylinkItem<'a, A> {
                 let rest = skip_vector::<'a, Dropped<&'a str>, A, G>(rest, alloc)?;
                 Ok(rest)
             }
-            _ => Err(ReadFault::UnknownTag.just_before(rest)),
+            _ => {
+                require_standard::<G>(rest)?;
+                let rest = <Dropped<&'a [u8]> as Skip<'a, A, G>>::skip(rest, alloc)?;
+                Ok(rest)
+            }
         }
     }
 }

@@ -372,9 +372,9 @@ fn append_custom<B: Allocator>(name: &str, bytes: &[u8], sink: &mut Vec<u8, B>) 
 /// Appends the minimal encoding of a section's payload with these items, as builders write it. On
 /// an error, the sink is unchanged.
 ///
-/// It is the inverse of [`read_section`](crate::read_section) and
-/// [`Section::items`](crate::Section::items). [`RawSection`](wasm_base::RawSection) adds the id and
-/// the size prefix that make a section of the payload.
+/// [`read_section`](crate::read_section) and [`Section::items`](crate::Section::items) return such
+/// items. [`RawSection`](wasm_base::RawSection) adds the id and the size prefix that make a section
+/// of the payload.
 ///
 /// The call promises nothing for items that no bytes encode: an instruction whose immediates are
 /// not those of its opcode, say.

@@ -62,7 +62,7 @@ fn line_of<'a, A: Allocator + Copy>(section: &Section<'a, A>) -> Result<Outlined
 /// Lists the sections of a module, whatever their payloads are. A section whose payload does not
 /// decode as its kind has no number of items.
 ///
-/// A custom section decodes by the kind that its name selects, and a type section as types.
+/// A type section decodes as types. No custom section is decoded, so none has a number of items.
 ///
 /// # Errors
 ///

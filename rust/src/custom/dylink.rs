@@ -4,11 +4,12 @@
 use crate::vec::{Sink, Vec};
 use crate::custom::dylink_symbols::{DylinkExport, DylinkExports, DylinkImport, DylinkImports, DylinkMemory, DylinkNeeded, DylinkPath};
 use crate::custom::entries::{CustomEntries, CustomKind};
-use crate::custom::linking::{append_vector, read_vector};
+use crate::custom::linking::{append_other, append_vector, read_vector};
 use crate::custom::named::after_name;
+use crate::custom::standard::require_standard;
 use crate::custom::subsections::Subsection;
 use crate::alloc::{Allocator, Global};
-use crate::base::{DecodeError, Encode, Grammar, Kind, Layout, ReadFault, Readable, Result, Shorten, SizePrefixed, append_all, read_to_end};
+use crate::base::{DecodeError, Encode, Grammar, Kind, Layout, Readable, Result, Shorten, SizePrefixed, append_all, read_to_end};
 
 /// The `dylink.0` section: the requirements of a dynamic library at load time. It is the first
 /// section of a module. Each call adds a subsection, and `new` allocates nothing.
@@ -302,6 +303,12 @@ pub enum DylinkItem<'a, A: Allocator = Global> {
     ImportFlags(Vec<DylinkImport<'a>, A>),
     /// The folders in which the loader searches for libraries.
     RuntimePath(Vec<&'a str, A>),
+    /// A subsection of another id, whose content is not decoded. The builders' grammar has none.
+    Other {
+        /// The id of the subsection.
+        id: u8,
+        /// The content, without its size prefix.
+        bytes: &'a [u8] },
 }
 
 /// # Defined
@@ -354,7 +361,11 @@ impl<'a, A: Allocator + Copy + 'a, G: Grammar> Readable<'a, A, G> for DylinkItem
                 let (paths, rest) = read_vector::<'a, &'a str, A, G>(rest, alloc)?;
                 Ok((DylinkItem::RuntimePath(paths), rest))
             }
-            _ => Err(ReadFault::UnknownTag.just_before(rest)),
+            _ => {
+                require_standard::<G>(rest)?;
+                let (bytes, rest) = <&'a [u8] as Readable<'a, A, G>>::read(rest, alloc)?;
+                Ok((DylinkItem::Other { id, bytes }, rest))
+            }
         }
     }
 }
@@ -440,6 +451,7 @@ impl<'a, A: Allocator> Shorten for DylinkItem<'a, A> {
             DylinkItem::ExportFlags(exports) => append_vector(3, exports, sink),
             DylinkItem::ImportFlags(imports) => append_vector(4, imports, sink),
             DylinkItem::RuntimePath(paths) => append_vector(5, paths, sink),
+            DylinkItem::Other { id, bytes } => append_other(*id, bytes, sink),
         }
     }
 }

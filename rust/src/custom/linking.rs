@@ -144,7 +144,7 @@ impl<A: Allocator> LinkingSection<A> {
 pub(crate) const VERSION: u32 = 2;
 
 /// A decoded subsection of a linking section. The builders' grammar has symbol tables and
-/// architectures alone.
+/// architectures alone. In the standard's grammar, a subsection of an unknown id is kept as bytes.
 ///
 /// [`Items::Linking`](crate::reader::Items::Linking) has them.
 ///
@@ -178,6 +178,12 @@ pub enum LinkItem<'a, A: Allocator = Global> {
     Symbols(Vec<Symbol<'a>, A>),
     /// The architecture of the target.
     Arch(&'a str),
+    /// A subsection of another id, whose content is not decoded.
+    Other {
+        /// The id of the subsection.
+        id: u8,
+        /// The content, without its size prefix.
+        bytes: &'a [u8] },
 }
 
 /// Decodes a size-prefixed vector, which is the content of most subsections.
@@ -259,7 +265,11 @@ impl<'a, A: Allocator + Copy + 'a, G: Grammar> Readable<'a, A, G> for LinkItem<'
                 >>::read(rest, alloc)?;
                 Ok((LinkItem::Arch(name), rest))
             }
-            _ => Err(ReadFault::UnknownTag.just_before(rest)),
+            _ => {
+                require_standard::<G>(rest)?;
+                let (bytes, rest) = <&'a [u8] as Readable<'a, A, G>>::read(rest, alloc)?;
+                Ok((LinkItem::Other { id, bytes }, rest))
+            }
         }
     }
 }
@@ -364,6 +374,33 @@ pub(crate) fn append_vector<T: Shorten, A: Allocator, B: Sink>(
     prefix_size_since(sink, start)
 }
 
+/// Appends the subsection of this id and this content.
+///
+/// # Proved
+///
+/// - After `Ok`, `ok`: the sink gains the minimal encoding.
+/// - `front`: The new bytes begin with the old ones.
+/// - `too_long`: a value that has an encoding never gives `TooLong`.
+///
+/// ```text
+/// ensures ok { OnOk result
+///     (AppendsMinimal (prefixed (id ∷ []) (size_prefixed any_bytes)) content.now
+///         sink.old.items sink.new.items) }
+/// ensures front { IsFrontOf sink.old.items sink.new.items }
+/// ensures too_long { HasEncoding
+///     (prefixed (id ∷ []) (size_prefixed any_bytes)) content.now → result ≢ Err TooLong }
+/// ```
+///
+/// Definitions: [`AppendsMinimal`](crate::definitions::base::minimal::AppendsMinimal), [`prefixed`](crate::definitions::base::formats::prefixed), [`size_prefixed`](crate::definitions::base::formats::size_prefixed), [`any_bytes`](crate::definitions::base::formats::any_bytes), [`IsFrontOf`](crate::definitions::base::minimal::IsFrontOf), [`HasEncoding`](crate::definitions::base::minimal::HasEncoding). [How to read clauses](crate::definitions).
+pub(crate) fn append_other<B: Sink>(
+    id: u8,
+    content: &[u8],
+    sink: &mut B,
+) -> Result<()> {
+    id.encode(sink)?;
+    content.write_minimal(sink)
+}
+
 /// Appends the subsection of an architecture.
 ///
 /// # Proved
@@ -395,6 +432,7 @@ impl<'a, A: Allocator> Shorten for LinkItem<'a, A> {
             LinkItem::Comdats(comdats) => append_vector(7, comdats, sink),
             LinkItem::Symbols(symbols) => append_vector(8, symbols, sink),
             LinkItem::Arch(name) => append_target(name, sink),
+            LinkItem::Other { id, bytes } => append_other(*id, bytes, sink),
         }
     }
 }

@@ -5,8 +5,9 @@ use crate::vec::{Sink, Vec};
 use crate::custom::dylink::DylinkItem;
 use crate::custom::dylink_symbols::{DylinkExport, DylinkImport, DylinkMemory};
 use crate::custom::named::after_name;
+use crate::custom::standard::require_standard;
 use crate::alloc::Allocator;
-use crate::base::{DecodeError, Encode, Grammar, Minimize, ReadFault, Readable, SizePrefixed, minimize_to_end};
+use crate::base::{DecodeError, Encode, Grammar, Minimize, Readable, SizePrefixed, minimize_to_end};
 
 impl<G: Grammar> Minimize<G> for DylinkMemory {
     fn minimize<'a, A: Allocator + Copy, B: Sink>(
@@ -128,7 +129,11 @@ impl<'s, G: Grammar, C: Allocator> Minimize<G> for DylinkItem<'s, C> {
                 )?;
                 Ok(rest)
             }
-            _ => Err(ReadFault::UnknownTag.just_before(rest)),
+            _ => {
+                require_standard::<G>(rest)?;
+                let rest = <&'a [u8] as Minimize<G>>::minimize(rest, alloc, sink)?;
+                Ok(rest)
+            }
         }
     }
 }

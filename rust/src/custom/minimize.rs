@@ -10,7 +10,7 @@ use crate::custom::segments::SegmentInfo;
 use crate::custom::standard::require_standard;
 use crate::custom::symbols::Symbol;
 use crate::alloc::Allocator;
-use crate::base::{DecodeError, Encode, Grammar, Minimize, ReadFault, Readable, Shared, SizePrefixed, minimize_shared, minimize_to_end};
+use crate::base::{DecodeError, Encode, Grammar, Minimize, Readable, Shared, SizePrefixed, minimize_shared, minimize_to_end};
 
 impl<'s, G: Grammar> Minimize<G> for SegmentInfo<'s> {
     /// # Proved
@@ -177,7 +177,11 @@ impl<'s, G: Grammar, C: Allocator> Minimize<G> for LinkItem<'s, C> {
                 let rest = <SizePrefixed<&'a str> as Minimize<G>>::minimize(rest, alloc, sink)?;
                 Ok(rest)
             }
-            _ => Err(ReadFault::UnknownTag.just_before(rest)),
+            _ => {
+                require_standard::<G>(rest)?;
+                let rest = <&'a [u8] as Minimize<G>>::minimize(rest, alloc, sink)?;
+                Ok(rest)
+            }
         }
     }
 }

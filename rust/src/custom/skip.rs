@@ -17,7 +17,7 @@ use crate::custom::segments::SegmentInfo;
 use crate::custom::standard::require_standard;
 use crate::custom::symbols::Symbol;
 use crate::alloc::Allocator;
-use crate::base::{DecodeError, Dropped, Grammar, ReadFault, Readable, SizePrefixed, Skip};
+use crate::base::{DecodeError, Dropped, Grammar, Readable, SizePrefixed, Skip};
 
 /// Skips a size-prefixed vector.
 ///
@@ -122,7 +122,11 @@ impl<'a, A: Allocator + Copy, G: Grammar> Skip<'a, A, G> for LinkItem<'a, A> {
                 let rest = <SizePrefixed<Dropped<&'a str>> as Skip<'a, A, G>>::skip(rest, alloc)?;
                 Ok(rest)
             }
-            _ => Err(ReadFault::UnknownTag.just_before(rest)),
+            _ => {
+                require_standard::<G>(rest)?;
+                let rest = <Dropped<&'a [u8]> as Skip<'a, A, G>>::skip(rest, alloc)?;
+                Ok(rest)
+            }
         }
     }
 }
@@ -153,7 +157,11 @@ impl<'a, A: Allocator + Copy, G: Grammar> Skip<'a, A, G> for DylinkItem<'a, A> {
                 let rest = skip_vector::<'a, Dropped<&'a str>, A, G>(rest, alloc)?;
                 Ok(rest)
             }
-            _ => Err(ReadFault::UnknownTag.just_before(rest)),
+            _ => {
+                require_standard::<G>(rest)?;
+                let rest = <Dropped<&'a [u8]> as Skip<'a, A, G>>::skip(rest, alloc)?;
+                Ok(rest)
+            }
         }
     }
 }

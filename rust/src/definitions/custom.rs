@@ -837,7 +837,7 @@ pub trait debug_files {
 /// - Names: [`AreNames`](dylink::AreNames).
 /// - Exports: [`DylinkExport`](dylink::DylinkExport), [`export_flags_encoding`](dylink::export_flags_encoding), [`IsDylinkExport`](dylink::IsDylinkExport), [`export_flags_of`](dylink::export_flags_of), [`export_flags`](dylink::export_flags), [`AreDylinkExports`](dylink::AreDylinkExports).
 /// - Imports: [`DylinkImport`](dylink::DylinkImport), [`import_flags_encoding`](dylink::import_flags_encoding), [`IsDylinkImport`](dylink::IsDylinkImport), [`import_flags_of`](dylink::import_flags_of), [`import_flags`](dylink::import_flags), [`AreDylinkImports`](dylink::AreDylinkImports).
-/// - Subsections: [`DylinkItem`](dylink::DylinkItem), [`dylink_encoding`](dylink::dylink_encoding), [`IsDylink`](dylink::IsDylink), [`dylink_tags`](dylink::dylink_tags), [`dylink_item`](dylink::dylink_item), [`dylink_items`](dylink::dylink_items), [`dylink_name`](dylink::dylink_name).
+/// - Subsections: [`DylinkItem`](dylink::DylinkItem), [`dylink_encoding`](dylink::dylink_encoding), [`IsDylink`](dylink::IsDylink), [`dylink_tags`](dylink::dylink_tags), [`built_dylink`](dylink::built_dylink), [`other_dylink`](dylink::other_dylink), [`full_dylink`](dylink::full_dylink), [`dylink_item`](dylink::dylink_item), [`dylink_items`](dylink::dylink_items), [`dylink_name`](dylink::dylink_name).
 /// - The section of a dynamic library: [`ContainsDylink`](dylink::ContainsDylink), [`dylink_payload`](dylink::dylink_payload), [`dylink_decoding`](dylink::dylink_decoding).
 /// - Decoded subsections: [`export_flags_view`](dylink::export_flags_view), [`import_flags_view`](dylink::import_flags_view), [`dylink_view`](dylink::dylink_view).
 ///
@@ -1001,7 +1001,7 @@ pub trait dylink {
     ///
     /// Definitions: [`DylinkImport`](dylink::DylinkImport), [`IsListOf`](lists::IsListOf), [`import_flags_encoding`](dylink::import_flags_encoding), [`IsDylinkImport`](dylink::IsDylinkImport).
     type AreDylinkImports;
-    /// A subsection: the memory and the table, the libraries that are needed, flags of exports and of imports, or the folders in which the loader searches for libraries.
+    /// A subsection: the memory and the table, the libraries that are needed, flags of exports and of imports, the folders in which the loader searches for libraries, or the id and the content of any other subsection.
     ///
     /// ```text
     /// pub data DylinkItem : Type 0 where
@@ -1010,6 +1010,7 @@ pub trait dylink {
     ///   ExportFlags : List DylinkExport → DylinkItem
     ///   ImportFlags : List DylinkImport → DylinkItem
     ///   RuntimePath : List (List ℕ) → DylinkItem
+    ///   OtherDylink : ℕ → List ℕ → DylinkItem
     /// ```
     ///
     /// Definitions: [`DylinkExport`](dylink::DylinkExport), [`DylinkImport`](dylink::DylinkImport).
@@ -1027,11 +1028,12 @@ pub trait dylink {
     ///     (vec_encoding import_flags_encoding imports)
     /// dylink_encoding (RuntimePath paths) = subsection_encoding 5
     ///     (vec_encoding size_prefixed_encoding paths)
+    /// dylink_encoding (OtherDylink id content) = subsection_encoding id content
     /// ```
     ///
-    /// Definitions: [`DylinkItem`](dylink::DylinkItem), [`Memory`](dylink::DylinkItem), [`subsection_encoding`](customs::subsection_encoding), [`needs_encoding`](dylink::needs_encoding), [`Needed`](dylink::DylinkItem), [`vec_encoding`](super::base::encodings::vec_encoding), [`size_prefixed_encoding`](super::base::encodings::size_prefixed_encoding), [`ExportFlags`](dylink::DylinkItem), [`export_flags_encoding`](dylink::export_flags_encoding), [`ImportFlags`](dylink::DylinkItem), [`import_flags_encoding`](dylink::import_flags_encoding), [`RuntimePath`](dylink::DylinkItem).
+    /// Definitions: [`DylinkItem`](dylink::DylinkItem), [`Memory`](dylink::DylinkItem), [`subsection_encoding`](customs::subsection_encoding), [`needs_encoding`](dylink::needs_encoding), [`Needed`](dylink::DylinkItem), [`vec_encoding`](super::base::encodings::vec_encoding), [`size_prefixed_encoding`](super::base::encodings::size_prefixed_encoding), [`ExportFlags`](dylink::DylinkItem), [`export_flags_encoding`](dylink::export_flags_encoding), [`ImportFlags`](dylink::DylinkItem), [`import_flags_encoding`](dylink::import_flags_encoding), [`RuntimePath`](dylink::DylinkItem), [`OtherDylink`](dylink::DylinkItem).
     type dylink_encoding;
-    /// The subsection is well-formed: its items are well-formed, and their number is at most 2^32 - 1.
+    /// The subsection of a `DylinkSection` is well-formed: its items are well-formed, and their number is at most 2^32 - 1. No other subsection is one of a `DylinkSection`.
     ///
     /// ```text
     /// abbrev pub IsDylink : DylinkItem → Type 0
@@ -1040,9 +1042,10 @@ pub trait dylink {
     /// IsDylink (ExportFlags exports) = IsEncodableVec IsDylinkExport exports
     /// IsDylink (ImportFlags imports) = IsEncodableVec IsDylinkImport imports
     /// IsDylink (RuntimePath paths) = IsEncodableVec IsEncodableName paths
+    /// IsDylink (OtherDylink id content) = ⊥
     /// ```
     ///
-    /// Definitions: [`DylinkItem`](dylink::DylinkItem), [`Memory`](dylink::DylinkItem), [`AreNeeds`](dylink::AreNeeds), [`Needed`](dylink::DylinkItem), [`IsEncodableVec`](super::base::encodings::IsEncodableVec), [`IsEncodableName`](super::base::laws::IsEncodableName), [`ExportFlags`](dylink::DylinkItem), [`IsDylinkExport`](dylink::IsDylinkExport), [`ImportFlags`](dylink::DylinkItem), [`IsDylinkImport`](dylink::IsDylinkImport), [`RuntimePath`](dylink::DylinkItem).
+    /// Definitions: [`DylinkItem`](dylink::DylinkItem), [`Memory`](dylink::DylinkItem), [`AreNeeds`](dylink::AreNeeds), [`Needed`](dylink::DylinkItem), [`IsEncodableVec`](super::base::encodings::IsEncodableVec), [`IsEncodableName`](super::base::laws::IsEncodableName), [`ExportFlags`](dylink::DylinkItem), [`IsDylinkExport`](dylink::IsDylinkExport), [`ImportFlags`](dylink::DylinkItem), [`IsDylinkImport`](dylink::IsDylinkImport), [`RuntimePath`](dylink::DylinkItem), [`OtherDylink`](dylink::DylinkItem).
     type IsDylink;
     /// The formats of a subsection by its id: memory and table after 1, names of libraries after 2, flags of exports after 3, flags of imports after 4, and folders after 5.
     ///
@@ -1059,14 +1062,41 @@ pub trait dylink {
     ///
     /// Definitions: [`Format`](super::base::formats::Format), [`DylinkItem`](dylink::DylinkItem), [`mapped`](super::base::formats::mapped), [`Memory`](dylink::DylinkItem), [`size_prefixed`](super::base::formats::size_prefixed), [`needs`](dylink::needs), [`Needed`](dylink::DylinkItem), [`vec`](super::base::formats::vec), [`name`](super::base::formats::name), [`ExportFlags`](dylink::DylinkItem), [`export_flags`](dylink::export_flags), [`ImportFlags`](dylink::DylinkItem), [`import_flags`](dylink::import_flags), [`RuntimePath`](dylink::DylinkItem).
     type dylink_tags;
-    /// A subsection: an id, then its size-prefixed content.
+    /// A subsection of the builders' grammar: an id, then its size-prefixed content.
     ///
     /// ```text
-    /// abbrev pub dylink_item : Format DylinkItem
-    /// dylink_item = tagged byte (choice dylink_tags (λ b. impossible))
+    /// abbrev pub built_dylink : Format DylinkItem
+    /// built_dylink = tagged byte (choice dylink_tags (λ b. impossible))
     /// ```
     ///
     /// Definitions: [`Format`](super::base::formats::Format), [`DylinkItem`](dylink::DylinkItem), [`tagged`](super::base::formats::tagged), [`byte`](super::base::formats::byte), [`choice`](super::base::formats::choice), [`dylink_tags`](dylink::dylink_tags), [`impossible`](super::base::formats::impossible).
+    type built_dylink;
+    /// The format of a subsection of any other id: its content is not decoded.
+    ///
+    /// ```text
+    /// abbrev pub other_dylink : ℕ → Format DylinkItem
+    /// other_dylink id = mapped (OtherDylink id) (size_prefixed any_bytes)
+    /// ```
+    ///
+    /// Definitions: [`Format`](super::base::formats::Format), [`DylinkItem`](dylink::DylinkItem), [`mapped`](super::base::formats::mapped), [`OtherDylink`](dylink::DylinkItem), [`size_prefixed`](super::base::formats::size_prefixed), [`any_bytes`](super::base::formats::any_bytes).
+    type other_dylink;
+    /// A subsection of any id: the id, then its size-prefixed content.
+    ///
+    /// ```text
+    /// abbrev pub full_dylink : Format DylinkItem
+    /// full_dylink = tagged byte (choice dylink_tags other_dylink)
+    /// ```
+    ///
+    /// Definitions: [`Format`](super::base::formats::Format), [`DylinkItem`](dylink::DylinkItem), [`tagged`](super::base::formats::tagged), [`byte`](super::base::formats::byte), [`choice`](super::base::formats::choice), [`dylink_tags`](dylink::dylink_tags), [`other_dylink`](dylink::other_dylink).
+    type full_dylink;
+    /// A subsection: in the standard's grammar of any id, and in the builders' of five.
+    ///
+    /// ```text
+    /// abbrev pub dylink_item : Format DylinkItem
+    /// dylink_item = by_mode built_dylink full_dylink full_dylink
+    /// ```
+    ///
+    /// Definitions: [`Format`](super::base::formats::Format), [`DylinkItem`](dylink::DylinkItem), [`by_mode`](super::base::formats::by_mode), [`built_dylink`](dylink::built_dylink), [`full_dylink`](dylink::full_dylink).
     type dylink_item;
     /// The kind of subsections.
     ///
@@ -1143,9 +1173,10 @@ pub trait dylink {
     /// dylink_view (items.ImportFlags imports) = ImportFlags
     ///     (map import_flags_view imports.items)
     /// dylink_view (items.RuntimePath paths) = RuntimePath (map (λ n. n.now) paths.items)
+    /// dylink_view (items.Other id bytes) = OtherDylink id bytes.now
     /// ```
     ///
-    /// Definitions: [`DylinkItem`](dylink::DylinkItem), [`Memory`](dylink::DylinkItem), [`Needed`](dylink::DylinkItem), [`ExportFlags`](dylink::DylinkItem), [`export_flags_view`](dylink::export_flags_view), [`ImportFlags`](dylink::DylinkItem), [`import_flags_view`](dylink::import_flags_view), [`RuntimePath`](dylink::DylinkItem).
+    /// Definitions: [`DylinkItem`](dylink::DylinkItem), [`Memory`](dylink::DylinkItem), [`Needed`](dylink::DylinkItem), [`ExportFlags`](dylink::DylinkItem), [`export_flags_view`](dylink::export_flags_view), [`ImportFlags`](dylink::DylinkItem), [`import_flags_view`](dylink::import_flags_view), [`RuntimePath`](dylink::DylinkItem), [`OtherDylink`](dylink::DylinkItem).
     type dylink_view;
 }
 
@@ -1401,7 +1432,7 @@ pub trait init_functions {
 ///
 /// [How to read definitions](super). The file is [`Linking.antt`](https://github.com/dolzhytik/dolzhytik/blob/main/crates/wasm_custom/specs/Linking.antt).
 pub trait linking {
-    /// A subsection: segments, init functions, COMDAT groups, a symbol table, or the architecture of the target, which is not in the tool conventions.
+    /// A subsection: segments, init functions, COMDAT groups, a symbol table, the architecture of the target, which is not in the tool conventions, or the id and the content of any other subsection.
     ///
     /// ```text
     /// pub data LinkItem : Type 0 where
@@ -1410,6 +1441,7 @@ pub trait linking {
     ///   Comdats : List Comdat → LinkItem
     ///   Symbols : List Symbol → LinkItem
     ///   Target : List ℕ → LinkItem
+    ///   OtherLink : ℕ → List ℕ → LinkItem
     /// ```
     ///
     /// Definitions: [`SegmentInfo`](segments::SegmentInfo), [`Comdat`](comdats::Comdat), [`Symbol`](symbols::Symbol).
@@ -1427,9 +1459,10 @@ pub trait linking {
     /// link_encoding (Symbols symbols) = subsection_encoding 8
     ///     (vec_encoding symbol_encoding symbols)
     /// link_encoding (Target n) = subsection_encoding 9 (size_prefixed_encoding n)
+    /// link_encoding (OtherLink id content) = subsection_encoding id content
     /// ```
     ///
-    /// Definitions: [`LinkItem`](linking::LinkItem), [`Segments`](linking::LinkItem), [`subsection_encoding`](customs::subsection_encoding), [`vec_encoding`](super::base::encodings::vec_encoding), [`segment_encoding`](segments::segment_encoding), [`InitFunctions`](linking::LinkItem), [`init_encoding`](init_functions::init_encoding), [`Comdats`](linking::LinkItem), [`comdat_encoding`](comdats::comdat_encoding), [`Symbols`](linking::LinkItem), [`symbol_encoding`](symbols::symbol_encoding), [`Target`](linking::LinkItem), [`size_prefixed_encoding`](super::base::encodings::size_prefixed_encoding).
+    /// Definitions: [`LinkItem`](linking::LinkItem), [`Segments`](linking::LinkItem), [`subsection_encoding`](customs::subsection_encoding), [`vec_encoding`](super::base::encodings::vec_encoding), [`segment_encoding`](segments::segment_encoding), [`InitFunctions`](linking::LinkItem), [`init_encoding`](init_functions::init_encoding), [`Comdats`](linking::LinkItem), [`comdat_encoding`](comdats::comdat_encoding), [`Symbols`](linking::LinkItem), [`symbol_encoding`](symbols::symbol_encoding), [`Target`](linking::LinkItem), [`size_prefixed_encoding`](super::base::encodings::size_prefixed_encoding), [`OtherLink`](linking::LinkItem).
     type link_encoding;
     /// The subsection of a `LinkingSection` is well-formed: its symbols are well-formed and their number is at most 2^32 - 1, or its name is UTF-8. No other subsection is one of a `LinkingSection`.
     ///
@@ -1442,7 +1475,7 @@ pub trait linking {
     ///
     /// Definitions: [`LinkItem`](linking::LinkItem), [`Symbols`](linking::LinkItem), [`IsEncodableVec`](super::base::encodings::IsEncodableVec), [`IsSymbol`](symbols::IsSymbol), [`Target`](linking::LinkItem).
     type IsLink;
-    /// The subsection of an `ObjectLinking` is well-formed: its items are well-formed and their number is at most 2^32 - 1, or its name is UTF-8.
+    /// The subsection of an `ObjectLinking` is well-formed: its items are well-formed and their number is at most 2^32 - 1, or its name is UTF-8. No other subsection is one of an `ObjectLinking`.
     ///
     /// ```text
     /// abbrev pub IsObjectLink : LinkItem → Type 0
@@ -1451,9 +1484,10 @@ pub trait linking {
     /// IsObjectLink (Comdats comdats) = IsEncodableVec IsComdat comdats
     /// IsObjectLink (Symbols symbols) = IsEncodableVec IsObjectSymbol symbols
     /// IsObjectLink (Target n) = IsUtf8 n
+    /// IsObjectLink (OtherLink id content) = ⊥
     /// ```
     ///
-    /// Definitions: [`LinkItem`](linking::LinkItem), [`Segments`](linking::LinkItem), [`IsEncodableVec`](super::base::encodings::IsEncodableVec), [`IsSegment`](segments::IsSegment), [`InitFunctions`](linking::LinkItem), [`IsInit`](init_functions::IsInit), [`Comdats`](linking::LinkItem), [`IsComdat`](comdats::IsComdat), [`Symbols`](linking::LinkItem), [`IsObjectSymbol`](symbols::IsObjectSymbol), [`Target`](linking::LinkItem).
+    /// Definitions: [`LinkItem`](linking::LinkItem), [`Segments`](linking::LinkItem), [`IsEncodableVec`](super::base::encodings::IsEncodableVec), [`IsSegment`](segments::IsSegment), [`InitFunctions`](linking::LinkItem), [`IsInit`](init_functions::IsInit), [`Comdats`](linking::LinkItem), [`IsComdat`](comdats::IsComdat), [`Symbols`](linking::LinkItem), [`IsObjectSymbol`](symbols::IsObjectSymbol), [`Target`](linking::LinkItem), [`OtherLink`](linking::LinkItem).
     type IsObjectLink;
     /// The formats of a subsection by its id, as the builders' grammar has them: a symbol table after 8, the name of an architecture after 9.
     ///
@@ -1489,14 +1523,23 @@ pub trait linking {
     ///
     /// Definitions: [`Format`](super::base::formats::Format), [`LinkItem`](linking::LinkItem), [`mapped`](super::base::formats::mapped), [`Segments`](linking::LinkItem), [`size_prefixed`](super::base::formats::size_prefixed), [`vec`](super::base::formats::vec), [`segment`](segments::segment), [`InitFunctions`](linking::LinkItem), [`init_function`](init_functions::init_function), [`Comdats`](linking::LinkItem), [`comdat`](comdats::comdat), [`Symbols`](linking::LinkItem), [`full_symbol`](symbols::full_symbol), [`Target`](linking::LinkItem), [`name`](super::base::formats::name).
     type full_link_tags;
+    /// The format of a subsection of any other id: its content is not decoded.
+    ///
+    /// ```text
+    /// abbrev pub other_link : ℕ → Format LinkItem
+    /// other_link id = mapped (OtherLink id) (size_prefixed any_bytes)
+    /// ```
+    ///
+    /// Definitions: [`Format`](super::base::formats::Format), [`LinkItem`](linking::LinkItem), [`mapped`](super::base::formats::mapped), [`OtherLink`](linking::LinkItem), [`size_prefixed`](super::base::formats::size_prefixed), [`any_bytes`](super::base::formats::any_bytes).
+    type other_link;
     /// A subsection of any kind: an id, then its size-prefixed content.
     ///
     /// ```text
     /// abbrev pub full_link : Format LinkItem
-    /// full_link = tagged byte (choice full_link_tags (λ b. impossible))
+    /// full_link = tagged byte (choice full_link_tags other_link)
     /// ```
     ///
-    /// Definitions: [`Format`](super::base::formats::Format), [`LinkItem`](linking::LinkItem), [`tagged`](super::base::formats::tagged), [`byte`](super::base::formats::byte), [`choice`](super::base::formats::choice), [`full_link_tags`](linking::full_link_tags), [`impossible`](super::base::formats::impossible).
+    /// Definitions: [`Format`](super::base::formats::Format), [`LinkItem`](linking::LinkItem), [`tagged`](super::base::formats::tagged), [`byte`](super::base::formats::byte), [`choice`](super::base::formats::choice), [`full_link_tags`](linking::full_link_tags), [`other_link`](linking::other_link).
     type full_link;
     /// A subsection: in the standard's grammar of any kind, and in the builders' of two kinds.
     ///
@@ -1604,9 +1647,10 @@ pub trait linking {
     /// link_view (items.Comdats comdats) = Comdats (map comdat_view comdats.items)
     /// link_view (items.Symbols symbols) = Symbols (map symbol_view symbols.items)
     /// link_view (items.Arch n) = Target n.now
+    /// link_view (items.Other id bytes) = OtherLink id bytes.now
     /// ```
     ///
-    /// Definitions: [`LinkItem`](linking::LinkItem), [`Segments`](linking::LinkItem), [`segment_view`](segments::segment_view), [`InitFunctions`](linking::LinkItem), [`Comdats`](linking::LinkItem), [`comdat_view`](comdats::comdat_view), [`Symbols`](linking::LinkItem), [`symbol_view`](symbols::symbol_view), [`Target`](linking::LinkItem).
+    /// Definitions: [`LinkItem`](linking::LinkItem), [`Segments`](linking::LinkItem), [`segment_view`](segments::segment_view), [`InitFunctions`](linking::LinkItem), [`Comdats`](linking::LinkItem), [`comdat_view`](comdats::comdat_view), [`Symbols`](linking::LinkItem), [`symbol_view`](symbols::symbol_view), [`Target`](linking::LinkItem), [`OtherLink`](linking::LinkItem).
     type link_view;
 }
 

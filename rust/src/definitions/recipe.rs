@@ -302,6 +302,24 @@ pub trait program {
     /// IsLateRefusal _ = ⊥
     /// ```
     type IsLateRefusal;
+    /// The writer gains a front of these bytes: none of them, some or all.
+    ///
+    /// ```text
+    /// pub record GainsFront (old new : Option (List ℕ)) (bytes : List ℕ) : Type 0 where
+    ///   pub count : ℕ
+    ///   pub gained : Appends old new (take count bytes)
+    /// ```
+    type GainsFront;
+    /// The writer gains nothing, or a front of the list of the sections of the module in this text.
+    ///
+    /// ```text
+    /// abbrev pub GainsFrontOfListing : List ℕ → Option (List ℕ) → Option (List ℕ) → Type 0
+    /// GainsFrontOfListing text old new = Keeps old new
+    ///     ⊎ ((lines : List ℕ) × Lists text lines × GainsFront old new lines)
+    /// ```
+    ///
+    /// Definitions: [`Lists`](listings::Lists), [`GainsFront`](program::GainsFront).
+    type GainsFrontOfListing;
 }
 
 /// Recipes: each line adds an entry to a section, and the sections make a module. Definitions take the version of the recipe, 1 or 2.

@@ -1,4 +1,5 @@
 // Written by tools/to-rust from crates/wasm_insn/src/aggregate.rt: change that.
+// Written by tools/instructions from tools/instructions.tsv: do not edit.
 // Instructions on aggregates and references without immediates: those after the prefix FB.
 
 use crate::insn::instruction::Instruction;

@@ -1,4 +1,5 @@
 // Written by tools/to-rust from crates/wasm_insn/src/numeric.rt: change that.
+// Written by tools/instructions from tools/instructions.tsv: do not edit.
 // Numeric instructions: the one-byte opcodes 45 to C4.
 
 use crate::insn::instruction::Instruction;

@@ -1,4 +1,5 @@
 // Written by tools/to-rust from crates/wasm_insn/src/prefixed_numeric.rt: change that.
+// Written by tools/instructions from tools/instructions.tsv: do not edit.
 // Numeric instructions after the prefix FC: truncations that saturate, and wide arithmetic.
 
 use crate::insn::instruction::Instruction;

@@ -1,4 +1,5 @@
 // Written by tools/to-rust from crates/wasm_insn/src/vector.rt: change that.
+// Written by tools/instructions from tools/instructions.tsv: do not edit.
 // Vector instructions without immediates: those after the prefix FD.
 
 use crate::insn::instruction::Instruction;

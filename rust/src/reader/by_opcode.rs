@@ -1,4 +1,5 @@
 // Written by tools/to-rust from crates/wasm_reader/src/by_opcode.rt: change that.
+// Written by tools/instructions from tools/instructions.tsv: do not edit.
 // The instruction with an opcode and given immediates: a function for each shape of opcodes, which
 // has all of them.
 

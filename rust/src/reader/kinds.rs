@@ -483,9 +483,9 @@ fn append_custom<B: Sink>(name: &str, bytes: &[u8], sink: &mut B) -> Result<()> 
 /// Appends the minimal encoding of a section's payload with these items, as builders write it. On
 /// an error, the sink is unchanged.
 ///
-/// It is the inverse of [`read_section`](crate::reader::read_section) and
-/// [`Section::items`](crate::reader::Section::items). [`RawSection`](crate::base::RawSection) adds the id and
-/// the size prefix that make a section of the payload.
+/// [`read_section`](crate::reader::read_section) and [`Section::items`](crate::reader::Section::items) return such
+/// items. [`RawSection`](crate::base::RawSection) adds the id and the size prefix that make a section
+/// of the payload.
 ///
 /// The call promises nothing for items that no bytes encode: an instruction whose immediates are
 /// not those of its opcode, say.

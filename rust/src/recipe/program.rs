@@ -8,7 +8,7 @@ use crate::recipe::fault::{RecipeCause, RecipeFault};
 use crate::recipe::listing::listing;
 use crate::recipe::recipe::assemble;
 use crate::alloc::{AllocError, Allocator};
-use std::io::{Read, Write};
+use std::io::{ErrorKind, Read, Write};
 use crate::base::ReadFault;
 
 /// The error of the program.
@@ -243,21 +243,36 @@ fn answer<A: Allocator + Copy, I: Read>(
     Err(Trouble::Usage)
 }
 
-/// Writes the output. Returns the exit status: 0, or 1 if writing fails.
+/// Writes the output. Returns the exit status: 0, or 1 if writing fails, after which a front of the
+/// output may have been written.
 ///
 /// # Proved
 ///
+/// - In any case: `out`, `status`.
+/// - `part`: The writer gains a front of these bytes: none of them, some or all.
+///
 /// ```text
 /// ensures out { result ≡ 0 → Appends (O.contents out.old) (O.contents out.new) text.now }
+/// ensures part { GainsFront (O.contents out.old) (O.contents out.new) text.now }
 /// ensures status { result ≤ 1 }
 /// ```
 ///
-/// [How to read clauses](crate::definitions).
+/// Definitions: [`GainsFront`](crate::definitions::recipe::program::GainsFront). [How to read clauses](crate::definitions).
 fn write_text<O: Write>(out: &mut O, text: &[u8]) -> u8 {
-    match out.write_all(text) {
-        Ok(()) => 0,
-        Err(_) => 1,
+    let mut rest = text;
+    for _call in 0..u64::MAX {
+        if rest.is_empty() {
+            return 0;
+        }
+        let count = match out.write(rest) {
+            Ok(0) => return 1,
+            Ok(count) => count,
+            Err(error) if error.kind() == ErrorKind::Interrupted => 0,
+            Err(_) => return 1,
+        };
+        rest = &rest[count..];
     }
+    1
 }
 
 /// Reports the error. Returns the exit status: 2 for an error of usage that was written, and 1
@@ -315,6 +330,12 @@ fn report<E: Write>(err: &mut E, trouble: &Trouble) -> u8 {
 /// ensures kept { result ≡ 2 → Keeps (O.contents out.old) (O.contents out.new) }
 /// ensures unasked { (((length args.now ≡ 0) ⊎ AsksToRead args.now) → ⊥)
 ///     → Keeps (O.contents out.old) (O.contents out.new) }
+/// ensures part { length args.now ≡ 0
+///     → IfSome (I.remaining input.old)
+///     (λ text. GainsFront (O.contents out.old) (O.contents out.new) (hex_line_of text)) }
+/// ensures listed_part { AsksToRead args.now
+///     → IfSome (I.remaining input.old)
+///     (λ text. GainsFrontOfListing text (O.contents out.old) (O.contents out.new)) }
 /// ensures unread { (IsAtEnd (I.remaining input.new) → ⊥)
 ///     → Keeps (O.contents out.old) (O.contents out.new) }
 /// ensures faulty { length args.now ≡ 0
@@ -328,7 +349,7 @@ fn report<E: Write>(err: &mut E, trouble: &Trouble) -> u8 {
 /// ensures status { result ≤ 2 }
 /// ```
 ///
-/// Definitions: [`AsksToRead`](crate::definitions::recipe::listings::AsksToRead), [`IsGood`](crate::definitions::recipe::recipe::IsGood), [`lines_of`](crate::definitions::recipe::lines::lines_of), [`hex_line_of`](crate::definitions::recipe::program::hex_line_of), [`Lists`](crate::definitions::recipe::listings::Lists). [How to read clauses](crate::definitions).
+/// Definitions: [`AsksToRead`](crate::definitions::recipe::listings::AsksToRead), [`IsGood`](crate::definitions::recipe::recipe::IsGood), [`lines_of`](crate::definitions::recipe::lines::lines_of), [`hex_line_of`](crate::definitions::recipe::program::hex_line_of), [`Lists`](crate::definitions::recipe::listings::Lists), [`GainsFront`](crate::definitions::recipe::program::GainsFront), [`GainsFrontOfListing`](crate::definitions::recipe::program::GainsFrontOfListing). [How to read clauses](crate::definitions).
 pub fn run<A: Allocator + Copy, I: Read, O: Write, E: Write>(
     alloc: A,
     args: &[String<A>],

@@ -1,12 +1,11 @@
 // Written by tools/to-rust from crates/examples/src/lib.rt: change that.
-//! Callers that prove the results of their calls from the contracts alone. Those at the root prove
-//! to which items their modules decode; `docs/PROOFS.md` has their lemmas. [`calls`] has callers of
-//! single calls, and [`read_back`] writes sections, decodes them and minimizes them.
+//! Callers that prove to which items their modules decode, from the contracts alone.
+//! `docs/PROOFS.md` has their lemmas. The crate `calls` has callers of single calls, and `read_back`
+//! writes sections, decodes them and minimizes them.
 
 mod adding;
 mod alone;
 mod bodies;
-pub mod calls;
 mod compiled;
 mod coverage;
 mod filled;
@@ -18,7 +17,6 @@ mod minimized;
 mod names;
 mod object;
 mod padded;
-pub mod read_back;
 mod recursion;
 mod stripped;
 mod sums;

@@ -18,5 +18,6 @@ mod size;
 mod strip;
 #[path = "../support/tools.rs"]
 mod tools;
+mod unknown;
 mod usage;
 mod wasmrow;

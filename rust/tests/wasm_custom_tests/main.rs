@@ -42,4 +42,7 @@ mod relocations;
 mod sections;
 #[cfg(test)]
 #[rustfmt::skip]
+mod unknown_subsections;
+#[cfg(test)]
+#[rustfmt::skip]
 mod whole_refusals;

@@ -3,11 +3,11 @@
 
 use dolzhytik::fallible::Vec;
 use crate::checks::check_bytes;
-use crate::examples::calls::decodings::{load_of_alignment_16, pieces_of_a_constant};
-use crate::examples::calls::instructions::{append_call, append_end, append_sum, block};
-use crate::examples::read_back::handed::{code_of, encode_listed_exports};
-use crate::examples::read_back::{shortened_function, write_function, write_names, written_function, written_names};
+use crate::calls::decodings::{load_of_alignment_16, pieces_of_a_constant};
+use crate::calls::instructions::{append_call, append_end, append_sum, block};
 use crate::examples::{encode_given_import, encode_memories, grow, grow_by_each};
+use crate::read_back::handed::{code_of, encode_listed_exports};
+use crate::read_back::{shortened_function, write_function, write_names, written_function, written_names};
 use crate::test_support::{MOST, Refusing};
 use dolzhytik::fallible::Encode;
 use dolzhytik::fallible::Function;

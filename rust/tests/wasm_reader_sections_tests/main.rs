@@ -1,6 +1,6 @@
 // Written by tools/to-rust from tests/wasm_reader_sections_tests/src/lib.rtt: change that.
-//! Tests of `wasm_reader` and `examples`: bytes that were worked out from the format's documents,
-//! and failing requests for memory.
+//! Tests of `wasm_reader` and of the worked callers: bytes that were worked out from the format's
+//! documents, and failing requests for memory.
 
 #![allow(unused_imports, unused_variables, clippy::all)]
 
@@ -14,6 +14,14 @@ mod test_support;
 #[path = "../examples/mod.rs"]
 #[rustfmt::skip]
 mod examples;
+#[allow(dead_code)]
+#[path = "../calls/mod.rs"]
+#[rustfmt::skip]
+mod calls;
+#[allow(dead_code)]
+#[path = "../read_back/mod.rs"]
+#[rustfmt::skip]
+mod read_back;
 #[cfg(test)]
 #[rustfmt::skip]
 mod appended;

@@ -5,7 +5,7 @@ use dolzhytik::fallible::Vec;
 use crate::checks::check_bytes;
 use crate::rows::{BEFORE_BYTE, DATA, before_data};
 use crate::{custom_rows, faults, rows};
-use crate::examples::read_back::padded_function;
+use crate::read_back::padded_function;
 use dolzhytik::fallible::Global;
 use crate::host::Abort;
 use crate::test_support::{MOST, Refusing};

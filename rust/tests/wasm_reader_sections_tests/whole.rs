@@ -3,8 +3,8 @@
 
 use dolzhytik::fallible::Vec;
 use crate::checks::check_bytes;
-use crate::examples::read_back::{shortened_twice, smaller_module};
 use crate::examples::{minimal_body, minimal_payload, one_byte_reference};
+use crate::read_back::{shortened_twice, smaller_module};
 use dolzhytik::fallible::Global;
 use crate::host::Abort;
 use crate::test_support::{MOST, Refusing};

@@ -4,15 +4,15 @@
 
 use dolzhytik::fallible::Vec;
 use crate::checks::check_bytes;
-use crate::examples::read_back::custom::{read_custom, read_features, read_hints, read_linking, read_more_names, read_producers};
-use crate::examples::read_back::debug_files::{read_build_id, read_debug_file, read_source_map};
-use crate::examples::read_back::declared::{read_exports, read_imports, read_memories, read_tables, read_tags, read_types};
-use crate::examples::read_back::dumps::{core_dump, read_instances, read_modules, read_process, read_stack};
-use crate::examples::read_back::dylink::read_dylink;
-use crate::examples::read_back::handed::handed_module;
-use crate::examples::read_back::padded::{padded_entries, read_padded_segment, write_padded_bodies};
-use crate::examples::read_back::relocations::read_relocations;
-use crate::examples::read_back::stored::{read_bodies, read_data_count, read_elements, read_globals, read_segments, read_start};
+use crate::read_back::custom::{read_custom, read_features, read_hints, read_linking, read_more_names, read_producers};
+use crate::read_back::debug_files::{read_build_id, read_debug_file, read_source_map};
+use crate::read_back::declared::{read_exports, read_imports, read_memories, read_tables, read_tags, read_types};
+use crate::read_back::dumps::{core_dump, read_instances, read_modules, read_process, read_stack};
+use crate::read_back::dylink::read_dylink;
+use crate::read_back::handed::handed_module;
+use crate::read_back::padded::{padded_entries, read_padded_segment, write_padded_bodies};
+use crate::read_back::relocations::read_relocations;
+use crate::read_back::stored::{read_bodies, read_data_count, read_elements, read_globals, read_segments, read_start};
 use dolzhytik::fallible::Global;
 use crate::host::Abort;
 use crate::test_support::{MOST, Refusing};

@@ -11,9 +11,9 @@ mod host;
 #[path = "../test_support/mod.rs"]
 mod test_support;
 #[allow(dead_code)]
-#[path = "../examples/mod.rs"]
+#[path = "../calls/mod.rs"]
 #[rustfmt::skip]
-mod examples;
+mod calls;
 #[cfg(test)]
 #[rustfmt::skip]
 mod base;

@@ -2,8 +2,8 @@
 // Tests of the instruction visitor, with ample memory.
 
 use dolzhytik::fallible::Vec;
-use crate::examples::calls::operands::{count_calls, labels_of};
-use crate::examples::calls::walks::{count_instructions, offset_after};
+use crate::calls::operands::{count_calls, labels_of};
+use crate::calls::walks::{count_instructions, offset_after};
 use dolzhytik::fallible::Global;
 use crate::host::Abort;
 use dolzhytik::reader::{DecodeError, ReadFault};

@@ -4,7 +4,7 @@
 use dolzhytik::fallible::Vec;
 use crate::checks::{check, check_bytes, check_number, check_piece, check_that};
 use crate::functions::without_locals;
-use crate::examples::calls::bodies::branch_on_one;
+use crate::calls::bodies::branch_on_one;
 use dolzhytik::fallible::Global;
 use crate::host::Abort;
 use dolzhytik::fallible::{HeapType, Result, Section, ValType, add_all};

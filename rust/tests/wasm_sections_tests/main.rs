@@ -11,9 +11,13 @@ mod host;
 #[path = "../test_support/mod.rs"]
 mod test_support;
 #[allow(dead_code)]
-#[path = "../examples/mod.rs"]
+#[path = "../calls/mod.rs"]
 #[rustfmt::skip]
-mod examples;
+mod calls;
+#[allow(dead_code)]
+#[path = "../read_back/mod.rs"]
+#[rustfmt::skip]
+mod read_back;
 #[cfg(test)]
 #[rustfmt::skip]
 mod checks;

@@ -4,7 +4,7 @@
 use dolzhytik::fallible::Vec;
 use crate::checks::{check_bytes, check_piece, check_that};
 use crate::samples::{GLOBAL, LIMITED_MEMORY, LIMITED_TABLE, MEMORY, SET_GLOBAL, TABLE, TAG};
-use crate::examples::calls::first_values::{encode_copied, encode_null_tables};
+use crate::read_back::first_values::{encode_copied, encode_null_tables};
 use dolzhytik::fallible::Global;
 use crate::host::Abort;
 use dolzhytik::fallible::{Counted, CowSlice, Encode, HeapType, Section, ValType, add_all};

@@ -549,6 +549,9 @@ impl Show for LinkItem<'_> {
             LinkItem::Comdats(comdats) => Count(comdats.len() as u64, "COMDAT group").fmt(f),
             LinkItem::Symbols(symbols) => Count(symbols.len() as u64, "symbol").fmt(f),
             LinkItem::Arch(name) => write!(f, "target {name:?}"),
+            LinkItem::Other { id, bytes } => {
+                write!(f, "subsection {id}: {}", Count(bytes.len() as u64, "byte"))
+            }
             _ => f.write_str(OTHER),
         }
     }

@@ -13,7 +13,7 @@ from .walk import Walk
 CRATES = TOP / "crates"
 
 # Crates whose functions programs call, and not crates.
-OUTERMOST = {"adder", "examples", "test_support", "wasm_bench", "wasm_c", "wasmrow"}
+OUTERMOST = {"adder", "calls", "examples", "read_back", "test_support", "wasm_bench", "wasm_c", "wasmrow"}
 
 
 @dataclass(frozen=True)

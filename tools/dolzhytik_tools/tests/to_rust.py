@@ -44,7 +44,7 @@ FORMS = {
     'place': [(re.escape(' '.join(solid_words(it.old))), re.escape(' '.join(solid_words(it.new)))) for it in PLACES],
     'use': [(r'use [^;]* ;', r'(?:use [^;]* ; ?)*')],
     'export': [(r'pub use [^;]* ;', r'(?:(?:# \[ doc \( alias = "[^"]*" \) \] )*pub (?:\( crate \) )?use [^;]* ; ?)+')],
-    'path': [('crate', r'(?:in )?crate(?: : : \w+)+'), (r'wasm_\w+(?: : : laws)?|hex', r'(?:crate|dolzhytik)(?: : : \w+)+'), ('test_support|examples', r'crate : : \w+')],
+    'path': [('crate', r'(?:in )?crate(?: : : \w+)+'), (r'wasm_\w+(?: : : laws)?|hex', r'(?:crate|dolzhytik)(?: : : \w+)+'), ('test_support|examples|calls|read_back', r'crate : : \w+')],
     'link': [('', '')],
     'replaced': [('', '')],
     'prose': [('', '')],

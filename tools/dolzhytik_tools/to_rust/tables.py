@@ -81,7 +81,7 @@ TESTS = [
 # functions are in a module `calls`.
 BORDERS = {'wasm_c': 'c', 'wasm_bench': 'bench'}
 # The crates that tests share, and the worked callers.
-BESIDE_TESTS = ['test_support', 'examples']
+BESIDE_TESTS = ['test_support', 'examples', 'calls', 'read_back']
 # Sources whose Rust is written by hand: an allocator of Rattle has more methods than one of the
 # package.
 BY_HAND = {'test_support/lib.rt', 'test_support/memory.rt', 'test_support/tests.rt'}
@@ -172,8 +172,8 @@ PLACES = [
     # A clone of an allocator cannot fail.
     Place('wasm_base/src/modules.rt', 'self.bytes.allocator().clone()?', 'self.bytes.allocator().clone()'),
     # A vector with `Clone` is std's.
-    Place('examples/src/calls/segments.rt', "segment: &DataSegment<'a, Vec<u8>>", "segment: &DataSegment<'a, std::vec::Vec<u8>>"),
-    Place('examples/src/calls/segments.rt', "-> Result<DataSegment<'a, Vec<u8>>>", "-> Result<DataSegment<'a, std::vec::Vec<u8>>>"),
+    Place('calls/src/segments.rt', "segment: &DataSegment<'a, Vec<u8>>", "segment: &DataSegment<'a, std::vec::Vec<u8>>"),
+    Place('calls/src/segments.rt', "-> Result<DataSegment<'a, Vec<u8>>>", "-> Result<DataSegment<'a, std::vec::Vec<u8>>>"),
     # The caller's bytes have their own `Clone`.
     Place('wasm_sections/src/data.rt', 'self.bytes.clone()?', 'self.bytes.clone()'),
     # The proof saves the bounds check of bytes that are copied 16 at a time. Rust copies a run of
@@ -185,8 +185,8 @@ PLACES = [
     Place('wasm_base/src/cow.rt', "T: Copy", "T: Clone"),
     Place('wasm_insn/src/ranged.rt', 'trait Ranged: Copy', 'trait Ranged: Clone'),
     Place('wasm_insn/src/ranged.rt', 'item.ranged();', 'item.clone().ranged();'),
-    Place('examples/src/read_back/dumps.rt', 'locals.iter().copied()', 'locals.iter().cloned()'),
-    Place('examples/src/calls/once/custom.rt', '[missing], [missing]', '[missing.clone()], [missing]'),
+    Place('read_back/src/dumps.rt', 'locals.iter().copied()', 'locals.iter().cloned()'),
+    Place('calls/src/once/custom.rt', '[missing], [missing]', '[missing.clone()], [missing]'),
     Place('wasm_reader_sections_tests/src/custom_seen.rtt', 'symbol_told(*symbol)', 'symbol_told(symbol.clone())'),
     Place('wasm_reader_sections_tests/src/custom_seen.rtt', 'value_told(*local)', 'value_told(local.clone())'),
     Place('wasm_reader_sections_tests/src/custom_seen.rtt', 'value_told(*top)', 'value_told(top.clone())'),

@@ -14,7 +14,7 @@ PROGRAMS = [
     'wasm_tool_tests',
     'wasm_types_tests',
 ]
-SHARED = ['examples', 'support', 'test_support']
+SHARED = ['calls', 'examples', 'read_back', 'support', 'test_support']
 PROCESS = 'a process'
 NEED_PROCESSES = {'compiled', 'coverage', 'object', 'program'}
 # The items that are left out, by their files and their needs. A `usize` literal past 32 bits

@@ -3,7 +3,7 @@ use crate::cursor::Cursor;
 use crate::failure::Failure;
 use crate::files::Input;
 use crate::sections::Section;
-use dolzhytik::reader::{Items, LinkItem, ReadError, Symbol};
+use dolzhytik::reader::{DylinkItem, Items, LinkItem, ReadError, Symbol};
 
 /// The kind of a section in a COMDAT group.
 const COMDAT_SECTION: u8 = 5;
@@ -31,9 +31,24 @@ pub fn target(section: &Section<'_>) -> Option<usize> {
     Some(index?.ok()? as usize)
 }
 
-/// Returns the highest index that the section holds, if it holds any. Indices that do not decode
-/// may be any.
+/// Whether the section has a subsection of an unknown id, which may hold any indices and offsets.
+pub fn has_unknown_subsection(section: &Section<'_>) -> bool {
+    if !matches!(section.name(), Some("linking" | "dylink.0")) {
+        return false;
+    }
+    match section.items() {
+        Ok(Items::Linking(items)) => items.iter().any(|it| matches!(it, LinkItem::Other { .. })),
+        Ok(Items::Dylink(items)) => items.iter().any(|it| matches!(it, DylinkItem::Other { .. })),
+        _ => false,
+    }
+}
+
+/// Returns the highest index that the section holds, if it holds any. Indices that do not decode,
+/// or that are in an unknown subsection, may be any.
 pub fn highest_index(section: &Section<'_>) -> Option<usize> {
+    if has_unknown_subsection(section) {
+        return Some(usize::MAX);
+    }
     let indices = section_indices(section).and_then(|mut indices| {
         indices.extend(grouped_sections(section)?);
         Ok(indices)

@@ -1,5 +1,5 @@
 use Rattle.examples.proofs.Common.{sym, subst, ◌∙◌, no_header, no_module, next_error, next_section, section_ahead, IsStripped, stripped_custom, stripped_done, stripped_kept}
-use Rattle.examples.proofs.IteratedLaws.{error_stays}
+use Rattle.examples.proofs.StrippedLaws.{error_stays}
 use Rattle.examples.proofs.stripped.without_custom.Goals as goal
 
 pub returns-in_err-sections-clause-none : goal.returns-in_err-sections-clause-none

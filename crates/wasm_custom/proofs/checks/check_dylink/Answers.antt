@@ -1,6 +1,6 @@
-use Rattle.wasm_base.proofs.Words.{false, refl, tagged_begins, fault_stays}
+use Rattle.wasm_base.proofs.Words.{false, refl, fault_stays}
 use Rattle.wasm_custom.specs.{dylink_name, dylink_item}
-use Rattle.wasm_custom.proofs.DylinkLaws.{section_none, section_rejects}
+use Rattle.wasm_custom.proofs.DylinkLaws.{dylink_begins, section_none, section_rejects}
 use Rattle.wasm_custom.proofs.DecodeNamed.{items_fill}
 use Rattle.wasm_custom.proofs.checks.check_dylink.Goals as goal
 
@@ -11,7 +11,7 @@ pub returns-in_err-check_to_end-clause-none : goal.returns-in_err-check_to_end-c
 returns-in_err-check_to_end-clause-none g c = fault_stays c.from_residual-in_err-check_to_end.result _ c.from_residual-in_err-check_to_end.ensures.1 λ n. section_rejects c.args.bytes.now _ c.in_ok-rest.ensures.found (c.in_err-check_to_end.ensures.none n)
 
 pub check_to_end-requires : goal.check_to_end-requires
-check_to_end-requires g c = λ l. ((refl, tt), λ mode s x h. tagged_begins mode s x h)
+check_to_end-requires g c = λ l. ((refl, tt), λ mode s x h. dylink_begins mode s x h)
 
 pub returns-clause-found : goal.returns-clause-found
 returns-clause-found g c =

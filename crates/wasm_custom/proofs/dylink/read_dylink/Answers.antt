@@ -1,4 +1,4 @@
-use Rattle.wasm_custom.proofs.Common.{refl, tagged_begins, fault_stays, section_none, section_fills, section_rejects}
+use Rattle.wasm_custom.proofs.Common.{refl, dylink_begins, fault_stays, section_none, section_fills, section_rejects}
 use Rattle.wasm_custom.proofs.dylink.read_dylink.Goals as goal
 
 pub returns-in_err-rest-clause-none : goal.returns-in_err-rest-clause-none
@@ -11,4 +11,4 @@ pub returns-clause-found : goal.returns-clause-found
 returns-clause-found g c = search (section_fills, c.in_ok-rest.ensures.found, c.in_ok-items.ensures.found)
 
 pub read_to_end-requires : goal.read_to_end-requires
-read_to_end-requires g c = λ l. ((refl, tt), λ mode s x h. tagged_begins mode s x h)
+read_to_end-requires g c = λ l. ((refl, tt), λ mode s x h. dylink_begins mode s x h)

@@ -1,7 +1,7 @@
 //! Minimizes a module section by section, where some sections stay, are dropped or follow others.
 use crate::failure::Failure;
 use crate::files::Input;
-use crate::references::{check_removal, section_indices};
+use crate::references::{check_removal, has_unknown_subsection, section_indices};
 use crate::sections::{Section, sections_of};
 use crate::shorten::choice::{BUILD_ID, Choice, HINTS, Target};
 use crate::shorten::hints;
@@ -39,8 +39,12 @@ pub fn rewrite<'a>(
 }
 
 /// Returns which sections stay byte for byte, so that offsets stay right: code and data, those that
-/// relocations or symbols name, and with a source map all before the code.
+/// relocations or symbols name, with a source map all before the code, and with an unknown
+/// subsection all.
 fn kept(input: &Input, sections: &[Section<'_>]) -> Result<Vec<bool>, Failure> {
+    if sections.iter().any(has_unknown_subsection) {
+        return Ok(vec![true; sections.len()]);
+    }
     let is_map = |it: &Section<'_>| it.name() == Some("sourceMappingURL");
     let is_code_or_data = |it: &Section<'_>| matches!(it.id(), 10 | 11);
     let mut kept: Vec<bool> = sections.iter().map(is_code_or_data).collect();
@@ -101,6 +105,13 @@ impl Changes {
     }
 }
 
+/// Returns the target of the section's offsets. An unknown subsection may hold offsets into code and
+/// data.
+fn target_of(section: &Section<'_>) -> Option<Target> {
+    let is_unknown = has_unknown_subsection(section);
+    Target::of(section).or(is_unknown.then_some(Target::CodeAndData))
+}
+
 /// Fails if offsets in a section that is written become wrong. Branch hints are adjusted before.
 fn check_offsets(input: &Input, rewrites: &[Rewrite<'_>], choice: Choice) -> Result<(), Failure> {
     let changes = Changes::of(rewrites);
@@ -110,7 +121,7 @@ fn check_offsets(input: &Input, rewrites: &[Rewrite<'_>], choice: Choice) -> Res
             Some(BUILD_ID) => choice.build_id.is_some(),
             _ => false,
         };
-        !is_right && Target::of(&rewrite.section).is_some_and(|target| changes.lose(target))
+        !is_right && target_of(&rewrite.section).is_some_and(|target| changes.lose(target))
     };
     let lost = rewrites.iter().filter(is_lost).map(|it| &it.section);
     refusal(input, lost).map_or(Ok(()), Err)

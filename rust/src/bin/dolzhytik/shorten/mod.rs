@@ -85,19 +85,20 @@ fn savings_of<'a>(input: &Input, before: &'a [u8], after: &[u8]) -> Result<Savin
     Ok(Savings(before.into_iter().map(saving).collect()))
 }
 
-/// Whether the module has branch hints. A section that has no id or size ends the search: whoever
-/// writes the module reports it.
-fn has_hints(module: &[u8]) -> bool {
+/// Whether the module has branch hints, or a section of a dynamic library, which may have unknown
+/// subsections. A section that has no id or size ends the search: whoever writes the module reports
+/// it.
+fn is_by_section(module: &[u8]) -> bool {
     let sections = Sections::new(Global, module).into_iter().flatten();
     let mut names = sections.map_while(Result::ok).map(|section| section.name());
-    names.any(|name| name == Some(HINTS))
+    names.any(|name| matches!(name, Some(HINTS | "dylink.0")))
 }
 
 /// Minimizes a module: by the library's call, which is proved, unless code stays, `build_id` has a
-/// choice of its own, or there are branch hints to adjust.
+/// choice of its own, there are branch hints to adjust, or the module is a dynamic library.
 fn shortened<'a>(input: &Input, bytes: &'a [u8], choice: Choice) -> Result<Shortened<'a>, Failure> {
     let is_plain = !choice.keeps_code && choice.build_id.is_none();
-    if is_plain && (choice.offsets == Offsets::LeaveOut || !has_hints(bytes)) {
+    if is_plain && (choice.offsets == Offsets::LeaveOut || !is_by_section(bytes)) {
         return whole(bytes, choice.offsets).map_err(|fault| why_not(input, bytes, fault));
     }
     let rewrites = by_section::rewrite(input, bytes, choice)?;

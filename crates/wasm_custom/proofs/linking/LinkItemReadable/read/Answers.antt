@@ -1,3 +1,5 @@
+use Rattle.wasm_base.proofs.Words.{arith}
+use Rattle.wasm_custom.proofs.LinkLaws.{others_decodes, others_none}
 use Rattle.wasm_custom.proofs.Common.{fault_stays, link_none, segments_decodes, segments_none, inits_decodes, inits_none, comdats_decodes, comdats_none, symbols_decodes, symbols_none}
 use Rattle.wasm_custom.proofs.linking.LinkItemReadable.read.Goals as goal
 
@@ -31,3 +33,10 @@ returns-in_err-symbols-in-8-clause-none g c = fault_stays c.from_residual-in_err
 
 pub returns-in_ok-symbols-in-8-clause-found : goal.returns-in_ok-symbols-in-8-clause-found
 returns-in_ok-symbols-in-8-clause-found g c = symbols_decodes g.G.Grammar.grammar c.args.bytes.now _ _ _ _ c.in_ok-id.ensures.found c.in-8.is c.in_ok-symbols-in-8.ensures.found
+
+pub returns-in_err-bytes-in_default-clause-none : goal.returns-in_err-bytes-in_default-clause-none
+returns-in_err-bytes-in_default-clause-none g c = fault_stays c.from_residual-in_err-bytes-in_default.result _ c.from_residual-in_err-bytes-in_default.ensures.1 λ n.
+    others_none g.G.Grammar.grammar c.args.bytes.now _ _ c.in_ok-id.ensures.found (omega arith, (omega arith, (omega arith, (omega arith, (omega arith, tt))))) c.in_ok-require_standard-in_default.ensures.found (c.in_err-bytes-in_default.ensures.none n)
+
+pub returns-in_ok-bytes-in_default-clause-found : goal.returns-in_ok-bytes-in_default-clause-found
+returns-in_ok-bytes-in_default-clause-found g c = others_decodes g.G.Grammar.grammar c.args.bytes.now _ _ _ _ c.in_ok-id.ensures.found (omega arith, (omega arith, (omega arith, (omega arith, (omega arith, tt))))) c.in_ok-require_standard-in_default.ensures.found c.in_ok-bytes-in_default.ensures.found

@@ -1,6 +1,6 @@
-use Rattle.wasm_base.proofs.Words.{fault_stays}
-use Rattle.wasm_custom.proofs.LinkLaws.{link_none, segments_none, inits_none, comdats_none, symbols_none, arch_none}
-use Rattle.wasm_custom.proofs.SharedFormats.{segments_minimize, inits_minimize, comdats_minimize, symbols_minimize, arch_minimizes}
+use Rattle.wasm_base.proofs.Words.{arith, fault_stays}
+use Rattle.wasm_custom.proofs.LinkLaws.{others_none, link_none, segments_none, inits_none, comdats_none, symbols_none, arch_none}
+use Rattle.wasm_custom.proofs.SharedFormats.{others_minimize, segments_minimize, inits_minimize, comdats_minimize, symbols_minimize, arch_minimizes}
 use Rattle.wasm_custom.proofs.minimize.LinkItemMinimize.minimize.Goals as goal
 
 pub returns-in_err-id-clause-none : goal.returns-in_err-id-clause-none
@@ -40,3 +40,10 @@ returns-in_err-rest-in-9-clause-none g c = fault_stays c.from_residual-in_err-re
 
 pub returns-in_ok-rest-in-9-clause-found : goal.returns-in_ok-rest-in-9-clause-found
 returns-in_ok-rest-in-9-clause-found g c = arch_minimizes g.G.Grammar.grammar c.in_ok-id.ensures.found c.in_ok-encode.ensures.appends.ok c.in-9.is c.in_ok-rest-in-9.ensures.found
+
+pub returns-in_err-rest-in_default-clause-none : goal.returns-in_err-rest-in_default-clause-none
+returns-in_err-rest-in_default-clause-none g c = fault_stays c.from_residual-in_err-rest-in_default.result _ c.from_residual-in_err-rest-in_default.ensures.1 λ n.
+    others_none g.G.Grammar.grammar c.args.bytes.now _ _ c.in_ok-id.ensures.found (omega arith, (omega arith, (omega arith, (omega arith, (omega arith, tt))))) c.in_ok-require_standard-in_default.ensures.found (c.in_err-rest-in_default.ensures.none n)
+
+pub returns-in_ok-rest-in_default-clause-found : goal.returns-in_ok-rest-in_default-clause-found
+returns-in_ok-rest-in_default-clause-found g c = others_minimize g.G.Grammar.grammar c.in_ok-id.ensures.found c.in_ok-encode.ensures.appends.ok (omega arith, (omega arith, (omega arith, (omega arith, (omega arith, tt))))) c.in_ok-require_standard-in_default.ensures.found c.in_ok-rest-in_default.ensures.found

@@ -1,6 +1,6 @@
-use Rattle.wasm_base.proofs.Words.{fault_stays}
-use Rattle.wasm_custom.specs.Linking.{Target, Segments, InitFunctions, Comdats, Symbols}
-use Rattle.wasm_custom.proofs.LinkLaws.{link_none, segments_decodes, segments_none, inits_skip, inits_none, comdats_decodes, comdats_none, symbols_decodes, symbols_none, arch_decodes, arch_none}
+use Rattle.wasm_base.proofs.Words.{arith, fault_stays}
+use Rattle.wasm_custom.specs.Linking.{OtherLink, Target, Segments, InitFunctions, Comdats, Symbols}
+use Rattle.wasm_custom.proofs.LinkLaws.{others_decodes, others_none, link_none, segments_decodes, segments_none, inits_skip, inits_none, comdats_decodes, comdats_none, symbols_decodes, symbols_none, arch_decodes, arch_none}
 use Rattle.wasm_custom.proofs.skip.LinkItemSkip.skip.Goals as goal
 
 pub returns-in_err-id-clause-none : goal.returns-in_err-id-clause-none
@@ -45,3 +45,12 @@ pub returns-in_ok-rest-in-9-clause-found : goal.returns-in_ok-rest-in-9-clause-f
 returns-in_ok-rest-in-9-clause-found g c =
     let x = c.in_ok-rest-in-9.ensures.found in
     (Target x.0, arch_decodes g.G.Grammar.grammar c.args.bytes.now _ _ _ x.0 c.in_ok-id.ensures.found c.in-9.is x.1)
+
+pub returns-in_err-rest-in_default-clause-none : goal.returns-in_err-rest-in_default-clause-none
+returns-in_err-rest-in_default-clause-none g c = fault_stays c.from_residual-in_err-rest-in_default.result _ c.from_residual-in_err-rest-in_default.ensures.1 λ n.
+    others_none g.G.Grammar.grammar c.args.bytes.now _ _ c.in_ok-id.ensures.found (omega arith, (omega arith, (omega arith, (omega arith, (omega arith, tt))))) c.in_ok-require_standard-in_default.ensures.found (c.in_err-rest-in_default.ensures.none n)
+
+pub returns-in_ok-rest-in_default-clause-found : goal.returns-in_ok-rest-in_default-clause-found
+returns-in_ok-rest-in_default-clause-found g c =
+    let x = c.in_ok-rest-in_default.ensures.found in
+    (OtherLink _ x.0, others_decodes g.G.Grammar.grammar c.args.bytes.now _ _ _ x.0 c.in_ok-id.ensures.found (omega arith, (omega arith, (omega arith, (omega arith, (omega arith, tt))))) c.in_ok-require_standard-in_default.ensures.found x.1)

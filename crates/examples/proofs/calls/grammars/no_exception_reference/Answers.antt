@@ -1,5 +1,0 @@
-use Rattle.examples.proofs.Common.{[], Exn}
-use Rattle.examples.proofs.calls.grammars.no_exception_reference.Goals as goal
-
-pub returns : goal.returns
-returns g c = (c.standard_types.ensures.builders Exn [] (λ e. cc e) (λ e. cc e)).none _ _ c.in_ok-ty.ensures.found

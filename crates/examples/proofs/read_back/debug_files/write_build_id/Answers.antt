@@ -1,5 +1,0 @@
-use Rattle.examples.proofs.Common.{refl, size_prefixed, encodes_custom, build_id_payload}
-use Rattle.examples.proofs.read_back.debug_files.write_build_id.Goals as goal
-
-pub returns : goal.returns
-returns g c = encodes_custom (size_prefixed build_id_payload) _ c.encode.ensures.appends c.encode.ensures.read refl

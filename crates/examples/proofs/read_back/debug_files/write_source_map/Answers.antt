@@ -1,5 +1,0 @@
-use Rattle.examples.proofs.Common.{refl, size_prefixed, encodes_custom, source_map_payload}
-use Rattle.examples.proofs.read_back.debug_files.write_source_map.Goals as goal
-
-pub returns : goal.returns
-returns g c = encodes_custom (size_prefixed source_map_payload) _ c.encode.ensures.appends c.encode.ensures.read (c.utf8.url, refl)

@@ -1,6 +1,0 @@
--- Written by tools/answers.
-use Rattle.examples.proofs.Common.{size_prefixed, encodes_entries, modules_payload}
-use Rattle.examples.proofs.read_back.dumps.write_modules.Goals as goal
-
-pub returns : goal.returns
-returns g c = encodes_entries (size_prefixed modules_payload) _ _ c.encode.ensures.appends c.encode.ensures.read c.in_ok-section.ensures

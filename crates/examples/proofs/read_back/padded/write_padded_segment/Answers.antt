@@ -1,5 +1,0 @@
-use Rattle.examples.proofs.Common.{encodes_items_padded, segments_section}
-use Rattle.examples.proofs.read_back.padded.write_padded_segment.Goals as goal
-
-pub returns : goal.returns
-returns g c = encodes_items_padded segments_section.held_padded c.encode.ensures.appends c.encode.ensures.read c.in_ok-section.ensures

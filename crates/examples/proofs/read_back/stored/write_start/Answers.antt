@@ -1,6 +1,0 @@
--- Written by tools/answers.
-use Rattle.examples.proofs.Common.{◌≡◌, refl, size_prefixed, u32, encodes_custom}
-use Rattle.examples.proofs.read_back.stored.write_start.Goals as goal
-
-pub returns : goal.returns
-returns g c = encodes_custom (size_prefixed u32) (λ said. said ≡ c.args.index) c.encode.ensures.appends c.encode.ensures.read refl

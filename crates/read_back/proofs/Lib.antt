@@ -1,0 +1,3 @@
+-- This file lists the crate's files of lemmas.
+pub mod Common
+pub mod IteratedLaws

@@ -1,0 +1,6 @@
+-- Written by tools/answers.
+use Rattle.read_back.proofs.Common.{size_prefixed, encodes_entries, instances_payload}
+use Rattle.read_back.proofs.dumps.write_instances.Goals as goal
+
+pub returns : goal.returns
+returns g c = encodes_entries (size_prefixed instances_payload) _ _ c.encode.ensures.appends c.encode.ensures.read c.in_ok-section.ensures

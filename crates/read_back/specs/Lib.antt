@@ -1,0 +1,11 @@
+-- This file lists the crate's files of definitions.
+pub mod Customs
+pub mod Declarations
+pub mod Dumps
+pub mod Libraries
+pub mod FirstValues
+pub mod Handed
+pub mod Iterated
+pub mod ReadPadded
+pub mod Relocated
+pub mod Stored

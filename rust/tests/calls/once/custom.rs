@@ -1,0 +1,67 @@
+// Written by tools/to-rust from crates/calls/src/once/custom.rt: change that.
+//! Entries of custom sections.
+
+use dolzhytik::fallible::Allocator;
+use dolzhytik::fallible::Result;
+use dolzhytik::fallible::{BranchHint, BranchHints, CoreDumpInstancesSection, CoreDumpStackSection, CoreDumpValue, DataSymbolDefinition, IndirectNameMap, LinkingSection, NameMap, NameSection, ProducersField, ProducersSection, SymbolTable};
+
+pub fn names<A: Allocator + Copy>(alloc: A) -> Result<()> {
+    let mut map = NameMap::new(alloc);
+    map.append(0, "a")?;
+    map.members_law();
+    let mut section = NameSection::new(alloc);
+    section.tags(&map)?;
+    section.data(&map)?;
+    Ok(())
+}
+
+pub fn names_inside<A: Allocator + Copy>(alloc: A) -> Result<()> {
+    let inside = IndirectNameMap::new(alloc);
+    let mut section = NameSection::new(alloc);
+    section.labels(&inside)?;
+    section.fields(&inside)?;
+    section.parameters(&inside)?;
+    section.tag_parameters(&inside)?;
+    Ok(())
+}
+
+pub fn linking<A: Allocator + Copy>(alloc: A) -> Result<()> {
+    let mut symbols = SymbolTable::new(alloc);
+    let definition = DataSymbolDefinition {
+        index: 0,
+        offset: 0,
+        size: 1,
+    };
+    symbols.data(0, "a", Some(definition))?;
+    let mut section = LinkingSection::new(alloc);
+    section.symbol_table(&symbols)?;
+    section.target_arch("wasm32")?;
+    Ok(())
+}
+
+pub fn producers<A: Allocator + Copy>(alloc: A) -> Result<()> {
+    let mut field = ProducersField::new(alloc);
+    field.value("a", "1")?;
+    let mut section = ProducersSection::new(alloc);
+    section.field("language", &field)?;
+    Ok(())
+}
+
+pub fn hints<A: Allocator + Copy>(alloc: A) -> Result<()> {
+    let hint = BranchHint {
+        branch_func_offset: 3,
+        branch_hint_value: 1,
+    };
+    let mut section = BranchHints::new(alloc);
+    section.function_hints(0, [hint])?;
+    Ok(())
+}
+
+pub fn core_dumps<A: Allocator + Copy>(alloc: A) -> Result<()> {
+    let mut instances = CoreDumpInstancesSection::new(alloc);
+    instances.instance(0, [1], [2])?;
+    let mut stack = CoreDumpStackSection::new(alloc, "main")?;
+    let missing = CoreDumpValue::Missing;
+    stack.frame(0, 42, 51, [missing.clone()], [missing])?;
+    Ok(())
+}
