@@ -187,7 +187,9 @@ def troubles(crate: Crate, imports: Imports) -> Iterator[Trouble]:
         yield from of_imports(file.path, file.imports, imports)
         yield from of_homonyms(file)
     for source in crate.sources.values():
-        yield from of_imports(source.path, list(parsed_uses(source.imports)), imports)
+        for it in of_imports(source.path, list(parsed_uses(source.imports)), imports):
+            is_missing = it.text.startswith("`%s` has no definitions" % crate.name) and not crate.specs.files
+            yield Trouble(it.path, it.line, it.text + (": `tools/answers --draft %s` prints a draft" % crate.name if is_missing else ""))
     lib = crate.folder / "specs/Lib.antt"
     if crate.specs.files:
         listed = set(LISTED.findall(text_of(lib))) if lib.is_file() else set()

@@ -312,6 +312,7 @@ class Second:
         self.page = text_of(TOP / "docs/TUTORIAL.md").split("## 7.")[1]
         self.source = re.findall(r"```rust\n(.*?)```", self.page, re.S)[0]
         self.write(self.source)
+        self.first = self.run()[1]
         self.draft = command.draft("total", self.top)
         (self.crate / ITEMS).write_text(self.draft, encoding="utf-8")
         (self.crate / "specs/Lib.antt").write_text("pub mod Items\n", encoding="utf-8")
@@ -329,6 +330,9 @@ def second_part_trouble() -> str | None:
     wrong bodies what the page says."""
     with tempfile.TemporaryDirectory() as name:
         second = Second(name)
+        if not second.first[0].endswith("`total` has no definitions `Items`: `tools/answers --draft total` prints a draft"):
+            return "without definitions it said %s" % second.first[0]
+        shutil.rmtree(second.crate / "proofs")
         for listing in re.findall(r"```antt\n(.*?)```", second.page, re.S):
             missing = [it for it in listing.strip("\n").split("\n\n") if it not in second.draft]
             if missing:
