@@ -1,3 +1,4 @@
 -- This file lists the crate's files of lemmas.
 pub mod Common
 pub mod IteratedLaws
+pub mod ObjectLaws

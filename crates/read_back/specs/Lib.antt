@@ -3,6 +3,7 @@ pub mod Customs
 pub mod Declarations
 pub mod Dumps
 pub mod Libraries
+pub mod Objects
 pub mod FirstValues
 pub mod Handed
 pub mod Iterated

@@ -25,6 +25,7 @@ pub mod dylink;
 pub mod first_values;
 pub mod handed;
 pub mod instructions;
+pub mod objects;
 pub mod once;
 pub mod padded;
 pub mod relocations;

@@ -89,10 +89,6 @@ fn links<G: Grammar>(rt: &impl Abort, alloc: Global) {
         (Some(ReadFault::UnknownTag), 11)
     );
     assert_eq!(rt;
-        place(read_links::<Global, G>(b"\x07linking\x02\x0A\x04\x01\0\x10\0\x09\x02\x01m", alloc)),
-        (Some(ReadFault::UnknownTag), 10)
-    );
-    assert_eq!(rt;
         place(read_links::<Global, G>(
             b"\x07linking\x02\x08\x04\x01\x06\x10\0\x09\x02\x01m",
             alloc
@@ -154,10 +150,6 @@ fn others<G: Grammar>(rt: &impl Abort, alloc: Global) {
     assert_eq!(rt;
         place(read_features::<Global, G>(b"\x0Ftarget_features\x01=\x01\xFF", alloc)),
         (Some(ReadFault::NotUtf8), 1)
-    );
-    assert_eq!(rt;
-        place(read_dylink::<Global, G>(b"\x08dylink.0\x06\x00\x02\x01\x00", alloc)),
-        (Some(ReadFault::UnknownTag), 5)
     );
     assert_eq!(rt;
         place(read_dylink::<Global, G>(b"\x08dylink.0\x02\x03\x01\x01\xFF\x02\x01\x00", alloc)),

@@ -10,6 +10,7 @@ use crate::read_back::declared::{read_exports, read_imports, read_memories, read
 use crate::read_back::dumps::{core_dump, read_instances, read_modules, read_process, read_stack};
 use crate::read_back::dylink::read_dylink;
 use crate::read_back::handed::handed_module;
+use crate::read_back::objects::read_objects;
 use crate::read_back::padded::{padded_entries, read_padded_segment, write_padded_bodies};
 use crate::read_back::relocations::read_relocations;
 use crate::read_back::stored::{read_bodies, read_data_count, read_elements, read_globals, read_segments, read_start};
@@ -18,6 +19,7 @@ use crate::host::Abort;
 use crate::test_support::{MOST, Refusing};
 use dolzhytik::reader::ReadFault;
 use dolzhytik::fallible::{Refused, Result};
+use dolzhytik::fallible::append_links;
 use dolzhytik::reader::Items;
 
 /// The module of a core dump: its process, modules, instances and stack.
@@ -341,6 +343,24 @@ fn dylink() {
             Items::Dylink(_)
         );
         Ok((is_kind, sink))
+    })
+}
+
+#[test]
+fn objects() {
+    let rt = crate::host::HostRuntime;
+    let heap = Refusing::new(rt.alloc());
+    let expected = b"\x07linking\x02\
+        \x05\x06\x01\x02.d\x02\x00\
+        \x06\x03\x01\x07\x03\
+        \x07\x07\x01\x01g\x00\x01\x00\x04\
+        \x08\x09\x02\x03\x00\x08\x04\x00\x01\x01t\
+        \x09\x07\x06wasm32";
+    check_read(&rt, &heap, expected, |heap| {
+        let (mut text, mut sink) = (Vec::new(heap), Vec::new(heap));
+        let items = read_objects(&mut text, ".d", 7)?;
+        append_links(&items, &mut sink)?;
+        Ok((items.len() == 5, sink))
     })
 }
 
