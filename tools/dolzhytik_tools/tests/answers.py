@@ -292,7 +292,13 @@ def tutorial_trouble() -> str | None:
     page = text_of(TOP / "docs/TUTORIAL.md").split("## 6.")[0]
     listed = "\n\n".join(it.strip("\n") for it in LISTING.findall(page)).split("\n\n")
     missing = [it for it in "\n\n".join(file.strip("\n") for file in files).split("\n\n") if it not in listed]
-    return f"the tutorial lacks {missing[0]!r}" if missing else None
+    if missing:
+        return f"the tutorial lacks {missing[0]!r}"
+    with tempfile.TemporaryDirectory() as name:
+        copy = Copy(name)
+        copy.change(LIB, "sink.local_get(1)?", "sink.local_get(0)?")
+        report = copy.run()[1][0]
+        return None if f"$ tools/answers adder\n{report}\n" in page else f"the tutorial lacks {report}"
 
 
 WRONG_ROW = re.compile(r"^\| `([^`]+)` \| `([^`]+)` \| `(src/[^`]+)` \|$", re.M)
