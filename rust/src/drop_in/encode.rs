@@ -105,9 +105,10 @@ hands_on! { u8 u64 usize i64 }
 hands_on! { AbstractHeapType HeapType RefType ValType StorageType FieldType ArrayType ContType }
 hands_on! { BlockType Catch Handle Ieee32 Ieee64 MemArg MemArgOrdering Ordering }
 hands_on! { GlobalType MemoryType TableType CoreDumpValue }
-hands_on! { DataCountSection StartSection RawCustomSection<'_> }
+hands_on! { RawCustomSection<'_> }
 
-/// Implements `Encode` of numbers by the proved `encode`. One byte is appended without a call.
+/// Implements `Encode` of numbers, and of sections of one number, by the proved `encode`. A short
+/// encoding is appended without a call.
 macro_rules! numbers {
     ($($type:ty)*) => {
         $(
@@ -123,7 +124,7 @@ macro_rules! numbers {
     };
 }
 
-numbers! { u32 i32 }
+numbers! { u32 i32 StartSection DataCountSection }
 
 /// Encodes a name: its length in bytes, and its bytes.
 impl Encode for str {

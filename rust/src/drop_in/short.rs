@@ -5,6 +5,7 @@ use super::entries::grow;
 use crate::alloc::AllocError;
 use crate::base::{AbstractHeapType, Encode, HeapType, Lent, Result, ValType};
 use crate::immediates::{Ieee32, Ieee64, Lane, MemArg, MemArgTarget, Ordering};
+use crate::sections::{DataCountSection, StartSection};
 use crate::vec::{Sealed, Sink};
 use alloc_crate::vec::Vec;
 use core::ops::{Deref, DerefMut};
@@ -173,13 +174,13 @@ macro_rules! fixed {
 
 fixed! { Lane: 1 Ordering: 1 Ieee32: 4 Ieee64: 8 [u8; 16]: 16 }
 
-/// Implements [`Short`] for types with values of one byte: a test of it, and the value after the
-/// test, of which the compiler knows it.
+/// Implements [`Short`] for types with values of so many bytes: a test of it, and the value after
+/// the test, of which the compiler knows it.
 macro_rules! tested {
-    ($($ty:ty: |$value:ident| $is_short:expr => $short:expr;)*) => {
+    ($($ty:ty: $size:literal, |$value:ident| $is_short:expr => $short:expr;)*) => {
         $(
             impl Short for $ty {
-                const SIZE: usize = 1;
+                const SIZE: usize = $size;
                 const MOST: usize = MOST_OF_A_NUMBER;
 
                 #[inline(always)]
@@ -204,14 +205,16 @@ macro_rules! tested {
 }
 
 tested! {
-    u32: |number| number < 0x80 => number;
-    i32: |number| (-0x40..0x40).contains(&number) => number;
-    i64: |number| (-0x40..0x40).contains(&number) => number;
-    HeapType: |ty| matches!(ty, HeapType::Abstract { shared: false, .. }) => match ty {
+    u32: 1, |number| number < 0x80 => number;
+    i32: 1, |number| (-0x40..0x40).contains(&number) => number;
+    i64: 1, |number| (-0x40..0x40).contains(&number) => number;
+    StartSection: 2, |section| section.function_index < 0x80 => section;
+    DataCountSection: 2, |section| section.count < 0x80 => section;
+    HeapType: 1, |ty| matches!(ty, HeapType::Abstract { shared: false, .. }) => match ty {
         HeapType::Abstract { ty, .. } => ty,
         _ => AbstractHeapType::Func,
     };
-    ValType: |ty| !matches!(ty, ValType::Ref(_)) => match ty {
+    ValType: 1, |ty| !matches!(ty, ValType::Ref(_)) => match ty {
         ValType::I32 => ValType::I32,
         ValType::I64 => ValType::I64,
         ValType::F32 => ValType::F32,
@@ -341,6 +344,8 @@ mod tests {
         strict(SIGNED);
         strict(SIGNED.map(i64::from));
         strict([i64::MIN, i64::MAX]);
+        strict(UNSIGNED.map(|function_index| StartSection { function_index }));
+        strict(UNSIGNED.map(|count| DataCountSection { count }));
         strict(UNSIGNED.into_iter().flat_map(|a| UNSIGNED.map(|b| (a, b))));
         strict(UNSIGNED.map(|a| (Ordering::SeqCst, a)));
         strict(

@@ -38,7 +38,9 @@ pub fn has_unknown_subsection(section: &Section<'_>) -> bool {
     }
     match section.items() {
         Ok(Items::Linking(items)) => items.iter().any(|it| matches!(it, LinkItem::Other { .. })),
-        Ok(Items::Dylink(items)) => items.iter().any(|it| matches!(it, DylinkItem::Other { .. })),
+        Ok(Items::Dylink(items)) => items
+            .iter()
+            .any(|it| matches!(it, DylinkItem::Other { .. })),
         _ => false,
     }
 }
