@@ -10,7 +10,7 @@ impl<V> EncodeOnce for Later<V>
 where
     V: IntoIterator<Item: crate::base::Encode, IntoIter: ExactSizeIterator>,
 {
-    #[inline]
+    #[inline(always)]
     fn encode_once<A: Sink>(self, sink: &mut A) -> Result<()> {
         vec_of(self.0)?.encode_once(sink)
     }
