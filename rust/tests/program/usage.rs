@@ -7,7 +7,8 @@ const USAGES: [&str; 7] = [
 usage: dolzhytik outline FILE [--why] [--strict] [--json]
 ",
     "\
-usage: dolzhytik dump FILE [--section NUMBER|NAME].. [--id ID].. [--json]
+usage: dolzhytik dump FILE [--section NUMBER|NAME].. [--id ID].. [--relocations]
+                 [--json]
 ",
     "\
 usage: dolzhytik size FILE [--functions N] [--json]
@@ -239,6 +240,7 @@ fn help() {
         "--keep NAME ",
         "--section NUMBER|NAME ",
         "--id ID ",
+        "-r, --relocations ",
         "--why ",
         "--strict ",
         "--dry-run ",

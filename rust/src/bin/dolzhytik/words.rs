@@ -1,5 +1,5 @@
 //! The words after the program's name, and what they ask for.
-use crate::dump::Selector;
+use crate::dump::{self, Selector};
 use crate::files::{Input, Output};
 use crate::help::{Explained, Flag, Given, Manual, OPTIONS, Verb};
 use crate::misuse::{Misuse, Usage};
@@ -29,9 +29,7 @@ pub enum Command {
     },
     Dump {
         input: Input,
-        /// Which sections to list, or none for all.
-        sections: Vec<Selector>,
-        format: Format,
+        choice: dump::Choice,
     },
     Shorten {
         input: Input,
@@ -173,8 +171,11 @@ impl Words {
             },
             Verb::Dump => Command::Dump {
                 input: self.input()?,
-                sections: self.options.selectors()?,
-                format: self.options.format(),
+                choice: dump::Choice {
+                    sections: self.options.selectors()?,
+                    relocations: self.options.has(Flag::Relocations),
+                    format: self.options.format(),
+                },
             },
             Verb::Size => Command::Size {
                 input: self.input()?,
