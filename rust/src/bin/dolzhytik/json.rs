@@ -92,17 +92,21 @@ impl Display for Value<'_> {
     fn fmt(&self, f: &mut Formatter<'_>) -> fmt::Result {
         match self {
             Value::Null => f.write_str("null"),
-            Value::Bool(value) => write!(f, "{value}"),
-            Value::Unsigned(value) => write!(f, "{value}"),
-            Value::Signed(value) => write!(f, "{value}"),
+            Value::Bool(value) => value.fmt(f),
+            Value::Unsigned(value) => value.fmt(f),
+            Value::Signed(value) => value.fmt(f),
             Value::Digits(digits) => f.write_str(digits),
             Value::Text(text) => string(f, text),
             Value::List(items) => {
                 f.write_char('[')?;
-                separated(f, items, |f, item| write!(f, "{item}"))?;
+                separated(f, items, |f, item| item.fmt(f))?;
                 f.write_char(']')
             }
-            Value::Object(members) => write!(f, "{{{}}}", Inner(members)),
+            Value::Object(members) => {
+                f.write_char('{')?;
+                Inner(members).fmt(f)?;
+                f.write_char('}')
+            }
         }
     }
 }
@@ -112,7 +116,12 @@ pub struct Inner<'m, 'a>(pub &'m [(&'static str, Value<'a>)]);
 
 impl Display for Inner<'_, '_> {
     fn fmt(&self, f: &mut Formatter<'_>) -> fmt::Result {
-        separated(f, self.0, |f, (key, value)| write!(f, "\"{key}\": {value}"))
+        separated(f, self.0, |f, (key, value)| {
+            f.write_char('"')?;
+            f.write_str(key)?;
+            f.write_str("\": ")?;
+            value.fmt(f)
+        })
     }
 }
 
@@ -129,7 +138,14 @@ fn separated<T>(
 
 fn string(f: &mut Formatter<'_>, text: &str) -> fmt::Result {
     f.write_char('"')?;
-    for c in text.chars() {
+    let is_plain = |byte: u8| matches!(byte, b' '..=b'~') && byte != b'"' && byte != b'\\';
+    let (plain, others) = if text.bytes().all(is_plain) {
+        (text, "")
+    } else {
+        ("", text)
+    };
+    f.write_str(plain)?;
+    for c in others.chars() {
         match c {
             '"' | '\\' => write!(f, "\\{c}")?,
             // The escapes of JSON are units of UTF-16, which control characters have one of.
