@@ -98,14 +98,14 @@ impl Display for Value<'_> {
             Value::Digits(digits) => f.write_str(digits),
             Value::Text(text) => string(f, text),
             Value::List(items) => {
-                f.write_char('[')?;
+                f.write_str("[")?;
                 separated(f, items, |f, item| item.fmt(f))?;
-                f.write_char(']')
+                f.write_str("]")
             }
             Value::Object(members) => {
-                f.write_char('{')?;
+                f.write_str("{")?;
                 Inner(members).fmt(f)?;
-                f.write_char('}')
+                f.write_str("}")
             }
         }
     }
@@ -117,7 +117,7 @@ pub struct Inner<'m, 'a>(pub &'m [(&'static str, Value<'a>)]);
 impl Display for Inner<'_, '_> {
     fn fmt(&self, f: &mut Formatter<'_>) -> fmt::Result {
         separated(f, self.0, |f, (key, value)| {
-            f.write_char('"')?;
+            f.write_str("\"")?;
             f.write_str(key)?;
             f.write_str("\": ")?;
             value.fmt(f)
@@ -137,7 +137,7 @@ fn separated<T>(
 }
 
 fn string(f: &mut Formatter<'_>, text: &str) -> fmt::Result {
-    f.write_char('"')?;
+    f.write_str("\"")?;
     let is_plain = |byte: u8| matches!(byte, b' '..=b'~') && byte != b'"' && byte != b'\\';
     let (plain, others) = if text.bytes().all(is_plain) {
         (text, "")
@@ -153,7 +153,7 @@ fn string(f: &mut Formatter<'_>, text: &str) -> fmt::Result {
             c => f.write_char(c)?,
         }
     }
-    f.write_char('"')
+    f.write_str("\"")
 }
 
 // ---- outlines, sizes and savings

@@ -7,7 +7,7 @@ use crate::name::{Name, Source};
 use crate::sections::Section;
 use crate::words::Format;
 use dolzhytik::fallible::ValType;
-use std::fmt::{self, Display};
+use std::fmt::Display;
 use std::io::{self, Write};
 
 /// The version of the JSON: the first member of the listing. rust/schema/dump.json describes it.
@@ -132,17 +132,25 @@ pub struct Line<'a> {
     pub patches: &'a [Patch<'a>],
 }
 
-/// Bytes in hexadecimal, with a separator between them.
-struct Hex<'a>(&'a [u8], &'a str);
+/// The hexadecimal digits of a byte.
+fn digits(byte: u8) -> [u8; 2] {
+    const DIGITS: &[u8; 16] = b"0123456789abcdef";
+    [byte >> 4, byte & 15].map(|digit| DIGITS[usize::from(digit)])
+}
 
-impl Display for Hex<'_> {
-    fn fmt(&self, f: &mut fmt::Formatter<'_>) -> fmt::Result {
-        for (i, byte) in self.0.iter().enumerate() {
-            let separator = if i > 0 { self.1 } else { "" };
-            write!(f, "{separator}{byte:02x}")?;
-        }
-        Ok(())
+/// Bytes in hexadecimal.
+fn hex(bytes: &[u8]) -> String {
+    let digits = bytes.iter().flat_map(|byte| digits(*byte));
+    digits.map(char::from).collect()
+}
+
+/// Bytes in hexadecimal, each after a space, in as many columns as `SIZE` bytes have.
+fn columns<const SIZE: usize>(bytes: &[u8]) -> [[u8; 3]; SIZE] {
+    let mut columns = [[b' '; 3]; SIZE];
+    for (column, byte) in columns.iter_mut().zip(bytes) {
+        column[1..].copy_from_slice(&digits(*byte));
     }
+    columns
 }
 
 /// Prints a listing.
@@ -347,9 +355,10 @@ impl<W: Write> Listing<W> {
 
     fn row(&mut self, offset: usize, row: &[u8]) -> io::Result<()> {
         let text: String = row.iter().map(|byte| shown(*byte)).collect();
-        let hex = Hex(row, " ").to_string();
-        let width = 3 * BYTES_OF_DATA - 1;
-        writeln!(self.out, " {offset:06x}: {hex:width$}  {text}")
+        write!(self.out, " {offset:06x}:")?;
+        let columns = columns::<BYTES_OF_DATA>(row);
+        self.out.write_all(columns.as_flattened())?;
+        writeln!(self.out, "  {text}")
     }
 
     /// Prints relocations below what they patch.
@@ -415,7 +424,7 @@ impl<W: Write> Listing<W> {
             self.member()?;
             let members = members! {
                 "offset": locals.offset,
-                "bytes": Hex(locals.bytes, "").to_string(),
+                "bytes": hex(locals.bytes),
                 "first": locals.first(),
                 "count": locals.count,
                 "type": locals.ty,
@@ -442,7 +451,7 @@ impl<W: Write> Listing<W> {
             self.end_locals()?;
         }
         self.member()?;
-        let (offset, bytes, name) = (line.offset, Hex(line.bytes, ""), line.name);
+        let (offset, bytes, name) = (line.offset, hex(line.bytes), line.name);
         let operands = line.operands.values();
         write!(
             self.out,
@@ -478,11 +487,9 @@ impl<W: Write> Listing<W> {
 
     fn code_bytes(&mut self, offset: usize, bytes: &[u8]) -> io::Result<()> {
         write!(self.out, " {offset:06x}:")?;
-        for byte in bytes {
-            write!(self.out, " {byte:02x}")?;
-        }
-        let filler = 3 * (BYTES_OF_CODE - bytes.len());
-        write!(self.out, "{:filler$} |", "")
+        let columns = columns::<BYTES_OF_CODE>(bytes);
+        self.out.write_all(columns.as_flattened())?;
+        self.out.write_all(b" |")
     }
 }
 
@@ -491,7 +498,7 @@ pub fn range<'r>(offset: usize, bytes: &[u8], patches: &mut Patches<'r>) -> Memb
     let mut members = members! {
         "offset": offset,
         "size": bytes.len(),
-        "bytes": Hex(bytes, "").to_string(),
+        "bytes": hex(bytes),
     };
     let patches = patches.before(offset + bytes.len());
     if !patches.is_empty() {
