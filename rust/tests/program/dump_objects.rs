@@ -115,6 +115,85 @@ section 4 (data): offset 0x58, size 8
     check(&sections, &words, lines);
 }
 
+// ---- one function
+
+/// An import `a.b`, and the functions `f`, `g`, `g` and one without a name.
+#[test]
+fn functions_by_index_or_name() {
+    let name = custom("name", "01 0a 03 01 0166 02 0167 03 0167");
+    let sections = [
+        IMPORTS,
+        "03 05 04 00000000",
+        "0a 10 04 02000b 0300000b 0300010b 0300000b",
+        &name,
+    ];
+    let head = "names: name section, imports
+
+section 3 (code): offset 0x1a, size 16
+";
+    let first = "
+function 1 <f>: type 0, offset 0x1c, size 2
+ 00001d: 0b                         | end
+";
+    let [second, third] = [(2, 0x1f, "00", "unreachable"), (3, 0x23, "01", "nop")].map(
+        |(index, offset, byte, name)| {
+            let [at, next] = [offset + 1, offset + 2];
+            let space = " ".repeat(25);
+            format!(
+                "
+function {index} <g>: type 0, offset {offset:#x}, size 3
+ {at:06x}: {byte}{space}| {name}
+ {next:06x}: 0b{space}| end
+"
+            )
+        },
+    );
+    check(&sections, &["1"], &format!("{head}{first}"));
+    check(&sections, &["f"], &format!("{head}{first}"));
+    check(&sections, &["g"], &format!("{head}{second}{third}"));
+    check(&sections, &["3", "-r"], &format!("{head}{third}"));
+    let folder = Folder::new("no_function");
+    for (word, why) in [
+        ("h", "no function \"h\""),
+        ("5", "no function 5"),
+        ("+1", "no function \"+1\""),
+        ("0", "function 0 is an import, and has no body"),
+        ("a.b", "function \"a.b\" is an import, and has no body"),
+        ("a.", "no function \"a.\""),
+    ] {
+        let fault = folder.call(&["dump", "-", word], &module(&sections));
+        let error = format!("standard input: {why}");
+        assert_eq!(shown(fault), shown(Answer::fault(&error)));
+    }
+    let bad = ["0a 01 80"];
+    let fault = folder.call(&["dump", "-", "0"], &module(&bad));
+    let error = "standard input: section 1 (code) at offset 0xb: unexpected end of input";
+    assert_eq!(shown(fault), shown(Answer::fault(error)));
+}
+
+/// Relocations of functions that are not listed are not listed either.
+#[test]
+fn relocations_of_one_function() {
+    let sections = [
+        "0a 13 02 08 00 10 8080808000 0b 08 00 10 8080808000 0b",
+        &custom("reloc.CODE", "00 02 000400 000d00"),
+    ];
+    let lines = "section 1 (code): offset 0xa, size 19
+
+function 1: offset 0x15, size 8
+ 000016: 10 80 80 80 80 00          | call 0
+           000017: R_WASM_FUNCTION_INDEX_LEB 0
+ 00001c: 0b                         | end
+";
+    check(&sections, &["-r", "1"], lines);
+    let first = lines.replace("function 1: offset 0x15", "function 0: offset 0xc");
+    let first = first
+        .replace("000016", "00000d")
+        .replace("000017", "00000e");
+    let first = first.replace("00001c", "000013");
+    check(&sections, &["-r", "0"], &first);
+}
+
 // ---- symbols
 
 #[test]

@@ -7,8 +7,8 @@ const USAGES: [&str; 7] = [
 usage: dolzhytik outline FILE [--why] [--strict] [--json]
 ",
     "\
-usage: dolzhytik dump FILE [--section NUMBER|NAME].. [--id ID].. [--relocations]
-                 [--json]
+usage: dolzhytik dump FILE [FUNCTION] [--section NUMBER|NAME].. [--id ID]..
+                 [--relocations] [--json]
 ",
     "\
 usage: dolzhytik size FILE [--functions N] [--json]
@@ -112,6 +112,10 @@ fn missing_and_unexpected_arguments() {
     }
     check(&["outline", "a", "b"], "unexpected argument: b");
     check(&["size", "a", "b"], "unexpected argument: b");
+    check(&["dump", "a", "b", "c"], "unexpected argument: c");
+    let both = "dump takes a function or sections, and not both";
+    check(&["dump", "a", "b", "--id=10"], both);
+    check(&["dump", "--section=code", "a", "0"], both);
     check(&["shorten", "a", "b", "-o", "c"], "unexpected argument: b");
     check(&["build", "a", "b", "-o", "c"], "unexpected argument: b");
     check(&["help", "size", "b"], "unexpected argument: b");

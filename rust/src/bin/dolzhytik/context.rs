@@ -223,6 +223,15 @@ impl<'a> Context<'a> {
         self.names.get(&(space, index)).map(|(_, name)| *name)
     }
 
+    /// The indices of the entries of a name.
+    pub fn named(&self, space: Space, text: &str) -> Vec<u32> {
+        let is_named = |((of, _), (_, name)): &(&(Space, u32), &(Source, Name<'a>))| {
+            *of == space && name.is(text)
+        };
+        let named = self.names.iter().filter(is_named);
+        named.map(|((_, index), _)| *index).collect()
+    }
+
     /// An index, with the name of its entry.
     pub fn entry(&self, space: Space, index: u32) -> Entry<'a> {
         Entry {

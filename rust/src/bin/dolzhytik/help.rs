@@ -42,6 +42,7 @@ reported on standard error.",
         name: "dump",
         usage: &[
             "FILE",
+            "[FUNCTION]",
             "[--section NUMBER|NAME]..",
             "[--id ID]..",
             "[--relocations]",
@@ -53,7 +54,8 @@ has the offset in the file, in hexadecimal, the bytes, and the name and operands
 format. Locals have their indices; where the type of the function is not known, +0 is the first \
 one. A custom section is listed by the kind that its name selects, or as bytes. The name of an \
 entry is in < and >, from the first of these that has one: the name section, linking, exports, \
-imports. The line * is two or more rows of zeros.",
+imports. The line * is two or more rows of zeros. With FUNCTION, an index or a name, it prints the \
+functions that have that alone.",
         options: &[Flag::Section, Flag::Id, Flag::Relocations, Flag::Json],
     },
     Manual {

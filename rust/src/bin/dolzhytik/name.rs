@@ -42,6 +42,19 @@ pub enum Name<'a> {
     },
 }
 
+impl Name<'_> {
+    /// Whether a text is the name, without `<` and `>`.
+    pub fn is(&self, text: &str) -> bool {
+        match self {
+            Name::Own(name) => *name == text,
+            Name::Imported { module, name } => {
+                let after = text.strip_prefix(module);
+                after.and_then(|it| it.strip_prefix('.')) == Some(name)
+            }
+        }
+    }
+}
+
 /// Writes a text with escapes for characters that do not show.
 fn escaped(f: &mut Formatter<'_>, text: &str) -> fmt::Result {
     let is_plain = |byte: u8| matches!(byte, b' '..=b'~') && byte != b'\\';

@@ -171,11 +171,7 @@ impl Words {
             },
             Verb::Dump => Command::Dump {
                 input: self.input()?,
-                choice: dump::Choice {
-                    sections: self.options.selectors()?,
-                    relocations: self.options.has(Flag::Relocations),
-                    format: self.options.format(),
-                },
+                choice: self.listing()?,
             },
             Verb::Size => Command::Size {
                 input: self.input()?,
@@ -196,6 +192,21 @@ impl Words {
         };
         self.end()?;
         Ok(command)
+    }
+
+    /// What `dump` lists.
+    fn listing(&mut self) -> Result<dump::Choice, Usage> {
+        let function = self.words.next().map(name).transpose()?;
+        let sections = self.options.selectors()?;
+        if function.is_some() && !sections.is_empty() {
+            return Err(Usage::SectionsAndFunction);
+        }
+        Ok(dump::Choice {
+            sections,
+            function: function.map(dump::Function::of),
+            relocations: self.options.has(Flag::Relocations),
+            format: self.options.format(),
+        })
     }
 
     fn shorten(&mut self) -> Result<Command, Usage> {

@@ -11,10 +11,11 @@ use dolzhytik::fallible::{Global, Op, ValType};
 use dolzhytik::reader::{CodeBody, Instructions, Standard};
 use std::io::Write;
 
-/// Lists each function: its locals and its instructions.
+/// Lists each function that is selected by its index: its locals and its instructions.
 pub fn list_code(
     section: &Section<'_>,
     context: &Context<'_>,
+    is_listed: impl Fn(u32) -> bool,
     patches: &mut Patches<'_>,
     listing: &mut Listing<impl Write>,
 ) -> Result<(), Stop> {
@@ -23,6 +24,10 @@ pub fn list_code(
         let code = code?;
         // The reader accepts up to 4294967295 imports and as many bodies.
         let index = imported.saturating_add(number as u32);
+        if !is_listed(index) {
+            patches.before(code.offset() + code.bytes().len());
+            continue;
+        }
         let function = Function {
             index,
             name: context.name(Space::Function, index),

@@ -10,7 +10,7 @@ mod symbols;
 mod text;
 mod values;
 
-use crate::context::Context;
+use crate::context::{Context, Space};
 use crate::failure::{self, Failure};
 use crate::files::{Input, Output};
 use crate::sections::{Section, sections_of};
@@ -101,11 +101,50 @@ impl fmt::Display for Selector {
     }
 }
 
+/// Selects functions.
+#[derive(Clone, PartialEq, Eq, Debug)]
+pub enum Function {
+    Index(u32),
+    /// The name that the listing has. Several functions may have it.
+    Name(String),
+}
+
+impl Function {
+    /// An index of decimal digits, or else a name.
+    pub fn of(word: String) -> Self {
+        let digits = word.bytes().all(|byte| byte.is_ascii_digit());
+        match word.parse() {
+            Ok(index) if digits => Function::Index(index),
+            _ => Function::Name(word),
+        }
+    }
+
+    /// The indices of the functions.
+    fn indices(&self, context: &Context<'_>) -> Vec<u32> {
+        match self {
+            Function::Index(index) => vec![*index],
+            Function::Name(name) => context.named(Space::Function, name),
+        }
+    }
+}
+
+/// `3`, or `"name"`.
+impl fmt::Display for Function {
+    fn fmt(&self, f: &mut fmt::Formatter<'_>) -> fmt::Result {
+        match self {
+            Function::Index(index) => write!(f, "{index}"),
+            Function::Name(name) => write!(f, "{name:?}"),
+        }
+    }
+}
+
 /// What a listing has.
 #[derive(Clone, PartialEq, Eq, Debug)]
 pub struct Choice {
     /// Which sections to list, or none for all.
     pub sections: Vec<Selector>,
+    /// Which functions of the code section to list, and nothing else.
+    pub function: Option<Function>,
     /// Whether each relocation is listed below what it patches.
     pub relocations: bool,
     pub format: Format,
@@ -113,6 +152,9 @@ pub struct Choice {
 
 impl Choice {
     fn selects(&self, section: &Section<'_>) -> bool {
+        if self.function.is_some() {
+            return section.id() == 10;
+        }
         self.sections.is_empty() || self.sections.iter().any(|it| it.selects(section))
     }
 }
@@ -129,6 +171,7 @@ pub fn dump(input: &Input, module: &[u8], choice: &Choice) -> Result<(), Failure
         });
     }
     let context = Context::of(&sections);
+    let functions = functions_of(input, &sections, choice, &context)?;
     let out = BufWriter::with_capacity(1 << 16, io::stdout().lock());
     let listing = Listing::begin(out, choice.format, &context.sources()).map_err(unwritten)?;
     let mut dump = Dump {
@@ -136,6 +179,7 @@ pub fn dump(input: &Input, module: &[u8], choice: &Choice) -> Result<(), Failure
         choice,
         context: &context,
         relocations: relocations_of(input, &sections, choice, &context),
+        functions,
         listing,
     };
     let listed = sections.iter().try_for_each(|it| dump.list(it));
@@ -161,12 +205,43 @@ fn relocations_of<'c>(
     })
 }
 
+/// The indices of the selected functions, of which one must have a body.
+fn functions_of(
+    input: &Input,
+    sections: &[Section<'_>],
+    choice: &Choice,
+    context: &Context<'_>,
+) -> Result<Option<Vec<u32>>, Failure> {
+    let Some(function) = &choice.function else {
+        return Ok(None);
+    };
+    let imported = context.imported(Space::Function);
+    let mut end = u64::from(imported);
+    for section in sections.iter().filter(|it| it.id() == 10) {
+        let count: Result<u32, _> = section.cursor().read();
+        end += u64::from(count.map_err(|error| section.failure(input, error))?);
+    }
+    let indices = function.indices(context);
+    let is_import = |index: &u32| *index < imported;
+    let has_body = |index: &u32| !is_import(index) && u64::from(*index) < end;
+    if !indices.iter().any(has_body) {
+        return Err(Failure::NoBody {
+            input: input.clone(),
+            function: function.clone(),
+            is_import: indices.iter().any(is_import),
+        });
+    }
+    Ok(Some(indices))
+}
+
 /// Lists the sections of a module.
 struct Dump<'c, W: Write> {
     input: &'c Input,
     choice: &'c Choice,
     context: &'c Context<'c>,
     relocations: Relocations<'c>,
+    /// The indices of the functions that are listed, or none for all.
+    functions: Option<Vec<u32>>,
     listing: Listing<W>,
 }
 
@@ -190,7 +265,11 @@ impl<'c, W: Write> Dump<'c, W> {
         listing.section(section)?;
         match section.id() {
             0 => list_custom(self.input, section, context, patches, listing)?,
-            10 => list_code(section, context, patches, listing)?,
+            10 => {
+                let functions = self.functions.as_deref();
+                let is_listed = |index| functions.is_none_or(|them| them.contains(&index));
+                list_code(section, context, is_listed, patches, listing)?;
+            }
             1..=13 => {
                 let mut items = Items {
                     context,
@@ -201,7 +280,11 @@ impl<'c, W: Write> Dump<'c, W> {
             }
             _ => listing.bytes(section.range().start, section.payload(), patches)?,
         }
-        Ok(self.listing.others(patches)?)
+        match &self.functions {
+            // The others are of functions that are not listed.
+            Some(_) => Ok(()),
+            None => Ok(self.listing.others(patches)?),
+        }
     }
 }
 
