@@ -394,22 +394,8 @@ impl<'c, W: Write> Lines<'_, 'c, W> {
     fn dylink(&mut self, item: &DylinkItem<'_>) -> io::Result<()> {
         match item {
             DylinkItem::Memory(it) => {
-                let sizes = [
-                    ("memory", it.memory_size, it.memory_alignment),
-                    ("table", it.table_size, it.table_alignment),
-                ];
-                sizes.into_iter().try_for_each(|(of, size, alignment)| {
-                    let content = self.listing.content(
-                        || format!("size {size} align 2^{alignment}"),
-                        || members! { "size": size, "align_log2": alignment },
-                    );
-                    self.listing.item(Item {
-                        kind: of,
-                        class: Some("requirement"),
-                        content,
-                        ..Item::default()
-                    })
-                })
+                self.requirement("memory", it.memory_size, it.memory_alignment)?;
+                self.requirement("table", it.table_size, it.table_alignment)
             }
             DylinkItem::Needed(names) => {
                 let mut names = names.iter();
@@ -436,6 +422,20 @@ impl<'c, W: Write> Lines<'_, 'c, W> {
             }
             _ => self.other("subsection"),
         }
+    }
+
+    /// Prints the size and alignment that a dynamic library needs of a memory or a table.
+    fn requirement(&mut self, of: &'static str, size: u32, alignment: u32) -> io::Result<()> {
+        let content = self.listing.content(
+            || format!("size {size} align 2^{alignment}"),
+            || members! { "size": size, "align_log2": alignment },
+        );
+        self.listing.item(Item {
+            kind: of,
+            class: Some("requirement"),
+            content,
+            ..Item::default()
+        })
     }
 
     /// Prints the flags of an export or import of a dynamic library.

@@ -18,6 +18,8 @@ const BYTES_OF_CODE: usize = 9;
 const BYTES_OF_DATA: usize = 16;
 /// How many levels of blocks are indented, so that a line of deep code stays short.
 const DEEPEST: usize = 32;
+/// The deepest indentation.
+const SPACES: [u8; 2 * DEEPEST] = [b' '; 2 * DEEPEST];
 
 /// What an item is called.
 #[derive(Clone, Copy)]
@@ -140,8 +142,10 @@ fn digits(byte: u8) -> [u8; 2] {
 
 /// Bytes in hexadecimal.
 fn hex(bytes: &[u8]) -> String {
+    let mut text = String::with_capacity(2 * bytes.len());
     let digits = bytes.iter().flat_map(|byte| digits(*byte));
-    digits.map(char::from).collect()
+    text.extend(digits.map(char::from));
+    text
 }
 
 /// Bytes in hexadecimal, each after a space, in as many columns as `SIZE` bytes have.
@@ -232,20 +236,24 @@ impl<W: Write> Listing<W> {
 
     /// Ends the members of the innermost list.
     fn end_list(&mut self) -> io::Result<()> {
-        let has_members = self.open.pop() == Some(true);
-        let (line, indent) = match has_members {
-            true => ("\n", 2 * self.open.len()),
-            false => ("", 0),
-        };
-        write!(self.out, "{line}{:indent$}", "")
+        match self.open.pop() {
+            Some(true) => self.new_line(),
+            _ => Ok(()),
+        }
     }
 
     /// Begins a member of the innermost list of JSON.
     fn member(&mut self) -> io::Result<()> {
-        let indent = 2 * self.open.len();
-        let begun = self.open.last_mut().map(|it| std::mem::replace(it, true));
-        let comma = if begun == Some(true) { "," } else { "" };
-        write!(self.out, "{comma}\n{:indent$}", "")
+        if let Some(true) = self.open.last_mut().map(|it| std::mem::replace(it, true)) {
+            self.out.write_all(b",")?;
+        }
+        self.new_line()
+    }
+
+    /// Begins a line of JSON.
+    fn new_line(&mut self) -> io::Result<()> {
+        self.out.write_all(b"\n")?;
+        self.out.write_all(&SPACES[..2 * self.open.len()])
     }
 
     /// Writes a member of the list of items.
@@ -476,8 +484,9 @@ impl<W: Write> Listing<W> {
             .split_at_checked(BYTES_OF_CODE)
             .unwrap_or((bytes, &[]));
         self.code_bytes(offset, first)?;
-        let indent = 2 * depth.min(DEEPEST);
-        writeln!(self.out, " {:indent$}{name}{operands}", "")?;
+        self.out.write_all(b" ")?;
+        self.out.write_all(&SPACES[..2 * depth.min(DEEPEST)])?;
+        writeln!(self.out, "{name}{operands}")?;
         for (i, bytes) in more.chunks(BYTES_OF_CODE).enumerate() {
             self.code_bytes(offset + (i + 1) * BYTES_OF_CODE, bytes)?;
             self.out.write_all(b"\n")?;
