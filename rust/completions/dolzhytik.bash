@@ -6,7 +6,7 @@ _dolzhytik() {
     local sections='custom type import function table memory global export start element code data tag name'
     case ${COMP_WORDS[1]} in
     outline) words='--why --strict --json -h --help' ;;
-    dump) words='--section --id --json -h --help' ;;
+    dump) words='--section --id -r --relocations --json -h --help' ;;
     size) words='--functions --json -h --help' ;;
     strip) words='--all --debug --keep -o --output --force -h --help' ;;
     shorten) words='-o --output --dry-run --json --drop-offsets --keep-code --build-id --force -h --help' ;;

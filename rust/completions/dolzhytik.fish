@@ -14,6 +14,7 @@ complete -c dolzhytik -n '__fish_seen_subcommand_from strip shorten build' -s o 
 complete -c dolzhytik -n '__fish_seen_subcommand_from strip shorten build' -l force -d 'write to a terminal too'
 complete -c dolzhytik -n '__fish_seen_subcommand_from dump' -l section -x -a 'custom type import function table memory global export start element code data tag name' -d 'a section to list'
 complete -c dolzhytik -n '__fish_seen_subcommand_from dump' -l id -x -d 'the id of sections to list'
+complete -c dolzhytik -n '__fish_seen_subcommand_from dump' -s r -l relocations -d 'list relocations below what they patch'
 complete -c dolzhytik -n '__fish_seen_subcommand_from size' -l functions -x -d 'how many functions to list'
 complete -c dolzhytik -n '__fish_seen_subcommand_from strip' -l all -d 'remove all custom sections, also those that a linker needs'
 complete -c dolzhytik -n '__fish_seen_subcommand_from strip' -l debug -d 'remove DWARF'

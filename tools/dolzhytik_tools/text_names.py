@@ -1,4 +1,4 @@
-"""tools/text-names: writes the names of instructions in the text format."""
+"""tools/text-names: writes the names of instructions in the text format, and what their numbers are."""
 from __future__ import annotations
 
 import pathlib
@@ -8,6 +8,7 @@ from collections.abc import Sequence
 
 from . import generated_files
 from .errors import Stop
+from .instructions.layouts import LAYOUTS, NUMBER
 from .instructions.table import TABLE, Case, read
 from .repository import TOP, text_of
 
@@ -28,6 +29,24 @@ FORMS = {
     "ref_cast_nullable": "ref_cast",
     "ref_cast_desc_eq_non_null": "ref_cast_desc_eq",
     "ref_cast_desc_eq_nullable": "ref_cast_desc_eq",
+}
+# The names of the fields that are numbers, by what they are: a case of `Role` of the program.
+ROLES = {
+    "Entry(Function)": ("function_index",),
+    "Entry(Table)": ("table", "table_index", "dst_table", "src_table"),
+    "Entry(Memory)": ("mem", "dst_mem", "src_mem"),
+    "Entry(Global)": ("global_index",),
+    "Entry(Tag)": ("tag_index",),
+    "Entry(Type)": (
+        "type_index", "cont_type_index", "struct_type_index", "array_type_index", "array_type_index_dst",
+        "array_type_index_src", "argument_index", "result_index",
+    ),
+    "Entry(Element)": ("elem_index", "array_elem_index"),
+    "Entry(Data)": ("data_index", "array_data_index"),
+    "Local": ("local_index",),
+    "Label": ("label", "default", "relative_depth"),
+    "Field": ("field_index",),
+    "Length": ("array_size",),
 }
 
 
@@ -65,11 +84,33 @@ def named(cases: Sequence[Case]) -> dict[str, str]:
     return names
 
 
+def roles_of(case: Case) -> tuple[str, ...]:
+    """Returns what its numbers are, in the order of their encoding."""
+    fields = zip(LAYOUTS[case.layout].parts, case.fields or case.parameters)
+    names = [name for part, name in fields if part == NUMBER]
+    found = [[role for role, fields in ROLES.items() if name in fields] for name in names]
+    if not all(found):
+        raise Stop(f"{TABLE}:{case.line}: it is not known what a number is: {' '.join(names)}")
+    return tuple(roles[0] for roles in found)
+
+
+def by_roles(cases: Sequence[Case]) -> dict[tuple[str, ...], list[str]]:
+    """Returns the patterns of the opcodes, by what their numbers are."""
+    found: dict[tuple[str, ...], list[str]] = {}
+    for it in cases:
+        if roles := roles_of(it):
+            found.setdefault(roles, []).append(pattern(it))
+    return found
+
+
 def names_file(cases: Sequence[Case]) -> str:
     """Returns the text of the file."""
     arms = "".join(f'        {op} => "{name}",\n' for op, name in named(cases).items())
+    roles = "".join(f"        {' | '.join(ops)} => &[{', '.join(roles)}],\n" for roles, ops in by_roles(cases).items())
     return f"""// Written by tools/text-names from tools/instructions.tsv: change that.
-//! The names of instructions in the text format.
+//! The names of instructions in the text format, and what their numbers are.
+use crate::context::Space::{{Data, Element, Function, Global, Memory, Table, Tag, Type}};
+use crate::dump::Role::{{self, Entry, Field, Label, Length, Local}};
 use dolzhytik::fallible::Op;
 
 /// Returns the name of the instruction with this opcode, or `None` if there is no such instruction.
@@ -78,6 +119,14 @@ pub fn name_of(op: Op) -> Option<&'static str> {{
 {arms}        _ => return None,
     }};
     Some(name)
+}}
+
+/// Returns what the numbers among the immediates of this opcode are, in the order of their encoding. The
+/// labels of a branch table, and the numbers in clauses and memory arguments, are none of these.
+pub fn roles_of(op: Op) -> &'static [Role] {{
+    match op {{
+{roles}        _ => &[],
+    }}
 }}
 """
 

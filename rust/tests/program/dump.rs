@@ -5,7 +5,7 @@ use std::process::Command;
 
 /// Checks what the words print of the module, in a file and from standard input.
 #[track_caller]
-fn check(sections: &[&str], words: &[&str], text: &str) {
+pub fn check(sections: &[&str], words: &[&str], text: &str) {
     let folder = Folder::new("dump");
     folder.write("a.wasm", module(sections));
     let file = [&["dump", "a.wasm"], words].concat();
@@ -16,7 +16,7 @@ fn check(sections: &[&str], words: &[&str], text: &str) {
 }
 
 /// Text can be read when a test fails.
-fn shown(answer: Answer) -> (String, String, i32) {
+pub fn shown(answer: Answer) -> (String, String, i32) {
     let out = String::from_utf8(answer.out).unwrap();
     (out, answer.err, answer.status)
 }
@@ -49,18 +49,20 @@ fn check_instructions(rows: &[(&str, &str)]) {
     }
 }
 
-const SHORT_DUMP: &str = r#"section 1 (type): offset 0xa, size 7
+const SHORT_DUMP: &str = r#"names: exports
+
+section 1 (type): offset 0xa, size 7
  00000b: type 0 (func (param i32 i32) (result i32))
 
 section 2 (function): offset 0x13, size 2
- 000014: function 0 (type 0)
+ 000014: function 0 <f> (type 0)
 
 section 3 (export): offset 0x17, size 5
- 000018: export "f" (func 0)
+ 000018: export "f" (func 0 <f>)
 
 section 4 (code): offset 0x1e, size 9
 
-function 0: type 0, offset 0x20, size 7
+function 0 <f>: type 0, offset 0x20, size 7
  000021: 20 00                      | local.get 0
  000023: 20 01                      | local.get 1
  000025: 6a                         | i32.add
@@ -83,9 +85,11 @@ fn all_sections() {
 
 #[test]
 fn padded_numbers_have_all_their_bytes() {
-    let code = "section 4 (code): offset 0x29, size 11
+    let code = "names: exports
 
-function 0: type 0, offset 0x2c, size 8
+section 4 (code): offset 0x29, size 11
+
+function 0 <f>: type 0, offset 0x2c, size 8
  00002d: 20 00                      | local.get 0
  00002f: 20 81 00                   | local.get 1
  000032: 6a                         | i32.add
@@ -99,33 +103,24 @@ fn selected_sections() {
     let [types, functions, exports, code] = SHORT;
     let other = custom("type", "07");
     let sections = [types, functions, exports, code, SHORT_NAME, &other];
-    let [first, _, third, _, last]: [&str; 5] = {
+    let [head, first, _, third, _, last]: [&str; 6] = {
         let parts: Vec<&str> = SHORT_DUMP.split("\nsection ").collect();
         parts.try_into().unwrap()
     };
-    let (third, last) = (format!("section {third}"), format!("section {last}"));
+    let [first, third, last] = [first, third, last].map(|it| format!("section {it}"));
     let custom = "section 6 (custom \"type\"): offset 0x34, size 6\n 000039: 07                                               .\n";
-    check(&sections, &["--section=export"], &third);
-    check(&sections, &["--section", "3"], &third);
-    check(&sections, &["--id", "7"], &third);
-    check(&sections, &["--section", "name"], &last);
-    check(
-        &sections,
-        &["--section=type"],
-        &format!("{first}\n{custom}"),
-    );
-    check(
-        &sections,
-        &["--id=1", "--section=export"],
-        &format!("{first}\n{third}"),
-    );
-    check(
-        &sections,
-        &["--section", "custom"],
-        &format!("{last}\n{custom}"),
-    );
-    check(&sections, &["--id", "0"], &format!("{last}\n{custom}"));
-    check(&sections, &["--section", "6"], custom);
+    let check = |words: &[&str], listed: &[&str]| {
+        check(&sections, words, &format!("{head}\n{}", listed.join("\n")));
+    };
+    check(&["--section=export"], &[&third]);
+    check(&["--section", "3"], &[&third]);
+    check(&["--id", "7"], &[&third]);
+    check(&["--section", "name"], &[&last]);
+    check(&["--section=type"], &[&first, custom]);
+    check(&["--id=1", "--section=export"], &[&first, &third]);
+    check(&["--section", "custom"], &[&last, custom]);
+    check(&["--id", "0"], &[&last, custom]);
+    check(&["--section", "6"], &[custom]);
 }
 
 #[test]
@@ -300,7 +295,9 @@ fn locals_are_after_the_parameters() {
         "03 04 03 00 00 07",
         "0a 16 03 08 03 01 7f 00 7c 02 70 0b 04 01 01 69 0b 06 02 01 7b 02 7f 0b",
     ];
-    let lines = "section 4 (code): offset 0x21, size 22
+    let lines = "names: imports
+
+section 4 (code): offset 0x21, size 22
 
 function 1: type 0, offset 0x23, size 8
  000024: 01 7f                      | local 2 i32
@@ -331,18 +328,20 @@ fn names_of_functions_and_globals() {
         // Function 0 is `a"`, function 1 is `b`, global 0 is `g`.
         "00 15 04 6e616d65 01 08 02 00 02 6122 01 01 62 07 04 01 00 01 67",
     ];
-    let lines = r#"section 4 (code): offset 0x1d, size 18
+    let lines = r#"names: name section
 
-function 0 "a\"": type 0, offset 0x1f, size 12
- 000020: 10 01                      | call 1 "b"
- 000022: 23 00                      | global.get 0 "g"
- 000024: d2 00                      | ref.func 0 "a\""
+section 4 (code): offset 0x1d, size 18
+
+function 0 <a">: type 0, offset 0x1f, size 12
+ 000020: 10 01                      | call 1 <b>
+ 000022: 23 00                      | global.get 0 <g>
+ 000024: d2 00                      | ref.func 0 <a">
  000026: 10 09                      | call 9
  000028: 1a                         | drop
  000029: 1a                         | drop
  00002a: 0b                         | end
 
-function 1 "b": type 0, offset 0x2c, size 3
+function 1 <b>: type 0, offset 0x2c, size 3
  00002d: 00                         | unreachable
  00002e: 0b                         | end
 "#;
@@ -358,22 +357,25 @@ fn names_of_symbols() {
     let name = custom("name", "01 04 01 01 01 62");
     // `call 0`, `call 1`, `global.get 0`.
     let code = "0a 0a 01 08 00 1000 1001 2300 0b";
-    let lines = |second: &str| {
+    let lines = |sources: &str, second: &str| {
         format!(
-            r#"section 1 (code): offset 0xa, size 10
+            "names: {sources}
 
-function 0 "f": offset 0xc, size 8
- 00000d: 10 00                      | call 0 "f"
- 00000f: 10 01                      | call 1 "{second}"
- 000011: 23 00                      | global.get 0 "g"
+section 1 (code): offset 0xa, size 10
+
+function 0 <f>: offset 0xc, size 8
+ 00000d: 10 00                      | call 0 <f>
+ 00000f: 10 01                      | call 1 <{second}>
+ 000011: 23 00                      | global.get 0 <g>
  000013: 0b                         | end
-"#
+"
         )
     };
     let words = ["--section=code"];
-    check(&[code, &linking], &words, &lines("x"));
-    check(&[code, &linking, &name], &words, &lines("b"));
-    check(&[code, &name, &linking], &words, &lines("b"));
+    check(&[code, &linking], &words, &lines("linking section", "x"));
+    let both = lines("name section, linking section", "b");
+    check(&[code, &linking, &name], &words, &both);
+    check(&[code, &name, &linking], &words, &both);
 }
 
 // ---- other sections
@@ -401,7 +403,7 @@ fn types() {
 }
 
 /// Each kind of section but types and code. The imports have two groups.
-const ITEMS: [&str; 11] = [
+pub const ITEMS: [&str; 11] = [
     "02 40 07 0161 0162 0000 0161 0163 01 646b 0001 0161 0164 02 030102 0161 0165 037f01 \
      0161 0166 040000 0161 00 7f 02 0167 2000 0168 037b00 0161 00 7e 037e00 02 0169 016a",
     "03 02 01 00",
@@ -416,60 +418,62 @@ const ITEMS: [&str; 11] = [
     "0b 12 03 00 41100b 03 610a7f 01 00 02 01 41000b 01 7e",
 ];
 
-const ITEMS_DUMP: &str = r#"section 1 (import): offset 0xa, size 64
- 00000b: function 0 (import "a" "b") (type 0)
- 000011: table 0 (import "a" "c") 1 (ref struct)
- 00001a: memory 0 (import "a" "d") 1 2 shared
- 000022: global 0 (import "a" "e") (mut i32)
- 000029: tag 0 (import "a" "f") (type 0)
- 000030: function 1 (import "a" "g") (exact (type 0))
- 000030: global 1 (import "a" "h") v128
- 00003e: global 2 (import "a" "i") i64
- 00003e: global 3 (import "a" "j") i64
+const ITEMS_DUMP: &str = r#"names: name section, exports, imports
+
+section 1 (import): offset 0xa, size 64
+ 00000b: function 0 <a.b> (import "a" "b") (type 0)
+ 000011: table 0 <a.c> (import "a" "c") 1 (ref struct)
+ 00001a: memory 0 <a.d> (import "a" "d") 1 2 shared
+ 000022: global 0 <a.e> (import "a" "e") (mut i32)
+ 000029: tag 0 <a.f> (import "a" "f") (type 0)
+ 000030: function 1 <a.g> (import "a" "g") (exact (type 0))
+ 000030: global 1 <a.h> (import "a" "h") v128
+ 00003e: global 2 <a.i> (import "a" "i") i64
+ 00003e: global 3 <a.j> (import "a" "j") i64
 
 section 2 (function): offset 0x4c, size 2
- 00004d: function 2 "two" (type 0)
+ 00004d: function 2 <two> (type 0)
 
 section 3 (table): offset 0x50, size 9
- 000051: table 1 2 funcref (ref.null func)
+ 000051: table 1 <t> 2 funcref (ref.null func)
 
 section 4 (memory): offset 0x5b, size 6
  00005c: memory 1 i64 1
  00005e: memory 2 0 (pagesize 1)
 
 section 5 (tag): offset 0x63, size 3
- 000064: tag 1 (type 0)
+ 000064: tag 1 <b> (type 0)
 
 section 6 (global): offset 0x68, size 14
  000069: global 4 i32 (i32.const 1) (i32.const 2) (i32.add)
  000071: global 5 (shared mut i64) (i64.const 0)
 
 section 7 (export): offset 0x78, size 12
- 000079: export "b" (tag 1)
- 00007d: export "" (memory 0)
- 000080: export "t" (table 1)
+ 000079: export "b" (tag 1 <b>)
+ 00007d: export "" (memory 0 <a.d>)
+ 000080: export "t" (table 1 <t>)
 
 section 8 (start): offset 0x86, size 1
- 000086: start (func 2)
+ 000086: start (func 2 <two>)
 
 section 9 (element): offset 0x89, size 32
- 00008a: element 0 (table 0) (offset (i32.const 0)) func
-         item 0 (func 0)
-         item 1 (func 1)
+ 00008a: element 0 (table 0 <a.c>) (offset (i32.const 0)) func
+         item 0 (func 0 <a.b>)
+         item 1 (func 1 <a.g>)
  000091: element 1 passive func
-         item 0 "two" (func 2)
+         item 0 (func 2 <two>)
  000095: element 2 declare func
- 000098: element 3 (table 1) (offset (i32.const 5)) func
-         item 0 (func 0)
+ 000098: element 3 (table 1 <t>) (offset (i32.const 5)) func
+         item 0 (func 0 <a.b>)
  0000a0: element 4 passive funcref
          item 0 (ref.null func)
-         item 1 (ref.func 0)
+         item 1 (ref.func 0 <a.b>)
 
 section 10 (data count): offset 0xab, size 1
  0000ab: data count 3
 
 section 11 (data): offset 0xae, size 18
- 0000af: data 0 (memory 0) (offset (i32.const 16)), size 3
+ 0000af: data 0 (memory 0 <a.d>) (offset (i32.const 16)), size 3
  0000b4: 61 0a 7f                                         a..
  0000b7: data 1 passive, size 0
  0000b9: data 2 (memory 1) (offset (i32.const 0)), size 1
@@ -508,7 +512,12 @@ section 3 (custom): offset 0x22, size 1
 #[track_caller]
 fn check_custom(name: &str, data: &str, lines: &str) {
     let size = 1 + name.len() + bytes_of(data).len();
-    let head = format!("section 1 (custom {name:?}): offset 0xa, size {size}\n");
+    let names = match name {
+        "name" => "names: name section\n\n",
+        "linking" => "names: linking section\n\n",
+        _ => "",
+    };
+    let head = format!("{names}section 1 (custom {name:?}): offset 0xa, size {size}\n");
     check(&[&custom(name, data)], &[], &format!("{head}{lines}"));
 }
 
@@ -536,23 +545,34 @@ fn names() {
 }
 
 #[test]
+fn unknown_subsections() {
+    let lines = "         subsection 6 of 1 bytes\n         needed \"a\"\n";
+    check_custom("dylink.0", "06 01 ff 02 03 01 01 61", lines);
+    // The linking section names no entry.
+    let linking = custom("linking", "02 0a 01 00");
+    let lines =
+        "section 1 (custom \"linking\"): offset 0xa, size 12\n         subsection 10 of 1 bytes\n";
+    check(&[&linking], &[], lines);
+}
+
+#[test]
 fn linking() {
     let symbols =
         "0000 01 0166 0210 00 0100 0164 00 00 04 0110 0175 0302 05 0400 00 0174 0500 00 0162";
     let data = format!(
         "02 0505 01 0164 02 01 0604 01 e807 00 0707 01 0163 00 01 01 02 0821 07 {symbols} 0904 03617263"
     );
-    let lines = r#"         segment 0 "d" align 2^2 flags 0x1
-         init symbol 0 priority 1000
+    let lines = r#"         segment 0 "d" align 2^2 flags 0x1 strings
+         init symbol 0 <f> priority 1000
          comdat "c" flags 0x0
          function 2 of comdat "c"
-         symbol 0 "f" function 1 flags 0x0
-         symbol 1 global 0 flags 0x10
-         symbol 2 "d" data 0 offset 0 size 4 flags 0x0
-         symbol 3 "u" data flags 0x10
-         symbol 4 section 5 flags 0x2
-         symbol 5 "t" tag 0 flags 0x0
-         symbol 6 "b" table 0 flags 0x0
+         symbol 0 T <f> function 1, flags 0x0 global default
+         symbol 1 U global 0, flags 0x10 global default undefined
+         symbol 2 D <d> data 0 <d> offset 0 size 4, flags 0x0 global default
+         symbol 3 U <u> data, flags 0x10 global default undefined
+         symbol 4 d section 5, flags 0x2 local default
+         symbol 5 D <t> tag 0, flags 0x0 global default
+         symbol 6 D <b> table 0, flags 0x0 global default
          architecture "arc"
 "#;
     check_custom("linking", &data, lines);
@@ -582,8 +602,8 @@ fn dylink() {
     let lines = r#"         memory size 300 align 2^4
          table size 5 align 2^0
          needed "a.so"
-         export "f" flags 0x1
-         import "g" of "env" flags 0x10
+         export "f" flags 0x1 weak
+         import "g" of "env" flags 0x10 undefined
          runtime path "/l"
 "#;
     let data = "0105 ac02 04 05 00 0206 01 04612e736f 0304 01 0166 01 0408 01 03656e76 0167 10 0504 01 022f6c";
@@ -593,9 +613,9 @@ fn dylink() {
 #[test]
 fn relocations() {
     let lines = "         section 3
-         relocation FunctionIndexLeb offset 0x4 index 0
-         relocation MemoryAddrLeb offset 0x12c index 1 addend -1
-         relocation MemoryAddrI64 offset 0x8 index 2 addend -8
+         relocation R_WASM_FUNCTION_INDEX_LEB offset 0x4 symbol 0
+         relocation R_WASM_MEMORY_ADDR_LEB offset 0x12c symbol 1 addend -1
+         relocation R_WASM_MEMORY_ADDR_I64 offset 0x8 symbol 2 addend -8
 ";
     let data = "03 03 00 04 00 03 ac02 01 7f 10 08 02 78";
     check_custom("reloc.CODE", data, lines);
@@ -724,26 +744,31 @@ fn json() {
         let answer = folder.call(&words, &module(sections));
         assert_eq!(shown(answer), shown(Answer::of(text)));
     };
-    check(&[], &[], "[]\n");
-    let text = r#"[
+    check(
+        &[],
+        &[],
+        "{\"version\": 1, \"names\": [], \"sections\": []}\n",
+    );
+    let text = r#"{"version": 1, "names": ["name section"], "sections": [
   {"section": 1, "id": 3, "kind": "function", "name": null, "offset": 10, "size": 2, "items": [
-    {"kind": "function", "index": 0, "name": "f\"", "offset": 11, "text": "(type 0)"}
+    {"kind": "function", "index": 0, "name": "f\"", "offset": 11, "type": 0}
   ]},
   {"section": 2, "id": 10, "kind": "code", "name": null, "offset": 14, "size": 8, "items": [
-    {"kind": "function", "index": 0, "name": "f\"", "type": 0, "offset": 16, "size": 6, "code": [
-      {"offset": 17, "bytes": "017f", "name": "local", "operands": "+0 i32"},
-      {"offset": 19, "bytes": "2000", "name": "local.get", "operands": "0"},
-      {"offset": 21, "bytes": "0b", "name": "end", "operands": ""}
+    {"kind": "body", "index": 0, "name": "f\"", "type": 0, "offset": 16, "size": 6, "locals": [
+      {"offset": 17, "bytes": "017f", "first": null, "count": 1, "type": "i32"}
+    ], "code": [
+      {"offset": 19, "bytes": "2000", "name": "local.get", "operands": [{"kind": "local", "index": 0}]},
+      {"offset": 21, "bytes": "0b", "name": "end", "operands": []}
     ]}
   ]},
   {"section": 3, "id": 0, "kind": "custom", "name": "name", "offset": 24, "size": 12, "items": [
-    {"kind": "function", "index": 0, "name": "f\"", "offset": null, "text": ""}
+    {"kind": "name", "of": "function", "index": 0, "name": "f\""}
   ]},
   {"section": 4, "id": 0, "kind": "custom", "name": "a", "offset": 38, "size": 4, "items": [
-    {"offset": 40, "bytes": "0102"}
+    {"kind": "bytes", "offset": 40, "size": 2, "bytes": "0102"}
   ]},
   {"section": 5, "id": 6, "kind": "global", "name": null, "offset": 44, "size": 1, "items": []}
-]
+]}
 "#;
     let names = custom("name", "01 05 01 00 02 6622");
     let sections = [
@@ -763,13 +788,13 @@ fn json_of_a_section_that_does_not_decode_ends_before_it() {
         &["dump", "-", "--json"],
         &module(&["0a 06 01 04 00 01 ff 0b"]),
     );
-    let text = r#"[
+    let text = r#"{"version": 1, "names": [], "sections": [
   {"section": 1, "id": 10, "kind": "code", "name": null, "offset": 10, "size": 6, "items": [
-    {"kind": "function", "index": 0, "name": null, "type": null, "offset": 12, "size": 4, "code": [
-      {"offset": 13, "bytes": "01", "name": "nop", "operands": ""}
+    {"kind": "body", "index": 0, "name": null, "type": null, "offset": 12, "size": 4, "locals": [], "code": [
+      {"offset": 13, "bytes": "01", "name": "nop", "operands": []}
     ]}
   ]}
-]
+]}
 "#;
     let expected = Answer {
         out: text.into(),

@@ -3,6 +3,8 @@ mod build;
 mod build_id;
 mod completions;
 mod dump;
+mod dump_json;
+mod dump_objects;
 mod files;
 mod hints;
 mod keep_code;

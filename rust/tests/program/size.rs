@@ -43,7 +43,7 @@ fn sections() {
 
 #[test]
 fn functions() {
-    let second = "         4   7.5  function 2 \"abc\"\n";
+    let second = "         4   7.5  function 2 <abc>\n";
     let first = "         3   5.7  function 1\n";
     check(
         &NAMED,
@@ -125,7 +125,7 @@ fn faults() {
     };
     // Names after the first wrong byte are none, and no error.
     names("01 09", b" function 1\n");
-    names("01 06 01 01 03 616263 02 09", b" function 1 \"abc\"\n");
+    names("01 06 01 01 03 616263 02 09", b" function 1 <abc>\n");
 }
 
 #[test]

@@ -7,7 +7,8 @@ const USAGES: [&str; 7] = [
 usage: dolzhytik outline FILE [--why] [--strict] [--json]
 ",
     "\
-usage: dolzhytik dump FILE [--section NUMBER|NAME].. [--id ID].. [--json]
+usage: dolzhytik dump FILE [FUNCTION] [--section NUMBER|NAME].. [--id ID]..
+                 [--relocations] [--json]
 ",
     "\
 usage: dolzhytik size FILE [--functions N] [--json]
@@ -111,6 +112,10 @@ fn missing_and_unexpected_arguments() {
     }
     check(&["outline", "a", "b"], "unexpected argument: b");
     check(&["size", "a", "b"], "unexpected argument: b");
+    check(&["dump", "a", "b", "c"], "unexpected argument: c");
+    let both = "dump takes a function or sections, and not both";
+    check(&["dump", "a", "b", "--id=10"], both);
+    check(&["dump", "--section=code", "a", "0"], both);
     check(&["shorten", "a", "b", "-o", "c"], "unexpected argument: b");
     check(&["build", "a", "b", "-o", "c"], "unexpected argument: b");
     check(&["help", "size", "b"], "unexpected argument: b");
@@ -239,6 +244,7 @@ fn help() {
         "--keep NAME ",
         "--section NUMBER|NAME ",
         "--id ID ",
+        "-r, --relocations ",
         "--why ",
         "--strict ",
         "--dry-run ",

@@ -13,7 +13,7 @@ fn tool(variable: &str, default: &str) -> OsString {
 }
 
 /// Returns what a tool printed to standard output, or `None` if it is missing. Panics if it failed.
-fn printed(command: &mut Command) -> Option<String> {
+pub fn printed(command: &mut Command) -> Option<String> {
     let Ok(Output {
         status,
         stdout,

@@ -1,4 +1,4 @@
-"""Tests of tools/text-names: the rule, names that stop the tool, and changed files."""
+"""Tests of tools/text-names: the rule, what numbers are, names that stop the tool, and changed files."""
 from __future__ import annotations
 
 import pathlib
@@ -8,7 +8,7 @@ from dataclasses import replace
 from ..errors import Stop
 from ..instructions.table import TABLE, Case, read
 from ..repository import TOP, text_of
-from ..text_names import FILE, name_of, named
+from ..text_names import FILE, name_of, named, roles_of
 from ..text_names import main as main_of_tool
 from .report import run_all, usage_of
 
@@ -39,6 +39,22 @@ NAMES = {
     "i64_atomic_rmw32_add_u": "i64.atomic.rmw32.add_u",
     "array_atomic_get_s": "array.atomic.get_s",
 }
+# What the numbers of instructions are, in the order of the binary format in the standard.
+ROLES = {
+    "nop": (),
+    "br_if": ("Label",),
+    "br_table": ("Label",),
+    "call": ("Entry(Function)",),
+    "call_indirect": ("Entry(Type)", "Entry(Table)"),
+    "local_tee": ("Local",),
+    "throw": ("Entry(Tag)",),
+    "struct_get": ("Entry(Type)", "Field"),
+    "array_new_fixed": ("Entry(Type)", "Length"),
+    "array_new_data": ("Entry(Type)", "Entry(Data)"),
+    "memory_init": ("Entry(Data)", "Entry(Memory)"),
+    "table_init": ("Entry(Element)", "Entry(Table)"),
+    "i32_load": (),
+}
 
 
 def cases() -> list[Case]:
@@ -50,6 +66,18 @@ def rule() -> None:
     calls = {it.call for it in cases()}
     for call, name in NAMES.items():
         assert call in calls and name_of(call) == name, (call, name_of(call))
+
+
+def numbers() -> None:
+    """The names of fields say what numbers are, and another name stops the tool."""
+    found = {it.call: it for it in cases()}
+    for call, roles in ROLES.items():
+        assert roles_of(found[call]) == roles, (call, roles_of(found[call]))
+    try:
+        roles_of(replace(found["call"], parameters=("callee",)))
+    except Stop:
+        return
+    raise AssertionError("it was not stopped at another name")
 
 
 def stops() -> None:
@@ -79,4 +107,4 @@ def touched_files() -> None:
 
 def main() -> int:
     """Runs the tests."""
-    return run_all("text-names-test", (rule, stops, touched_files))
+    return run_all("text-names-test", (rule, numbers, stops, touched_files))

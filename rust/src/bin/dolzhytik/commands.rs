@@ -28,11 +28,7 @@ pub fn run(command: Command) -> Result<(), Failure> {
             choice,
             format,
         } => shorten::dry_run(&input, choice, format),
-        Command::Dump {
-            input,
-            sections,
-            format,
-        } => dump::dump(&input, &input.read()?, &sections, format),
+        Command::Dump { input, choice } => dump::dump(&input, &input.read()?, &choice),
         Command::Size {
             input,
             functions,

@@ -1,7 +1,8 @@
 //! What the lines of functions and items take from other sections: names, indices and types.
 use crate::cursor::Cursor;
+use crate::name::{Entry, Name, Source};
 use crate::sections::Section;
-use dolzhytik::fallible::{CompositeInnerType, EntityType, Imports, SubItem};
+use dolzhytik::fallible::{CompositeInnerType, EntityType, Export, ExportKind, Imports, SubItem};
 use dolzhytik::reader::{Items, LinkItem, NameItem, ReadError, Symbol, TypeEntry};
 use std::collections::HashMap;
 
@@ -30,6 +31,17 @@ impl Space {
             Space::Type => "type",
             Space::Element => "element",
             Space::Data => "data",
+        }
+    }
+
+    /// The space of an export.
+    pub fn exported(kind: ExportKind) -> Self {
+        match kind {
+            ExportKind::Func => Space::Function,
+            ExportKind::Table => Space::Table,
+            ExportKind::Memory => Space::Memory,
+            ExportKind::Global => Space::Global,
+            ExportKind::Tag => Space::Tag,
         }
     }
 
@@ -63,9 +75,13 @@ impl Space {
 /// What the lines of functions and items take from other sections.
 #[derive(Default)]
 pub struct Context<'a> {
-    names: HashMap<(Space, u32), &'a str>,
-    /// How many entries of each space are imported.
-    imported: [u32; 5],
+    /// The sections of the module, in their order.
+    sections: Vec<Section<'a>>,
+    /// The name of an entry that has precedence, and where it is from.
+    names: HashMap<(Space, u32), (Source, Name<'a>)>,
+    /// The imports of each space, by their indices.
+    imports: [Vec<Name<'a>>; 5],
+    symbols: Vec<Symbol<'a>>,
     /// The index of each function's type, first those of the imports.
     function_types: Vec<u32>,
     /// How many parameters each type has, none if it is no function type.
@@ -75,7 +91,10 @@ pub struct Context<'a> {
 impl<'a> Context<'a> {
     /// Takes what the sections have up to their first byte that does not decode.
     pub fn of(sections: &[Section<'a>]) -> Self {
-        let mut context = Context::default();
+        let mut context = Context {
+            sections: sections.to_vec(),
+            ..Context::default()
+        };
         let (imports, others): (Vec<_>, Vec<_>) = sections.iter().partition(|it| it.id() == 2);
         for section in imports.into_iter().chain(others) {
             // Whoever lists the section reports what does not decode.
@@ -91,17 +110,37 @@ impl<'a> Context<'a> {
                 self.take_type(&entry);
                 Ok(())
             }),
-            (2, _) => cursor.each(|_, imports: Imports<'_>| {
-                each_import(&imports, |import| self.take_import(import.ty));
+            (2, _) => cursor.each(|_, imports: Imports<'a>| {
+                each_import(&imports, |import| self.take_import(import));
                 Ok(())
             }),
             (3, _) => cursor.each(|_, ty| {
                 self.function_types.push(ty);
                 Ok(())
             }),
+            (7, _) => cursor.each(|_, export: Export<'a>| {
+                let space = Space::exported(export.kind);
+                self.give(
+                    (space, export.index),
+                    Source::Exports,
+                    Name::Own(export.name),
+                );
+                Ok(())
+            }),
             (_, Some("name")) => self.take_names(cursor),
-            (_, Some("linking")) => self.take_symbols(section),
+            (_, Some("linking")) => self.take_linking(section),
             _ => Ok(()),
+        }
+    }
+
+    /// Names an entry, unless it has a name of a source with precedence. An empty name is none.
+    fn give(&mut self, entry: (Space, u32), source: Source, name: Name<'a>) {
+        if name == Name::Own("") {
+            return;
+        }
+        let given = self.names.entry(entry).or_insert((source, name));
+        if given.0 <= source {
+            *given = (source, name);
         }
     }
 
@@ -116,9 +155,15 @@ impl<'a> Context<'a> {
         }
     }
 
-    fn take_import(&mut self, ty: &EntityType) {
-        self.imported[Space::of(ty) as usize] += 1;
-        if let EntityType::Function(index) | EntityType::FunctionExact(index) = ty {
+    fn take_import(&mut self, import: OneImport<'_, 'a>) {
+        let space = Space::of(import.ty);
+        let name = Name::Imported {
+            module: import.module,
+            name: import.name,
+        };
+        self.give((space, self.imported(space)), Source::Imports, name);
+        self.imports[space as usize].push(name);
+        if let EntityType::Function(index) | EntityType::FunctionExact(index) = import.ty {
             self.function_types.push(*index);
         }
     }
@@ -130,36 +175,98 @@ impl<'a> Context<'a> {
                 continue;
             };
             if let Some(space) = Space::of_names(id) {
-                let names = names.iter().map(|(index, name)| ((space, *index), *name));
-                self.names.extend(names);
+                for (index, name) in names.iter() {
+                    self.give((space, *index), Source::NameSection, Name::Own(name));
+                }
             }
         }
         Ok(())
     }
 
-    /// Takes the names of symbols. Those of a name section have precedence.
-    fn take_symbols(&mut self, section: &Section<'a>) -> Result<(), ReadError> {
+    /// Takes symbols, their names, and those of data segments.
+    fn take_linking(&mut self, section: &Section<'a>) -> Result<(), ReadError> {
         let Items::Linking(items) = section.items()? else {
             return Ok(());
         };
-        let symbols = items.iter().filter_map(|item| match item {
-            LinkItem::Symbols(symbols) => Some(symbols.as_slice()),
-            _ => None,
-        });
-        for (entry, name) in symbols.flatten().filter_map(named_entry) {
-            self.names.entry(entry).or_insert(name);
+        for item in items.into_std() {
+            match item {
+                LinkItem::Symbols(symbols) => self.symbols.extend(symbols.into_std()),
+                LinkItem::Segments(segments) => {
+                    for (index, segment) in (0..).zip(segments.iter()) {
+                        let name = Name::Own(segment.name);
+                        self.give((Space::Data, index), Source::Linking, name);
+                    }
+                }
+                _ => {}
+            }
+        }
+        let named: Vec<_> = self.symbols.iter().filter_map(named_entry).collect();
+        for (entry, name) in named {
+            self.give(entry, Source::Linking, Name::Own(name));
         }
         Ok(())
     }
 
-    /// How many entries of the space are imported, which is the index of the first that is not.
-    pub fn imported(&self, space: Space) -> u32 {
-        self.imported.get(space as usize).copied().unwrap_or(0)
+    /// The sources of the names that entries have, that with precedence first.
+    pub fn sources(&self) -> Vec<Source> {
+        let is_used = |source: &Source| self.names.values().any(|(it, _)| it == source);
+        Source::ALL.into_iter().filter(is_used).collect()
     }
 
-    /// The name of an entry, as the name section or a symbol has it.
-    pub fn name(&self, space: Space, index: u32) -> Option<&'a str> {
-        self.names.get(&(space, index)).copied()
+    /// How many entries of the space are imported, which is the index of the first that is not.
+    pub fn imported(&self, space: Space) -> u32 {
+        self.imports.get(space as usize).map_or(0, Vec::len) as u32
+    }
+
+    /// The name of an entry.
+    pub fn name(&self, space: Space, index: u32) -> Option<Name<'a>> {
+        self.names.get(&(space, index)).map(|(_, name)| *name)
+    }
+
+    /// The indices of the entries of a name.
+    pub fn named(&self, space: Space, text: &str) -> Vec<u32> {
+        let is_named = |((of, _), (_, name)): &(&(Space, u32), &(Source, Name<'a>))| {
+            *of == space && name.is(text)
+        };
+        let named = self.names.iter().filter(is_named);
+        named.map(|((_, index), _)| *index).collect()
+    }
+
+    /// An index, with the name of its entry.
+    pub fn entry(&self, space: Space, index: u32) -> Entry<'a> {
+        Entry {
+            kind: space.word(),
+            index,
+            name: self.name(space, index),
+        }
+    }
+
+    /// The module and the name of an import.
+    pub fn import(&self, space: Space, index: u32) -> Option<Name<'a>> {
+        self.imports
+            .get(space as usize)?
+            .get(index as usize)
+            .copied()
+    }
+
+    /// The section of an index, which counts from 0.
+    pub fn section(&self, index: u32) -> Option<&Section<'a>> {
+        self.sections.get(index as usize)
+    }
+
+    /// The index of a section, with its name, or that of its kind.
+    pub fn section_entry(&self, index: u32) -> Entry<'a> {
+        let name = |section: &Section<'a>| section.name().unwrap_or(section.kind_name());
+        Entry {
+            kind: "section",
+            index,
+            name: self.section(index).map(|section| Name::Own(name(section))),
+        }
+    }
+
+    /// The symbol of an index.
+    pub fn symbol(&self, index: u32) -> Option<&Symbol<'a>> {
+        self.symbols.get(index as usize)
     }
 
     /// The index of a function's type.
@@ -174,27 +281,43 @@ impl<'a> Context<'a> {
     }
 }
 
+/// The entry of a symbol with an index.
+pub fn entry_of(symbol: &Symbol<'_>) -> Option<(Space, u32)> {
+    match *symbol {
+        Symbol::Function { index, .. } => Some((Space::Function, index)),
+        Symbol::Global { index, .. } => Some((Space::Global, index)),
+        Symbol::Table { index, .. } => Some((Space::Table, index)),
+        Symbol::Tag { index, .. } => Some((Space::Tag, index)),
+        _ => None,
+    }
+}
+
+/// The name that a symbol has of its own.
+pub fn own_name<'a>(symbol: &Symbol<'a>) -> Option<&'a str> {
+    match *symbol {
+        Symbol::Function { name, .. }
+        | Symbol::Global { name, .. }
+        | Symbol::Table { name, .. }
+        | Symbol::Tag { name, .. } => name,
+        Symbol::DataSymbol { name, .. } => Some(name),
+        _ => None,
+    }
+}
+
 /// The entry that a symbol names, if it names one.
 fn named_entry<'a>(symbol: &Symbol<'a>) -> Option<((Space, u32), &'a str)> {
-    let (space, index, name) = match *symbol {
-        Symbol::Function { index, name, .. } => (Space::Function, index, name),
-        Symbol::Global { index, name, .. } => (Space::Global, index, name),
-        Symbol::Table { index, name, .. } => (Space::Table, index, name),
-        Symbol::Tag { index, name, .. } => (Space::Tag, index, name),
-        _ => return None,
-    };
-    Some(((space, index), name?))
+    Some((entry_of(symbol)?, own_name(symbol)?))
 }
 
 /// An import of a group or a single one.
-pub struct OneImport<'i> {
-    pub module: &'i str,
-    pub name: &'i str,
+pub struct OneImport<'i, 'a> {
+    pub module: &'a str,
+    pub name: &'a str,
     pub ty: &'i EntityType,
 }
 
 /// Passes each import of the entry.
-pub fn each_import(imports: &Imports<'_>, mut pass: impl FnMut(OneImport<'_>)) {
+pub fn each_import<'i, 'a>(imports: &'i Imports<'a>, mut pass: impl FnMut(OneImport<'i, 'a>)) {
     match imports {
         Imports::Single(import) => pass(OneImport {
             module: import.module,

@@ -1,5 +1,5 @@
 //! Errors of the program, and their messages.
-use crate::dump::Selector;
+use crate::dump::{Function, Selector};
 use crate::files::{Input, Output};
 use crate::found::Found;
 use crate::misuse::Misuse;
@@ -46,6 +46,12 @@ pub enum Failure {
         selector: Selector,
         /// How many sections the module has.
         count: usize,
+    },
+    /// No function with a body is selected.
+    NoBody {
+        input: Input,
+        function: Function,
+        is_import: bool,
     },
     /// So many sections of known kinds do not decode.
     Undecoded {
@@ -207,6 +213,17 @@ impl fmt::Display for Failure {
                 }
                 Ok(())
             }
+            Failure::NoBody {
+                input,
+                function,
+                is_import: true,
+            } => write!(
+                f,
+                "{input}: function {function} is an import, and has no body"
+            ),
+            Failure::NoBody {
+                input, function, ..
+            } => write!(f, "{input}: no function {function}"),
             Failure::Undecoded { input, count } => {
                 let do_not = if *count == 1 { " does" } else { "s do" };
                 write!(f, "{input}: {count} section{do_not} not decode")

@@ -42,16 +42,21 @@ reported on standard error.",
         name: "dump",
         usage: &[
             "FILE",
+            "[FUNCTION]",
             "[--section NUMBER|NAME]..",
             "[--id ID]..",
+            "[--relocations]",
             "[--json]",
         ],
         says: "\
 prints the items of each section, and the locals and instructions of each function. A line of code \
 has the offset in the file, in hexadecimal, the bytes, and the name and operands in the text \
 format. Locals have their indices; where the type of the function is not known, +0 is the first \
-one. A custom section is listed by the kind that its name selects, or as bytes.",
-        options: &[Flag::Section, Flag::Id, Flag::Json],
+one. A custom section is listed by the kind that its name selects, or as bytes. The name of an \
+entry is in < and >, from the first of these that has one: the name section, linking, exports, \
+imports. The line * is two or more rows of zeros. With FUNCTION, an index or a name, it prints the \
+functions that have that alone.",
+        options: &[Flag::Section, Flag::Id, Flag::Relocations, Flag::Json],
     },
     Manual {
         verb: Verb::Size,
@@ -134,6 +139,7 @@ pub enum Flag {
     Force,
     Section,
     Id,
+    Relocations,
     Functions,
     All,
     Debug,
@@ -187,7 +193,7 @@ const fn explained(flag: Flag, long: &'static str, given: Given, says: &'static 
 }
 
 /// The options, in the order of the help.
-pub const OPTIONS: [Explained; 17] = [
+pub const OPTIONS: [Explained; 18] = [
     Explained {
         short: Some("-o"),
         ..explained(
@@ -218,6 +224,17 @@ section. There may be several. Without this and --id, dump prints all.",
         Given::Often("ID"),
         "the id of sections that dump prints. There may be several.",
     ),
+    Explained {
+        short: Some("-r"),
+        ..explained(
+            Flag::Relocations,
+            "--relocations",
+            Given::Alone,
+            "\
+prints each relocation below the instruction or the bytes that it patches: its offset in the file, \
+its type, the index and name of its symbol, and its addend.",
+        )
+    },
     explained(
         Flag::Functions,
         "--functions",

@@ -1,108 +1,219 @@
-//! Outlines, sizes and savings as JSON.
+//! Values of JSON. Outlines, sizes and savings as JSON.
 use crate::outline::Row;
 use crate::sections::Section;
 use crate::shorten::{Saving, Savings};
 use crate::sizes::{Function, Sizes};
 use dolzhytik::reader::ReadError;
-use std::fmt::Write;
+use std::borrow::Cow;
+use std::fmt::{self, Display, Formatter, Write};
 
-/// A string of JSON, or `null`.
-pub fn string(text: Option<&str>) -> String {
-    let Some(text) = text else {
-        return "null".into();
-    };
-    let mut json = String::from('"');
-    for c in text.chars() {
-        match c {
-            '"' | '\\' => json.extend(['\\', c]),
-            // The escapes of JSON are units of UTF-16, which control characters have one of.
-            c if c.is_control() => {
-                let _ = write!(json, "\\u{:04x}", u32::from(c));
+/// A value of JSON. It prints on one line.
+#[derive(Debug)]
+pub enum Value<'a> {
+    Null,
+    Bool(bool),
+    Unsigned(u64),
+    Signed(i64),
+    /// The digits of a number.
+    Digits(String),
+    Text(Cow<'a, str>),
+    List(Vec<Value<'a>>),
+    Object(Members<'a>),
+}
+
+/// The members of an object, in their order.
+pub type Members<'a> = Vec<(&'static str, Value<'a>)>;
+
+impl<'a> Value<'a> {
+    pub fn list<T: Into<Value<'a>>>(items: impl IntoIterator<Item = T>) -> Self {
+        Value::List(items.into_iter().map(T::into).collect())
+    }
+
+    /// A list of one line an item, but for an empty one.
+    fn lines(self) -> String {
+        match self {
+            Value::List(items) if !items.is_empty() => {
+                let items: Vec<String> = items.iter().map(Value::to_string).collect();
+                format!("[\n  {}\n]", items.join(",\n  "))
             }
-            c => json.push(c),
+            other => other.to_string(),
         }
     }
-    json.push('"');
-    json
 }
 
-/// A list, a line an item.
-fn list<T>(items: &[T], item: impl Fn(&T) -> String) -> String {
-    let items: Vec<String> = items.iter().map(item).collect();
-    match items.len() {
-        0 => "[]".into(),
-        _ => format!("[\n  {}\n]", items.join(",\n  ")),
+/// Makes an object: `object! { "section": 1, "name": None::<&str> }`.
+macro_rules! object {
+    ($($key:literal: $value:expr),* $(,)?) => {
+        $crate::json::Value::Object($crate::json::members! { $($key: $value),* })
+    };
+}
+
+/// Makes the members of an object.
+macro_rules! members {
+    ($($key:literal: $value:expr),* $(,)?) => {
+        vec![$(($key, $crate::json::Value::from($value))),*]
+    };
+}
+
+pub(crate) use {members, object};
+
+/// Implements `From` by a variant that takes another type, into which the type converts.
+macro_rules! from {
+    ($($variant:ident: $($ty:ty),*;)*) => {
+        $($(impl<'a> From<$ty> for Value<'a> {
+            fn from(value: $ty) -> Self {
+                Value::$variant(value.into())
+            }
+        })*)*
+    };
+}
+
+from! {
+    Bool: bool;
+    Unsigned: u8, u32, u64;
+    Signed: i32, i64;
+    Text: &'a str, String;
+}
+
+impl From<usize> for Value<'_> {
+    fn from(value: usize) -> Self {
+        Value::Unsigned(value as u64)
     }
 }
 
-/// A number or a boolean of JSON, or `null`.
-pub fn optional<T: ToString>(value: Option<T>) -> String {
-    value.map_or("null".into(), |value| value.to_string())
+/// `null` if there is no value.
+impl<'a, T: Into<Value<'a>>> From<Option<T>> for Value<'a> {
+    fn from(value: Option<T>) -> Self {
+        value.map_or(Value::Null, T::into)
+    }
 }
 
-/// Why a section does not decode, or `null`.
-fn error(row: &Row<'_>) -> String {
-    let error = row.error().map(|error| {
-        let ReadError { cause, offset } = error;
-        format!("{{\"cause\": \"{cause}\", \"offset\": {offset}}}")
-    });
-    optional(error)
+impl Display for Value<'_> {
+    fn fmt(&self, f: &mut Formatter<'_>) -> fmt::Result {
+        match self {
+            Value::Null => f.write_str("null"),
+            Value::Bool(value) => value.fmt(f),
+            Value::Unsigned(value) => value.fmt(f),
+            Value::Signed(value) => value.fmt(f),
+            Value::Digits(digits) => f.write_str(digits),
+            Value::Text(text) => string(f, text),
+            Value::List(items) => {
+                f.write_str("[")?;
+                separated(f, items, |f, item| item.fmt(f))?;
+                f.write_str("]")
+            }
+            Value::Object(members) => {
+                f.write_str("{")?;
+                Inner(members).fmt(f)?;
+                f.write_str("}")
+            }
+        }
+    }
 }
 
-fn outlined(row: &Row<'_>, why: bool) -> String {
-    let section = &row.section;
-    let why = if why {
-        format!(", \"error\": {}", error(row))
+/// The members of an object, without braces.
+pub struct Inner<'m, 'a>(pub &'m [(&'static str, Value<'a>)]);
+
+impl Display for Inner<'_, '_> {
+    fn fmt(&self, f: &mut Formatter<'_>) -> fmt::Result {
+        separated(f, self.0, |f, (key, value)| {
+            f.write_str("\"")?;
+            f.write_str(key)?;
+            f.write_str("\": ")?;
+            value.fmt(f)
+        })
+    }
+}
+
+fn separated<T>(
+    f: &mut Formatter<'_>,
+    items: &[T],
+    show: impl Fn(&mut Formatter<'_>, &T) -> fmt::Result,
+) -> fmt::Result {
+    items.iter().enumerate().try_for_each(|(i, item)| {
+        f.write_str(if i > 0 { ", " } else { "" })?;
+        show(f, item)
+    })
+}
+
+fn string(f: &mut Formatter<'_>, text: &str) -> fmt::Result {
+    f.write_str("\"")?;
+    let is_plain = |byte: u8| matches!(byte, b' '..=b'~') && byte != b'"' && byte != b'\\';
+    let (plain, others) = if text.bytes().all(is_plain) {
+        (text, "")
     } else {
-        String::new()
+        ("", text)
     };
-    format!(
-        "{{\"section\": {}, \"id\": {}, \"kind\": \"{}\", \"name\": {}, \"offset\": {}, \"size\": {}, \"items\": {}, \"decodes\": {}{why}}}",
-        section.number,
-        section.id(),
-        section.kind_name(),
-        string(section.name()),
-        section.range().start,
-        section.payload().len(),
-        optional(row.items()),
-        optional(row.decodes()),
-    )
+    f.write_str(plain)?;
+    for c in others.chars() {
+        match c {
+            '"' | '\\' => write!(f, "\\{c}")?,
+            // The escapes of JSON are units of UTF-16, which control characters have one of.
+            c if c.is_control() => write!(f, "\\u{:04x}", u32::from(c))?,
+            c => f.write_char(c)?,
+        }
+    }
+    f.write_str("\"")
+}
+
+// ---- outlines, sizes and savings
+
+/// Why a section does not decode.
+fn error<'a>(ReadError { cause, offset }: ReadError) -> Value<'a> {
+    object! { "cause": cause.to_string(), "offset": offset }
+}
+
+fn outlined<'a>(row: &Row<'a>, why: bool) -> Value<'a> {
+    let section = &row.section;
+    let mut members = members! {
+        "section": section.number,
+        "id": section.id(),
+        "kind": section.kind_name(),
+        "name": section.name(),
+        "offset": section.range().start,
+        "size": section.payload().len(),
+        "items": row.items(),
+        "decodes": row.decodes(),
+    };
+    if why {
+        members.push(("error", row.error().map(error).into()));
+    }
+    Value::Object(members)
 }
 
 /// The outline of a module, with the errors of sections if asked for.
 pub fn outline(rows: &[Row<'_>], why: bool) -> String {
-    list(rows, |row| outlined(row, why)) + "\n"
+    Value::list(rows.iter().map(|row| outlined(row, why))).lines() + "\n"
 }
 
-fn section(section: &Section<'_>) -> String {
-    format!(
-        "{{\"section\": {}, \"kind\": \"{}\", \"name\": {}, \"bytes\": {}}}",
-        section.number,
-        section.kind_name(),
-        string(section.name()),
-        section.bytes().len(),
-    )
+/// The number, kind and name of a section.
+fn identity<'a>(section: &Section<'a>) -> Members<'a> {
+    members! {
+        "section": section.number,
+        "kind": section.kind_name(),
+        "name": section.name(),
+    }
 }
 
-fn function(function: &Function<'_>) -> String {
-    format!(
-        "{{\"function\": {}, \"name\": {}, \"bytes\": {}}}",
-        function.index,
-        string(function.name),
-        function.size,
-    )
+fn section<'a>(section: &Section<'a>) -> Value<'a> {
+    let mut members = identity(section);
+    members.push(("bytes", section.bytes().len().into()));
+    Value::Object(members)
 }
 
-fn saving(saving: &Saving<'_>) -> String {
-    let section = &saving.section;
-    format!(
-        "{{\"section\": {}, \"kind\": \"{}\", \"name\": {}, \"before\": {}, \"after\": {}}}",
-        section.number,
-        section.kind_name(),
-        string(section.name()),
-        section.bytes().len(),
-        optional(saving.after),
-    )
+fn function<'a>(function: &Function<'a>) -> Value<'a> {
+    object! {
+        "function": function.index,
+        "name": function.name,
+        "bytes": function.size,
+    }
+}
+
+fn saving<'a>(saving: &Saving<'a>) -> Value<'a> {
+    let mut members = identity(&saving.section);
+    members.push(("before", saving.section.bytes().len().into()));
+    members.push(("after", saving.after.into()));
+    Value::Object(members)
 }
 
 /// What minimizing saves. A section that would be dropped has no size after it.
@@ -110,7 +221,7 @@ pub fn savings(savings: &Savings<'_>) -> String {
     let (before, after) = savings.total();
     format!(
         "{{\"before\": {before}, \"after\": {after}, \"sections\": {}}}\n",
-        list(&savings.0, saving),
+        Value::list(savings.0.iter().map(saving)).lines(),
     )
 }
 
@@ -119,7 +230,7 @@ pub fn sizes(sizes: &Sizes<'_>) -> String {
     format!(
         "{{\"bytes\": {}, \"sections\": {}, \"functions\": {}}}\n",
         sizes.module,
-        list(&sizes.sections, section),
-        list(&sizes.functions, function),
+        Value::list(sizes.sections.iter().map(section)).lines(),
+        Value::list(sizes.functions.iter().map(function)).lines(),
     )
 }

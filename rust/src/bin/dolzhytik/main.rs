@@ -11,6 +11,7 @@ mod help;
 mod json;
 mod kind_name;
 mod misuse;
+mod name;
 #[rustfmt::skip]
 mod names;
 mod outline;

@@ -23,6 +23,8 @@ pub enum Usage {
     JsonOfModule,
     /// Code may stay, or the sections that hold offsets into it are dropped.
     TwoTreatments,
+    /// `dump` lists functions or sections.
+    SectionsAndFunction,
     NoInput(&'static str),
     NoOutput(&'static str),
     WordTooMany(OsString),
@@ -49,6 +51,9 @@ impl fmt::Display for Usage {
                     "--build-id needs keep or drop, and not {}",
                     word.display()
                 )
+            }
+            Usage::SectionsAndFunction => {
+                write!(f, "dump takes a function or sections, and not both")
             }
             Usage::TwoTreatments => {
                 write!(

@@ -1,5 +1,7 @@
 // Written by tools/text-names from tools/instructions.tsv: change that.
-//! The names of instructions in the text format.
+//! The names of instructions in the text format, and what their numbers are.
+use crate::context::Space::{Data, Element, Function, Global, Memory, Table, Tag, Type};
+use crate::dump::Role::{self, Entry, Field, Label, Length, Local};
 use dolzhytik::fallible::Op;
 
 /// Returns the name of the instruction with this opcode, or `None` if there is no such instruction.
@@ -635,4 +637,33 @@ pub fn name_of(op: Op) -> Option<&'static str> {
         _ => return None,
     };
     Some(name)
+}
+
+/// Returns what the numbers among the immediates of this opcode are, in the order of their encoding. The
+/// labels of a branch table, and the numbers in clauses and memory arguments, are none of these.
+pub fn roles_of(op: Op) -> &'static [Role] {
+    match op {
+        Op::Byte(0x07) | Op::Byte(0x08) | Op::Byte(0xE2) => &[Entry(Tag)],
+        Op::Byte(0x09) | Op::Byte(0x0C) | Op::Byte(0x0D) | Op::Byte(0x0E) | Op::Byte(0x18) | Op::Byte(0xD5) | Op::Byte(0xD6) | Op::Prefixed(0xFB, 24) | Op::Prefixed(0xFB, 25) | Op::Prefixed(0xFB, 37) | Op::Prefixed(0xFB, 38) => &[Label],
+        Op::Byte(0x10) | Op::Byte(0x12) | Op::Byte(0xD2) => &[Entry(Function)],
+        Op::Byte(0x11) | Op::Byte(0x13) => &[Entry(Type), Entry(Table)],
+        Op::Byte(0x14) | Op::Byte(0x15) | Op::Byte(0xE0) | Op::Byte(0xE3) | Op::Byte(0xE5) | Op::Prefixed(0xFB, 0) | Op::Prefixed(0xFB, 1) | Op::Prefixed(0xFB, 6) | Op::Prefixed(0xFB, 7) | Op::Prefixed(0xFB, 11) | Op::Prefixed(0xFB, 12) | Op::Prefixed(0xFB, 13) | Op::Prefixed(0xFB, 14) | Op::Prefixed(0xFB, 16) | Op::Prefixed(0xFB, 32) | Op::Prefixed(0xFB, 33) | Op::Prefixed(0xFB, 34) | Op::Prefixed(0xFE, 103) | Op::Prefixed(0xFE, 104) | Op::Prefixed(0xFE, 105) | Op::Prefixed(0xFE, 106) | Op::Prefixed(0xFE, 107) | Op::Prefixed(0xFE, 108) | Op::Prefixed(0xFE, 109) | Op::Prefixed(0xFE, 110) | Op::Prefixed(0xFE, 111) | Op::Prefixed(0xFE, 112) | Op::Prefixed(0xFE, 113) => &[Entry(Type)],
+        Op::Byte(0x20) | Op::Byte(0x21) | Op::Byte(0x22) => &[Local],
+        Op::Byte(0x23) | Op::Byte(0x24) | Op::Prefixed(0xFE, 79) | Op::Prefixed(0xFE, 80) | Op::Prefixed(0xFE, 81) | Op::Prefixed(0xFE, 82) | Op::Prefixed(0xFE, 83) | Op::Prefixed(0xFE, 84) | Op::Prefixed(0xFE, 85) | Op::Prefixed(0xFE, 86) | Op::Prefixed(0xFE, 87) => &[Entry(Global)],
+        Op::Byte(0x25) | Op::Byte(0x26) | Op::Prefixed(0xFC, 15) | Op::Prefixed(0xFC, 16) | Op::Prefixed(0xFC, 17) | Op::Prefixed(0xFE, 88) | Op::Prefixed(0xFE, 89) | Op::Prefixed(0xFE, 90) | Op::Prefixed(0xFE, 91) => &[Entry(Table)],
+        Op::Byte(0x3F) | Op::Byte(0x40) | Op::Prefixed(0xFC, 11) | Op::Prefixed(0xFC, 18) => &[Entry(Memory)],
+        Op::Byte(0xE1) | Op::Prefixed(0xFB, 17) => &[Entry(Type), Entry(Type)],
+        Op::Byte(0xE4) | Op::Byte(0xE6) => &[Entry(Type), Entry(Tag)],
+        Op::Prefixed(0xFB, 2) | Op::Prefixed(0xFB, 3) | Op::Prefixed(0xFB, 4) | Op::Prefixed(0xFB, 5) | Op::Prefixed(0xFE, 92) | Op::Prefixed(0xFE, 93) | Op::Prefixed(0xFE, 94) | Op::Prefixed(0xFE, 95) | Op::Prefixed(0xFE, 96) | Op::Prefixed(0xFE, 97) | Op::Prefixed(0xFE, 98) | Op::Prefixed(0xFE, 99) | Op::Prefixed(0xFE, 100) | Op::Prefixed(0xFE, 101) | Op::Prefixed(0xFE, 102) => &[Entry(Type), Field],
+        Op::Prefixed(0xFB, 8) => &[Entry(Type), Length],
+        Op::Prefixed(0xFB, 9) | Op::Prefixed(0xFB, 18) => &[Entry(Type), Entry(Data)],
+        Op::Prefixed(0xFB, 10) | Op::Prefixed(0xFB, 19) => &[Entry(Type), Entry(Element)],
+        Op::Prefixed(0xFC, 8) => &[Entry(Data), Entry(Memory)],
+        Op::Prefixed(0xFC, 9) => &[Entry(Data)],
+        Op::Prefixed(0xFC, 10) => &[Entry(Memory), Entry(Memory)],
+        Op::Prefixed(0xFC, 12) => &[Entry(Element), Entry(Table)],
+        Op::Prefixed(0xFC, 13) => &[Entry(Element)],
+        Op::Prefixed(0xFC, 14) => &[Entry(Table), Entry(Table)],
+        _ => &[],
+    }
 }

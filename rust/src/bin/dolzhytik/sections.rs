@@ -57,6 +57,16 @@ impl<'a> Section<'a> {
         Cursor::new(self.payload(), self.range().start)
     }
 
+    /// Returns a cursor after the name of a custom section, or else at the front of the payload.
+    pub fn content(&self) -> Cursor<'a> {
+        let mut cursor = self.cursor();
+        if self.id() == 0 {
+            // The bytes of a section without a name are all its content.
+            let _ = cursor.read::<&str>();
+        }
+        cursor
+    }
+
     /// The failure of a decoder of the payload.
     pub fn failure(&self, input: &Input, error: ReadError) -> Failure {
         Failure::Section(BadSection {

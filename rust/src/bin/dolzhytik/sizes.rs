@@ -3,6 +3,7 @@ use crate::context::{Context, Space};
 use crate::cursor::Cursor;
 use crate::failure::Failure;
 use crate::files::Input;
+use crate::name::Name;
 use crate::sections::{HEADER, Section, sections_of};
 use dolzhytik::reader::ReadError;
 use std::cmp::Reverse;
@@ -66,14 +67,14 @@ pub struct Function<'a> {
     /// The size of its body in bytes, with its size prefix.
     pub size: usize,
     pub index: u32,
-    pub name: Option<&'a str>,
+    pub name: Option<Name<'a>>,
 }
 
-/// `function 3 "name"`.
+/// `function 3 <name>`.
 impl Display for Function<'_> {
     fn fmt(&self, f: &mut fmt::Formatter<'_>) -> fmt::Result {
         write!(f, "function {}", self.index)?;
-        self.name.map_or(Ok(()), |name| write!(f, " {name:?}"))
+        self.name.map_or(Ok(()), |name| write!(f, " {name}"))
     }
 }
 

@@ -1,5 +1,5 @@
 //! The words after the program's name, and what they ask for.
-use crate::dump::Selector;
+use crate::dump::{self, Selector};
 use crate::files::{Input, Output};
 use crate::help::{Explained, Flag, Given, Manual, OPTIONS, Verb};
 use crate::misuse::{Misuse, Usage};
@@ -29,9 +29,7 @@ pub enum Command {
     },
     Dump {
         input: Input,
-        /// Which sections to list, or none for all.
-        sections: Vec<Selector>,
-        format: Format,
+        choice: dump::Choice,
     },
     Shorten {
         input: Input,
@@ -173,8 +171,7 @@ impl Words {
             },
             Verb::Dump => Command::Dump {
                 input: self.input()?,
-                sections: self.options.selectors()?,
-                format: self.options.format(),
+                choice: self.listing()?,
             },
             Verb::Size => Command::Size {
                 input: self.input()?,
@@ -195,6 +192,21 @@ impl Words {
         };
         self.end()?;
         Ok(command)
+    }
+
+    /// What `dump` lists.
+    fn listing(&mut self) -> Result<dump::Choice, Usage> {
+        let function = self.words.next().map(name).transpose()?;
+        let sections = self.options.selectors()?;
+        if function.is_some() && !sections.is_empty() {
+            return Err(Usage::SectionsAndFunction);
+        }
+        Ok(dump::Choice {
+            sections,
+            function: function.map(dump::Function::of),
+            relocations: self.options.has(Flag::Relocations),
+            format: self.options.format(),
+        })
     }
 
     fn shorten(&mut self) -> Result<Command, Usage> {

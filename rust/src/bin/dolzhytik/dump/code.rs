@@ -2,19 +2,21 @@
 use crate::context::{Context, Space};
 use crate::cursor::Cursor;
 use crate::dump::Stop;
-use crate::dump::listing::{Function, Line, Listing};
+use crate::dump::listing::{Function, Line, Listing, Locals};
 use crate::dump::operands::Operands;
-use crate::dump::text::Text;
+use crate::dump::relocations::Patches;
 use crate::names::name_of;
 use crate::sections::Section;
 use dolzhytik::fallible::{Global, Op, ValType};
-use dolzhytik::reader::{Arg, CodeBody, Instructions, Standard};
+use dolzhytik::reader::{CodeBody, Instructions, Standard};
 use std::io::Write;
 
-/// Lists each function: its locals and its instructions.
+/// Lists each function that is selected by its index: its locals and its instructions.
 pub fn list_code(
     section: &Section<'_>,
     context: &Context<'_>,
+    is_listed: impl Fn(u32) -> bool,
+    patches: &mut Patches<'_>,
     listing: &mut Listing<impl Write>,
 ) -> Result<(), Stop> {
     let imported = context.imported(Space::Function);
@@ -22,6 +24,10 @@ pub fn list_code(
         let code = code?;
         // The reader accepts up to 4294967295 imports and as many bodies.
         let index = imported.saturating_add(number as u32);
+        if !is_listed(index) {
+            patches.before(code.offset() + code.bytes().len());
+            continue;
+        }
         let function = Function {
             index,
             name: context.name(Space::Function, index),
@@ -36,7 +42,7 @@ pub fn list_code(
             context,
             depth: 0,
         };
-        body.list(index, listing)?;
+        body.list(index, patches, listing)?;
     }
     Ok(())
 }
@@ -52,7 +58,12 @@ struct Body<'a, 'c> {
 
 impl Body<'_, '_> {
     /// Lists the body, and keeps nothing of it: neither its locals nor its instructions.
-    fn list(&mut self, function: u32, listing: &mut Listing<impl Write>) -> Result<(), Stop> {
+    fn list(
+        &mut self,
+        function: u32,
+        patches: &mut Patches<'_>,
+        listing: &mut Listing<impl Write>,
+    ) -> Result<(), Stop> {
         self.list_locals(function, listing)?;
         let (offset, bytes) = (self.cursor.offset(), self.cursor.rest());
         let mut instructions = Instructions::<Global, Standard>::standard(bytes, Global);
@@ -68,43 +79,39 @@ impl Body<'_, '_> {
                 bytes: &bytes[decoded.offset..instructions.offset()],
                 depth: self.depth_of(op),
                 name: name_of(op).unwrap_or_default(),
-                operands: Operands { op, args: &args },
-                refers_to: self.name_in(op, &args),
+                operands: Operands {
+                    op,
+                    args: &args,
+                    context: self.context,
+                },
+                patches: patches.before(offset + instructions.offset()),
             })?;
         }
         Ok(())
     }
 
-    /// Lists the runs of locals with their indices, which are those after the parameters. Where the
-    /// number of parameters is not known, `+0` is the first local.
+    /// Lists the runs of locals with their indices, which are those after the parameters.
     fn list_locals(
         &mut self,
         function: u32,
         listing: &mut Listing<impl Write>,
     ) -> Result<(), Stop> {
-        let parameters = self.context.parameters_of(function);
-        let plus = if parameters.is_some() { "" } else { "+" };
-        let mut next = u64::from(parameters.unwrap_or(0));
+        let parameters = self.context.parameters_of(function).map(u64::from);
+        let mut before = 0;
         let runs: u32 = self.cursor.read()?;
         for _ in 0..runs {
-            let before = self.cursor;
+            let begun = self.cursor;
             let (count, ty): (u32, ValType) = self.cursor.read()?;
-            let end = next + u64::from(count);
-            let indices = match count {
-                0 => String::new(),
-                1 => format!(" {plus}{next}"),
-                _ => format!(" {plus}{next}..{plus}{}", end - 1),
-            };
-            next = end;
-            let size = self.cursor.offset() - before.offset();
-            listing.line(&Line {
-                offset: before.offset(),
-                bytes: &before.rest()[..size],
-                depth: 0,
-                name: "local",
-                operands: format!("{indices} {}", Text(ty)),
-                refers_to: None,
+            let size = self.cursor.offset() - begun.offset();
+            listing.locals(Locals {
+                offset: begun.offset(),
+                bytes: &begun.rest()[..size],
+                parameters,
+                before,
+                count,
+                ty,
             })?;
+            before += u64::from(count);
         }
         Ok(())
     }
@@ -126,21 +133,6 @@ impl Body<'_, '_> {
                 outer
             }
             _ => self.depth,
-        }
-    }
-
-    /// The name of the function or global whose index is the operand.
-    fn name_in(&self, op: Op, args: &[Arg]) -> Option<&str> {
-        let space = match op {
-            // `call`, `return_call` and `ref.func`.
-            Op::Byte(0x10 | 0x12 | 0xD2) => Space::Function,
-            // `global.get` and `global.set`.
-            Op::Byte(0x23 | 0x24) => Space::Global,
-            _ => return None,
-        };
-        match args {
-            [Arg::U32(index)] => self.context.name(space, *index),
-            _ => None,
         }
     }
 }

@@ -1,11 +1,8 @@
-//! Types and expressions in the text format.
-use crate::dump::operands::Operands;
-use crate::names::name_of;
+//! Types in the text format.
 use dolzhytik::fallible::{
-    AbstractHeapType, BlockType, CompositeInnerType, CompositeType, EntityType, FieldType,
-    GlobalType, HeapType, MemoryType, RefType, StorageType, SubItem, TableType, ValType,
+    AbstractHeapType, CompositeInnerType, CompositeType, FieldType, GlobalType, HeapType,
+    MemoryType, RefType, StorageType, SubItem, TableType, ValType,
 };
-use dolzhytik::reader::{Expression, Plain};
 use std::fmt::{Display, Formatter, Result};
 
 /// What is printed of a case that the library has and the program does not list: it has none today.
@@ -15,6 +12,11 @@ pub const OTHER: &str = "of another kind";
 pub struct Text<T>(pub T);
 
 impl Text<AbstractHeapType> {
+    /// The name of the heap type.
+    pub fn name(&self) -> &'static str {
+        self.names().0
+    }
+
     /// The heap type, and what a nullable reference to it is called.
     fn names(&self) -> (&'static str, &'static str) {
         match self.0 {
@@ -39,8 +41,8 @@ impl Text<AbstractHeapType> {
 impl Display for Text<HeapType> {
     fn fmt(&self, f: &mut Formatter<'_>) -> Result {
         match self.0 {
-            HeapType::Abstract { shared: false, ty } => f.write_str(Text(ty).names().0),
-            HeapType::Abstract { shared: true, ty } => write!(f, "(shared {})", Text(ty).names().0),
+            HeapType::Abstract { shared: false, ty } => f.write_str(Text(ty).name()),
+            HeapType::Abstract { shared: true, ty } => write!(f, "(shared {})", Text(ty).name()),
             HeapType::Concrete(index) => write!(f, "{index}"),
             HeapType::Exact(index) => write!(f, "(exact {index})"),
         }
@@ -89,16 +91,6 @@ impl Display for List<'_> {
             .iter()
             .try_for_each(|ty| write!(f, " {}", Text(*ty)))?;
         f.write_str(")")
-    }
-}
-
-impl Display for Text<BlockType> {
-    fn fmt(&self, f: &mut Formatter<'_>) -> Result {
-        match self.0 {
-            BlockType::Empty => Ok(()),
-            BlockType::Result(ty) => write!(f, " {}", List("result", &[ty])),
-            BlockType::FunctionType(index) => write!(f, " (type {index})"),
-        }
     }
 }
 
@@ -242,46 +234,5 @@ impl Display for Text<GlobalType> {
             (true, false) => write!(f, "(shared {ty})"),
             (true, true) => write!(f, "(shared mut {ty})"),
         }
-    }
-}
-
-/// The type of an import, without its kind.
-impl Display for Text<&EntityType> {
-    fn fmt(&self, f: &mut Formatter<'_>) -> Result {
-        match self.0 {
-            EntityType::Function(index) => write!(f, "(type {index})"),
-            EntityType::FunctionExact(index) => write!(f, "(exact (type {index}))"),
-            EntityType::Table(ty) => write!(f, "{}", Text(*ty)),
-            EntityType::Memory(ty) => write!(f, "{}", Text(*ty)),
-            EntityType::Global(ty) => write!(f, "{}", Text(*ty)),
-            EntityType::Tag(ty) => write!(f, "(type {})", ty.func_type_idx),
-        }
-    }
-}
-
-// ---- expressions
-
-impl Display for Text<&Plain> {
-    fn fmt(&self, f: &mut Formatter<'_>) -> Result {
-        let name = name_of(self.0.op).unwrap_or_default();
-        let args = self.0.args.as_slice();
-        write!(
-            f,
-            "({name}{})",
-            Operands {
-                op: self.0.op,
-                args
-            }
-        )
-    }
-}
-
-impl Display for Text<&Expression> {
-    fn fmt(&self, f: &mut Formatter<'_>) -> Result {
-        for (i, instruction) in self.0.0.iter().enumerate() {
-            f.write_str(if i > 0 { " " } else { "" })?;
-            write!(f, "{}", Text(instruction))?;
-        }
-        Ok(())
     }
 }

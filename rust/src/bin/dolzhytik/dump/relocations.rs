@@ -1,0 +1,205 @@
+//! Relocations, and what they patch.
+use crate::context::{Context, Space};
+use crate::dump::symbols::Shown;
+use crate::json::{Members, Value, members};
+use crate::name::Entry;
+use crate::references::is_of_relocations;
+use crate::sections::Section;
+use dolzhytik::fallible::{PlainRelocation, Relocation};
+use dolzhytik::reader::{Items, ReadError};
+use std::collections::HashMap;
+use std::fmt::{self, Debug, Display, Formatter};
+
+/// A relocation of a section of the module.
+#[derive(Clone, Copy)]
+pub struct Patch<'c> {
+    relocation: Relocation,
+    /// The offset in the file that offsets of the section count from, if there is such a section.
+    base: Option<usize>,
+    context: &'c Context<'c>,
+}
+
+impl<'c> Patch<'c> {
+    pub fn new(relocation: Relocation, of: Option<&Section<'_>>, context: &'c Context<'c>) -> Self {
+        Patch {
+            relocation,
+            base: of.map(|section| section.content().offset()),
+            context,
+        }
+    }
+
+    /// The name of its type, such as `R_WASM_MEMORY_ADDR_LEB`.
+    fn type_name(&self) -> String {
+        match &self.relocation {
+            Relocation::Plain { kind, .. } => name_in_llvm(kind),
+            Relocation::Addend32 { kind, .. } => name_in_llvm(kind),
+            Relocation::Addend64 { kind, .. } => name_in_llvm(kind),
+            _ => String::new(),
+        }
+    }
+
+    /// The offset in the section.
+    fn offset(&self) -> u32 {
+        match self.relocation {
+            Relocation::Plain { offset, .. }
+            | Relocation::Addend32 { offset, .. }
+            | Relocation::Addend64 { offset, .. } => offset,
+            _ => 0,
+        }
+    }
+
+    /// The offset in the file.
+    fn file_offset(&self) -> Option<usize> {
+        self.base?.checked_add(self.offset() as usize)
+    }
+
+    /// Whether its offset in the file is before this one.
+    fn is_before(&self, end: usize) -> bool {
+        self.file_offset().is_some_and(|offset| offset < end)
+    }
+
+    fn addend(&self) -> Option<i64> {
+        match self.relocation {
+            Relocation::Addend32 { addend, .. } => Some(addend.into()),
+            Relocation::Addend64 { addend, .. } => Some(addend),
+            _ => None,
+        }
+    }
+
+    /// The symbol whose value is written, or the type.
+    fn target(&self) -> Entry<'c> {
+        match self.relocation {
+            Relocation::Plain {
+                kind: PlainRelocation::TypeIndexLeb,
+                index,
+                ..
+            } => self.context.entry(Space::Type, index),
+            Relocation::Plain { index, .. }
+            | Relocation::Addend32 { index, .. }
+            | Relocation::Addend64 { index, .. } => symbol_entry(self.context, index),
+            _ => symbol_entry(self.context, 0),
+        }
+    }
+
+    /// What a line of a relocation section has of it.
+    pub fn text(&self) -> String {
+        let (kind, offset, target) = (self.type_name(), self.offset(), self.target());
+        let addend = self.addend().map(|addend| format!(" addend {addend}"));
+        let addend = addend.unwrap_or_default();
+        format!("{kind} offset {offset:#x} {} {target}{addend}", target.kind)
+    }
+
+    pub fn members(&self) -> Members<'c> {
+        members! {
+            "type": self.type_name(),
+            "offset": self.file_offset(),
+            "section_offset": self.offset(),
+            "target": self.target(),
+            "addend": self.addend(),
+        }
+    }
+}
+
+/// `0000bd: R_WASM_MEMORY_ADDR_LEB 1 <counter>+0`.
+impl Display for Patch<'_> {
+    fn fmt(&self, f: &mut Formatter<'_>) -> fmt::Result {
+        let offset = self.file_offset().unwrap_or_default();
+        write!(f, "{offset:06x}: {} {}", self.type_name(), self.target())?;
+        self.addend()
+            .map_or(Ok(()), |addend| write!(f, "{addend:+}"))
+    }
+}
+
+impl<'c> From<&Patch<'c>> for Value<'c> {
+    fn from(patch: &Patch<'c>) -> Self {
+        Value::Object(patch.members())
+    }
+}
+
+/// The symbol of an index, with its name.
+pub fn symbol_entry<'c>(context: &'c Context<'c>, index: u32) -> Entry<'c> {
+    Entry {
+        kind: "symbol",
+        index,
+        name: context
+            .symbol(index)
+            .and_then(|symbol| Shown::new(symbol, context).name()),
+    }
+}
+
+/// The name of a type of relocations in LLVM: `R_WASM_MEMORY_ADDR_I32` for `MemoryAddrI32`.
+fn name_in_llvm(kind: &impl Debug) -> String {
+    let mut name = String::from("R_WASM");
+    for c in format!("{kind:?}").chars() {
+        if c.is_ascii_uppercase() {
+            name.push('_');
+        }
+        name.push(c.to_ascii_uppercase());
+    }
+    name
+}
+
+/// The relocations of the sections of a module, in the order of their offsets.
+#[derive(Default)]
+pub struct Relocations<'c>(HashMap<usize, Vec<Patch<'c>>>);
+
+impl<'c> Relocations<'c> {
+    /// Takes those of sections that decode, and passes the errors of the others.
+    pub fn of(
+        sections: &[Section<'_>],
+        context: &'c Context<'c>,
+        mut report: impl FnMut(&Section<'_>, ReadError),
+    ) -> Self {
+        let mut of: HashMap<usize, Vec<Patch<'c>>> = HashMap::new();
+        for section in sections.iter().filter(|it| is_of_relocations(it)) {
+            match section.items() {
+                Err(error) => report(section, error),
+                Ok(Items::Relocations {
+                    section,
+                    relocations,
+                    ..
+                }) => {
+                    let patched = context.section(section);
+                    let patch = |relocation: &Relocation| Patch::new(*relocation, patched, context);
+                    let patches = of.entry(section as usize).or_default();
+                    patches.extend(relocations.iter().map(patch));
+                }
+                Ok(_) => {}
+            }
+        }
+        of.values_mut()
+            .for_each(|patches| patches.sort_by_key(Patch::offset));
+        Relocations(of)
+    }
+
+    /// Those of a section.
+    pub fn patches<'r>(&'r self, section: &Section<'_>) -> Patches<'r> {
+        let patches = self.0.get(&(section.number - 1));
+        Patches(patches.map_or(&[], Vec::as_slice))
+    }
+}
+
+/// The relocations that are not listed yet.
+#[derive(Clone, Copy, Default)]
+pub struct Patches<'r>(&'r [Patch<'r>]);
+
+impl<'r> Patches<'r> {
+    /// Takes those at offsets in the file before this one.
+    #[inline]
+    pub fn before(&mut self, end: usize) -> &'r [Patch<'r>] {
+        let count = self.0.iter().take_while(|it| it.is_before(end)).count();
+        let (taken, left) = self.0.split_at(count);
+        self.0 = left;
+        taken
+    }
+
+    /// Whether one is at an offset in the file before this one.
+    pub fn has_before(&self, end: usize) -> bool {
+        self.0.first().is_some_and(|it| it.is_before(end))
+    }
+
+    /// Takes all others.
+    pub fn others(&mut self) -> &'r [Patch<'r>] {
+        std::mem::take(&mut self.0)
+    }
+}
