@@ -151,6 +151,7 @@ fn library_told<'a>(item: &DylinkItem<'a>) -> Told<'a> {
             _ => Told::Others,
         },
         _ => unreachable!("the library has no other case"),
+        DylinkItem::Other { .. } => Told::Others,
     }
 }
 
