@@ -1,3 +1,12 @@
+// The library `dom` declares these. Without it they are empty here.
+declare global {
+  namespace WebAssembly {
+    interface Module {}
+  }
+  interface Response {}
+  interface URL {}
+}
+
 /** A section of a module. */
 export interface Section {
   /** The section id. */
@@ -96,3 +105,14 @@ export function assemble(recipe: string): Uint8Array;
  * @throws {RangeError} if the index is no integer, or either number is negative.
  */
 export function items(module: Uint8Array, index: number, limit?: number): Item[];
+
+/** Where `dolzhytik.wasm` is from: compiled, its bytes, a response of `fetch`, or an address. */
+export type Source = WebAssembly.Module | ArrayBufferView | ArrayBuffer | Response | URL | string;
+
+/**
+ * Loads `dolzhytik.wasm`: from the source, or, unless it is loaded, from the folder of the script.
+ * Other calls need it in a bundle for browsers. In Node, and in a page that imports `dolzhytik.js`,
+ * the import has loaded the file already.
+ * @throws if the source does not load or compile. A later call tries again.
+ */
+export function init(source?: Source | PromiseLike<Source>): Promise<void>;

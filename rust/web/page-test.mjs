@@ -9,12 +9,12 @@
 // The last line is 'N passed, M failed'. Exit status: 0 all passed, 1 a failed test, 77 not run
 // because there is no chromium, or no dolzhytik.wasm.
 import assert from 'node:assert/strict';
-import { spawn } from 'node:child_process';
 import fs from 'node:fs';
 import http from 'node:http';
 import os from 'node:os';
 import path from 'node:path';
 import { fileURLToPath } from 'node:url';
+import { Browser, findChromium } from './chromium.mjs';
 
 const HERE = path.dirname(fileURLToPath(import.meta.url));
 const [shots, ...words] = process.argv.slice(2);
@@ -43,67 +43,7 @@ async function serve() {
   return server;
 }
 
-// ---- The browser, by the DevTools protocol over two pipes.
-
-function findChromium() {
-  const folders = (process.env.PATH ?? '').split(path.delimiter);
-  const files = ['chromium', 'chromium-browser'].flatMap((name) => folders.map((folder) => path.join(folder, name)));
-  return files.find((file) => fs.existsSync(file));
-}
-
-const FLAGS = [
-  '--headless=new',
-  '--no-sandbox',
-  '--remote-debugging-pipe',
-  '--no-first-run',
-  '--disable-gpu',
-  '--disable-background-networking',
-  '--disable-component-update',
-  '--disable-sync',
-  '--hide-scrollbars',
-  // No other host has an address.
-  '--host-resolver-rules=MAP * ~NOTFOUND , EXCLUDE 127.0.0.1',
-  'about:blank',
-];
-
-class Browser {
-  #sent = 0;
-  #waiting = new Map();
-  #partial = '';
-  onEvent = () => {};
-
-  constructor(program) {
-    const stdio = ['ignore', 'ignore', 'ignore', 'pipe', 'pipe'];
-    this.process = spawn(program, [`--user-data-dir=${room}/profile`, ...FLAGS], { stdio });
-    this.process.stdio[4].setEncoding('utf8').on('data', (text) => this.#take(text));
-  }
-
-  send(method, params = {}, sessionId = undefined) {
-    const id = (this.#sent += 1);
-    this.process.stdio[3].write(`${JSON.stringify({ id, method, params, sessionId })}\0`);
-    return new Promise((resolve, reject) => this.#waiting.set(id, { method, resolve, reject }));
-  }
-
-  async close() {
-    const ended = new Promise((resolve) => this.process.on('exit', resolve));
-    await this.send('Browser.close');
-    await ended;
-  }
-
-  #take(text) {
-    const messages = (this.#partial + text).split('\0');
-    this.#partial = messages.pop();
-    messages.forEach((message) => this.#settle(JSON.parse(message)));
-  }
-
-  #settle(message) {
-    if (!message.id) return this.onEvent(message);
-    const { method, resolve, reject } = this.#waiting.get(message.id);
-    this.#waiting.delete(message.id);
-    if (message.error) reject(new Error(`${method}: ${message.error.message}`));
-    else resolve(message.result);
-  }
-}
+// ---- The tab.
 
 const KEYS = { Tab: 9, Enter: 13, End: 35, Home: 36, ArrowLeft: 37, ArrowUp: 38, ArrowRight: 39, ArrowDown: 40 };
 const CTRL = 2;
@@ -955,7 +895,7 @@ async function runTests(page, library) {
 async function main(chromium) {
   const library = await import('./dolzhytik.js');
   const server = await serve();
-  const browser = new Browser(chromium);
+  const browser = new Browser(chromium, room);
   const page = new Page(browser);
   try {
     await page.start(`http://127.0.0.1:${server.address().port}`);

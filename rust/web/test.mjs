@@ -580,9 +580,11 @@ function withMost(module, pages) {
 async function limited(pages) {
   const folder = await mkdtemp(join(tmpdir(), 'dolzhytik-'));
   try {
-    await copyFile(path('dolzhytik.js'), join(folder, 'dolzhytik.mjs'));
+    for (const name of ['package.json', 'browser.js', 'calls.js', 'dolzhytik.js']) {
+      await copyFile(path(name), join(folder, name));
+    }
     await writeFile(join(folder, 'dolzhytik.wasm'), withMost(await readFile(path('dolzhytik.wasm')), pages));
-    const dz = await import(pathToFileURL(join(folder, 'dolzhytik.mjs')));
+    const dz = await import(pathToFileURL(join(folder, 'dolzhytik.js')));
     return { dz, wasm: instances.at(-1) };
   } finally {
     await rm(folder, { recursive: true });

@@ -18,7 +18,7 @@ NOT_RUN = 77
 # The size of the module, in bytes.
 MOST_BYTES = 250_000
 # The files that npm publishes.
-PUBLISHED = ['LICENSE', 'README.md', 'dolzhytik.d.ts', 'dolzhytik.js', 'dolzhytik.wasm', 'package.json']
+PUBLISHED = ['LICENSE', 'README.md', 'browser.js', 'calls.js', 'dolzhytik.d.ts', 'dolzhytik.js', 'dolzhytik.wasm', 'node.js', 'package.json']
 
 
 def counted(pattern: str, output: str) -> list[int]:
@@ -34,8 +34,9 @@ def rust_tests() -> list[int]:
 
 
 def node_tests() -> list[int]:
-    """Runs the tests in node."""
-    done = subprocess.run(['node', '--test', '--test-reporter', 'spec', WEB / 'test.mjs'], stdout=subprocess.PIPE, text=True)
+    """Runs the tests in node: those of the calls, and those of the package as npm packs it."""
+    scripts = [WEB / 'test.mjs', WEB / 'package-test.mjs']
+    done = subprocess.run(['node', '--test', '--test-reporter', 'spec', *scripts], stdout=subprocess.PIPE, text=True)
     print(done.stdout, end='')
     return counted(r'^\S+ pass (\d+)$\n^\S+ fail (\d+)$', done.stdout)
 
