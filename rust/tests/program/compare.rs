@@ -3,6 +3,7 @@ use crate::program::{Answer, Folder};
 use crate::samples::{custom, module};
 use crate::tools::{compile, link};
 use std::path::Path;
+use std::process::Command;
 
 const HEAD: &str = "    before      after     change       %  name\n";
 
@@ -438,6 +439,21 @@ fn a_limit_is_checked_also_if_code_does_not_decode() {
     let more = "b.wasm: 18 bytes, 4 more than a.wasm; --fail-above 3 allows 3 more";
     check_errors(&folder, &["--fail-above=3"], lines, &[&code, more]);
     check_errors(&folder, &["--fail-above=4"], lines, &[&code]);
+}
+
+/// The status says it even if nobody reads the table.
+#[test]
+fn a_limit_is_checked_also_if_nobody_reads_the_table() {
+    let folder = of_sizes([50, 55]);
+    let status = |limit: &str| {
+        let (reader, writer) = std::io::pipe().unwrap();
+        drop(reader);
+        let mut command = Command::new(env!("CARGO_BIN_EXE_dolzhytik"));
+        command.args(["size", "a.wasm", "b.wasm", "--fail-above", limit]);
+        let command = command.current_dir(folder.path("")).stdout(writer);
+        command.output().unwrap().status.code()
+    };
+    assert_eq!(["4", "5"].map(status), [Some(1), Some(0)]);
 }
 
 // ---- JSON
