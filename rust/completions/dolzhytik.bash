@@ -7,7 +7,7 @@ _dolzhytik() {
     case ${COMP_WORDS[1]} in
     outline) words='--why --strict --json -h --help' ;;
     dump) words='--section --id -r --relocations --json -h --help' ;;
-    size) words='--functions --json -h --help' ;;
+    size) words='--functions --fail-above --json -h --help' ;;
     strip) words='--all --debug --keep -o --output --force -h --help' ;;
     shorten) words='-o --output --dry-run --json --drop-offsets --keep-code --build-id --force -h --help' ;;
     build) words='-o --output --force -h --help' ;;

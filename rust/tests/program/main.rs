@@ -1,6 +1,7 @@
 //! Tests of the program `dolzhytik`: each command, each error and each text; and of `wasmrow`.
 mod build;
 mod build_id;
+mod compare;
 mod completions;
 mod dump;
 mod dump_json;

@@ -11,7 +11,8 @@ usage: dolzhytik dump FILE [FUNCTION] [--section NUMBER|NAME].. [--id ID]..
                  [--relocations] [--json]
 ",
     "\
-usage: dolzhytik size FILE [--functions N] [--json]
+usage: dolzhytik size (FILE | OLD NEW) [--functions N] [--fail-above N|N%]
+                 [--json]
 ",
     "\
 usage: dolzhytik strip FILE [NAME..] [--debug] [--all] [--keep NAME].. -o FILE
@@ -84,6 +85,14 @@ fn errors() {
     check(&twice, "--functions is given twice");
     check(&["size", "a", "--functions", "x"], "not a number: x");
     check(&["size", "a", "--functions=-1"], "not a number: -1");
+    let limit = |word| ["size", "a", "b", "--fail-above", word];
+    for word in ["x", "-1", "5.5%", "%", "", "1k"] {
+        let why = "--fail-above needs a number of bytes, or of percent as 5%, and not";
+        check(&limit(word), &format!("{why} {word}"));
+    }
+    check(&limit("")[..4], "--fail-above needs a value");
+    let twice = [&limit("5")[..], &["--fail-above=5%"]].concat();
+    check(&twice, "--fail-above is given twice");
     check(&["dump", "a", "--id=256"], "not an id of 0 to 255: 256");
     check(
         &["dump", "a", "--id", "code"],
@@ -111,7 +120,11 @@ fn missing_and_unexpected_arguments() {
         check(&[command, "a"], &format!("{command} needs -o FILE"));
     }
     check(&["outline", "a", "b"], "unexpected argument: b");
-    check(&["size", "a", "b"], "unexpected argument: b");
+    check(&["size", "a", "b", "c"], "unexpected argument: c");
+    let standard = "only one of the files can be standard input";
+    check(&["size", "-", "-"], standard);
+    let limit = "size takes --fail-above only with two files";
+    check(&["size", "a", "--fail-above=5%"], limit);
     check(&["dump", "a", "b", "c"], "unexpected argument: c");
     let both = "dump takes a function or sections, and not both";
     check(&["dump", "a", "b", "--id=10"], both);
@@ -176,6 +189,8 @@ fn options_of_other_commands() {
     check(&["size", "a", "--all"], "size takes no --all");
     check(&["size", "a", "--why"], "size takes no --why");
     check(&["dump", "a", "--strict"], "dump takes no --strict");
+    let limit = ["shorten", "a", "--dry-run", "--fail-above=5"];
+    check(&limit, "shorten takes no --fail-above");
     let section = ["outline", "a", "--section=b"];
     check(&section, "outline takes no --section");
     check(&["outline", "a", "--id=1"], "outline takes no --id");
@@ -239,6 +254,7 @@ fn help() {
         "-o FILE, --output FILE ",
         "--force ",
         "--functions N ",
+        "--fail-above N|N% ",
         "--all ",
         "--debug ",
         "--keep NAME ",
@@ -270,12 +286,19 @@ fn help() {
 #[test]
 fn help_of_commands() {
     let folder = Folder::new("help_of");
-    let text = "usage: dolzhytik size FILE [--functions N] [--json]
+    let text = "usage: dolzhytik size (FILE | OLD NEW) [--functions N] [--fail-above N|N%]
+                 [--json]
 
 prints the sizes of the sections in bytes and in percent, and of the ten largest
-functions, the largest first.
+functions, the largest first. Of two builds it prints what grew and shrank: the
+sections, ten functions and ten data segments, the largest change first.
+Functions are matched by name, then by equal body, and data segments by name, or
+by index without one.
 
---functions N            how many functions size prints, by default 10.
+--functions N            how many functions size prints, by default 10. Of two
+                         builds it prints as many data segments.
+--fail-above N|N%        the status is 1 if NEW is larger than OLD by more than
+                         this, in bytes or in percent of OLD.
 --json                   prints JSON, for other programs, with offsets and sizes
                          in decimal.
 -h, --help               prints this.

@@ -1,7 +1,8 @@
 //! What the program does.
 use crate::dump;
-use crate::failure::Failure;
+use crate::failure::{Failure, report};
 use crate::files::{Input, Output};
+use crate::growth::{self, Build, Comparison};
 use crate::help;
 use crate::json;
 use crate::outline;
@@ -34,6 +35,7 @@ pub fn run(command: Command) -> Result<(), Failure> {
             functions,
             format,
         } => show_sizes(&input, functions, format),
+        Command::Compare { old, new, choice } => compare(&old, &new, choice),
         Command::Strip {
             input,
             output,
@@ -65,6 +67,38 @@ fn show_sizes(input: &Input, functions: usize, format: Format) -> Result<(), Fai
         Format::Table => sizes.to_string(),
     })?;
     sizes.failure.map_or(Ok(()), Err)
+}
+
+/// Prints what grew and shrank between two builds, before errors in their sections. It is an error
+/// too if the new one is larger than the choice allows, even if nobody reads what is printed.
+fn compare(old: &Input, new: &Input, choice: growth::Choice) -> Result<(), Failure> {
+    let (before, after) = (old.read()?, new.read()?);
+    let progress = Progress::of(before.len() + after.len());
+    progress.begin("reading");
+    let builds = [Build::of(old, &before)?, Build::of(new, &after)?];
+    let comparison = Comparison::of(builds, choice.most);
+    drop(progress);
+    let printed = print(&match choice.format {
+        Format::Json => json::comparison(&comparison),
+        Format::Table => comparison.to_string(),
+    });
+    printed.or_else(|failure| match failure.is_closed_pipe() {
+        true => Ok(()),
+        false => Err(failure),
+    })?;
+    let grown = choice
+        .limit
+        .and_then(|limit| comparison.grown(old, new, limit));
+    fail(comparison.failures.into_iter().chain(grown))
+}
+
+/// Returns the last failure, and reports those before it.
+fn fail(failures: impl Iterator<Item = Failure>) -> Result<(), Failure> {
+    let last = failures.reduce(|failure, next| {
+        report(&failure);
+        next
+    });
+    last.map_or(Ok(()), Err)
 }
 
 // ---- custom sections

@@ -2,6 +2,7 @@
 use crate::dump::{Function, Selector};
 use crate::files::{Input, Output};
 use crate::found::Found;
+use crate::growth::Limit;
 use crate::misuse::Misuse;
 use crate::strip::Obstacle;
 use dolzhytik::fallible::recipe::RecipeFault;
@@ -58,6 +59,8 @@ pub enum Failure {
         input: Input,
         count: usize,
     },
+    /// A build is larger than the option allows.
+    Grown(Grown),
     /// The file is a binary module or a component, and no recipe.
     Binary(Input),
     /// A line of the recipe is no text.
@@ -113,6 +116,34 @@ impl fmt::Display for BadSection {
             write!(f, " at offset {offset:#x}")?;
         }
         write!(f, ": {cause}")
+    }
+}
+
+/// A build that is larger than the option allows.
+#[derive(Debug)]
+pub struct Grown {
+    pub old: Input,
+    pub new: Input,
+    /// The sizes of the builds in bytes.
+    pub before: usize,
+    pub after: usize,
+    pub limit: Limit,
+}
+
+impl fmt::Display for Grown {
+    fn fmt(&self, f: &mut fmt::Formatter<'_>) -> fmt::Result {
+        let Grown {
+            old,
+            new,
+            before,
+            after,
+            limit,
+        } = self;
+        let (more, allowed) = (after - before, limit.allowed(*before));
+        write!(
+            f,
+            "{new}: {after} bytes, {more} more than {old}; --fail-above {limit} allows {allowed} more"
+        )
     }
 }
 
@@ -228,6 +259,7 @@ impl fmt::Display for Failure {
                 let do_not = if *count == 1 { " does" } else { "s do" };
                 write!(f, "{input}: {count} section{do_not} not decode")
             }
+            Failure::Grown(grown) => write!(f, "{grown}"),
             Failure::Binary(recipe) => write!(f, "{recipe}: a binary module, and no recipe"),
             Failure::NotText { recipe, line } => write!(f, "{recipe}: line {line}: not UTF-8"),
             Failure::Recipe {

@@ -61,11 +61,18 @@ functions that have that alone.",
     Manual {
         verb: Verb::Size,
         name: "size",
-        usage: &["FILE", "[--functions N]", "[--json]"],
+        usage: &[
+            "(FILE | OLD NEW)",
+            "[--functions N]",
+            "[--fail-above N|N%]",
+            "[--json]",
+        ],
         says: "\
 prints the sizes of the sections in bytes and in percent, and of the ten largest functions, the \
-largest first.",
-        options: &[Flag::Functions, Flag::Json],
+largest first. Of two builds it prints what grew and shrank: the sections, ten functions and ten \
+data segments, the largest change first. Functions are matched by name, then by equal body, and \
+data segments by name, or by index without one.",
+        options: &[Flag::Functions, Flag::FailAbove, Flag::Json],
     },
     Manual {
         verb: Verb::Strip,
@@ -141,6 +148,7 @@ pub enum Flag {
     Id,
     Relocations,
     Functions,
+    FailAbove,
     All,
     Debug,
     Keep,
@@ -193,7 +201,7 @@ const fn explained(flag: Flag, long: &'static str, given: Given, says: &'static 
 }
 
 /// The options, in the order of the help.
-pub const OPTIONS: [Explained; 18] = [
+pub const OPTIONS: [Explained; 19] = [
     Explained {
         short: Some("-o"),
         ..explained(
@@ -239,7 +247,15 @@ its type, the index and name of its symbol, and its addend.",
         Flag::Functions,
         "--functions",
         Given::With("N"),
-        "how many functions size prints, by default 10.",
+        "\
+how many functions size prints, by default 10. Of two builds it prints as many data segments.",
+    ),
+    explained(
+        Flag::FailAbove,
+        "--fail-above",
+        Given::With("N|N%"),
+        "\
+the status is 1 if NEW is larger than OLD by more than this, in bytes or in percent of OLD.",
     ),
     explained(
         Flag::All,

@@ -1,4 +1,6 @@
-//! Values of JSON. Outlines, sizes and savings as JSON.
+//! Values of JSON. Outlines, sizes, comparisons and savings as JSON.
+use crate::growth::{Comparison, HEADERS, Parts};
+use crate::matching::{Change, Growth, Part, Segment};
 use crate::outline::Row;
 use crate::sections::Section;
 use crate::shorten::{Saving, Savings};
@@ -73,6 +75,7 @@ from! {
     Unsigned: u8, u32, u64;
     Signed: i32, i64;
     Text: &'a str, String;
+    Object: Members<'a>;
 }
 
 impl From<usize> for Value<'_> {
@@ -156,7 +159,16 @@ fn string(f: &mut Formatter<'_>, text: &str) -> fmt::Result {
     f.write_str("\"")
 }
 
-// ---- outlines, sizes and savings
+/// An object, in whose lists each item has a line.
+fn lines(members: Members<'_>) -> String {
+    let members = members.into_iter();
+    let members: Vec<String> = members
+        .map(|(key, value)| format!("\"{key}\": {}", value.lines()))
+        .collect();
+    format!("{{{}}}\n", members.join(", "))
+}
+
+// ---- outlines, sizes, comparisons and savings
 
 /// Why a section does not decode.
 fn error<'a>(ReadError { cause, offset }: ReadError) -> Value<'a> {
@@ -201,12 +213,18 @@ fn section<'a>(section: &Section<'a>) -> Value<'a> {
     Value::Object(members)
 }
 
-fn function<'a>(function: &Function<'a>) -> Value<'a> {
-    object! {
+/// The index and name of a function.
+fn identity_of_function<'a>(function: &Function<'a>) -> Members<'a> {
+    members! {
         "function": function.index,
         "name": function.name,
-        "bytes": function.size,
     }
+}
+
+fn function<'a>(function: &Function<'a>) -> Value<'a> {
+    let mut members = identity_of_function(function);
+    members.push(("bytes", function.size.into()));
+    Value::Object(members)
 }
 
 fn saving<'a>(saving: &Saving<'a>) -> Value<'a> {
@@ -219,18 +237,83 @@ fn saving<'a>(saving: &Saving<'a>) -> Value<'a> {
 /// What minimizing saves. A section that would be dropped has no size after it.
 pub fn savings(savings: &Savings<'_>) -> String {
     let (before, after) = savings.total();
-    format!(
-        "{{\"before\": {before}, \"after\": {after}, \"sections\": {}}}\n",
-        Value::list(savings.0.iter().map(saving)).lines(),
-    )
+    lines(members! {
+        "before": before,
+        "after": after,
+        "sections": Value::list(savings.0.iter().map(saving)),
+    })
 }
 
 /// The sizes of a module.
 pub fn sizes(sizes: &Sizes<'_>) -> String {
-    format!(
-        "{{\"bytes\": {}, \"sections\": {}, \"functions\": {}}}\n",
-        sizes.module,
-        Value::list(sizes.sections.iter().map(section)).lines(),
-        Value::list(sizes.functions.iter().map(function)).lines(),
-    )
+    lines(members! {
+        "bytes": sizes.module,
+        "sections": Value::list(sizes.sections.iter().map(section)),
+        "functions": Value::list(sizes.functions.iter().map(function)),
+    })
+}
+
+/// The index and name of a data segment.
+fn identity_of_segment<'a>(segment: &Segment<'a>) -> Members<'a> {
+    members! {
+        "data": segment.entry.index,
+        "name": segment.entry.name,
+    }
+}
+
+/// Sizes, and the change between them.
+fn growth<'a>(growth: Growth) -> Members<'a> {
+    members! {
+        "before": growth.before,
+        "after": growth.after,
+        "change": growth.change(),
+    }
+}
+
+/// Parts that changed, with what each is.
+fn changes<'a, T: Part>(changes: &[Change<T>], identity: fn(&T) -> Members<'a>) -> Value<'a> {
+    let change = |change: &Change<T>| {
+        let identity = identity(change.part()).into_iter();
+        Value::Object(identity.chain(growth(change.growth())).collect())
+    };
+    Value::list(changes.iter().map(change))
+}
+
+/// The members of these names: the parts of a section that changed, the other parts, and the bytes
+/// that are in no part.
+fn parts<'a, T: Part>(
+    [listed, others, rest]: [&'static str; 3],
+    parts: Option<&Parts<T>>,
+    identity: fn(&T) -> Members<'a>,
+) -> Members<'a> {
+    let of_others = |(count, sizes): (usize, Growth)| {
+        let count = members! { "count": count };
+        Value::Object(count.into_iter().chain(growth(sizes)).collect())
+    };
+    let changed = parts.map_or(&[][..], |it| &it.listed);
+    vec![
+        (listed, changes(changed, identity)),
+        (others, parts.map(|it| of_others(it.others)).into()),
+        (rest, parts.map(|it| growth(it.rest)).into()),
+    ]
+}
+
+/// What grew and shrank between two builds.
+pub fn comparison(comparison: &Comparison<'_>) -> String {
+    let mut members = growth(comparison.total);
+    members.extend(members! {
+        "header": growth(HEADERS),
+        "sections": changes(&comparison.sections, identity),
+    });
+    members.extend(parts(
+        ["functions", "other_functions", "rest_of_code"],
+        comparison.functions.as_ref(),
+        identity_of_function,
+    ));
+    members.extend(parts(
+        ["data", "other_data", "rest_of_data"],
+        comparison.data.as_ref(),
+        identity_of_segment,
+    ));
+    lines(members)
 }

@@ -1,5 +1,5 @@
-//! Shows the sections of modules, their sizes and their code, removes custom sections, minimizes
-//! modules, and builds them from recipes.
+//! Shows the sections of modules, their sizes and their code, compares sizes, removes custom
+//! sections, minimizes modules, and builds them from recipes.
 mod commands;
 mod context;
 mod cursor;
@@ -7,9 +7,11 @@ mod dump;
 mod failure;
 mod files;
 mod found;
+mod growth;
 mod help;
 mod json;
 mod kind_name;
+mod matching;
 mod misuse;
 mod name;
 #[rustfmt::skip]

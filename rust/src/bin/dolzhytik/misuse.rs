@@ -19,6 +19,12 @@ pub enum Usage {
     NotUtf8(OsString),
     /// Neither `keep` nor `drop`.
     NotABuildId(OsString),
+    /// Neither a number nor one with `%`.
+    NotALimit(OsString),
+    /// `size --fail-above` with one file.
+    LimitOfOne,
+    /// Both files are standard input.
+    StandardTwice,
     /// `shorten --json` without `--dry-run`.
     JsonOfModule,
     /// Code may stay, or the sections that hold offsets into it are dropped.
@@ -52,6 +58,15 @@ impl fmt::Display for Usage {
                     word.display()
                 )
             }
+            Usage::NotALimit(word) => {
+                write!(
+                    f,
+                    "--fail-above needs a number of bytes, or of percent as 5%, and not {}",
+                    word.display()
+                )
+            }
+            Usage::LimitOfOne => write!(f, "size takes --fail-above only with two files"),
+            Usage::StandardTwice => write!(f, "only one of the files can be standard input"),
             Usage::SectionsAndFunction => {
                 write!(f, "dump takes a function or sections, and not both")
             }

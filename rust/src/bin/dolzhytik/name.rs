@@ -32,7 +32,7 @@ impl Source {
 }
 
 /// The name of an entry. It prints in `<` and `>`, with escapes for characters that do not show.
-#[derive(Clone, Copy, PartialEq, Eq, Debug)]
+#[derive(Clone, Copy, PartialEq, Eq, Hash, Debug)]
 pub enum Name<'a> {
     Own(&'a str),
     /// That of an import.

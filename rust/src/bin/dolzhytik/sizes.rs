@@ -63,9 +63,12 @@ impl Display for Sizes<'_> {
 }
 
 /// A function whose body is in the module.
+#[derive(Clone, Copy)]
 pub struct Function<'a> {
     /// The size of its body in bytes, with its size prefix.
     pub size: usize,
+    /// The body, without its size prefix.
+    pub body: &'a [u8],
     pub index: u32,
     pub name: Option<Name<'a>>,
 }
@@ -87,37 +90,48 @@ fn largest<'a>(
     if count == 0 {
         return Ok(Vec::new());
     }
-    let mut sizes = Vec::new();
-    for section in sections {
-        let decoded = match section.id() {
-            // Imports that do not decode would leave indices unknown.
-            2 => section.count().map(drop),
-            10 => add_sizes(section.cursor(), &mut sizes),
-            _ => Ok(()),
-        };
-        decoded.map_err(|error| section.failure(input, error))?;
-    }
-    let context = Context::of(sections);
-    let mut functions: Vec<_> = (context.imported(Space::Function)..)
-        .zip(sizes)
-        .map(|(index, size)| Function {
-            size,
-            index,
-            name: context.name(Space::Function, index),
-        })
-        .collect();
+    let mut functions = functions_of(input, sections, &Context::of(sections))?;
     functions.sort_by_key(|function| Reverse(function.size));
     functions.truncate(count);
     Ok(functions)
 }
 
-/// Adds the size of each body, with its size prefix.
-fn add_sizes(mut cursor: Cursor<'_>, sizes: &mut Vec<usize>) -> Result<(), ReadError> {
+/// Returns the functions that have a body, in the order of their indices.
+pub fn functions_of<'a>(
+    input: &Input,
+    sections: &[Section<'a>],
+    context: &Context<'a>,
+) -> Result<Vec<Function<'a>>, Failure> {
+    let mut bodies = Vec::new();
+    for section in sections {
+        let decoded = match section.id() {
+            // Imports that do not decode would leave indices unknown.
+            2 => section.count().map(drop),
+            10 => add_bodies(section.cursor(), &mut bodies),
+            _ => Ok(()),
+        };
+        decoded.map_err(|error| section.failure(input, error))?;
+    }
+    let function = |(index, (size, body))| Function {
+        size,
+        body,
+        index,
+        name: context.name(Space::Function, index),
+    };
+    let indices = context.imported(Space::Function)..;
+    Ok(indices.zip(bodies).map(function).collect())
+}
+
+/// Adds the size of each body, with its size prefix, and the body.
+fn add_bodies<'a>(
+    mut cursor: Cursor<'a>,
+    bodies: &mut Vec<(usize, &'a [u8])>,
+) -> Result<(), ReadError> {
     let count: u32 = cursor.read()?;
     for _ in 0..count {
         let begun = cursor.offset();
-        cursor.read::<&[u8]>()?;
-        sizes.push(cursor.offset() - begun);
+        let body = cursor.read()?;
+        bodies.push((cursor.offset() - begun, body));
     }
     Ok(())
 }

@@ -1,6 +1,7 @@
 //! The words after the program's name, and what they ask for.
 use crate::dump::{self, Selector};
 use crate::files::{Input, Output};
+use crate::growth::{self, Limit};
 use crate::help::{Explained, Flag, Given, Manual, OPTIONS, Verb};
 use crate::misuse::{Misuse, Usage};
 use crate::outline;
@@ -47,6 +48,12 @@ pub enum Command {
         /// How many functions to list.
         functions: usize,
         format: Format,
+    },
+    /// `size` of two files.
+    Compare {
+        old: Input,
+        new: Input,
+        choice: growth::Choice,
     },
     Strip {
         input: Input,
@@ -134,9 +141,14 @@ impl Options {
         };
         number(word, Usage::NotANumber)
     }
+
+    fn limit(&self) -> Result<Option<Limit>, Usage> {
+        let word = self.values(Flag::FailAbove).next();
+        word.map(|word| number(word, Usage::NotALimit)).transpose()
+    }
 }
 
-/// Reads a number, or returns the error that the word is none.
+/// Reads a number or a limit, or returns the error that the word is none.
 fn number<T: FromStr>(word: OsString, error: fn(OsString) -> Usage) -> Result<T, Usage> {
     let number = word.to_str().and_then(|word| word.parse().ok());
     number.ok_or_else(|| error(word))
@@ -173,11 +185,7 @@ impl Words {
                 input: self.input()?,
                 choice: self.listing()?,
             },
-            Verb::Size => Command::Size {
-                input: self.input()?,
-                functions: self.options.functions()?,
-                format: self.options.format(),
-            },
+            Verb::Size => self.size()?,
             Verb::Strip => Command::Strip {
                 input: self.input()?,
                 choice: self.choice()?,
@@ -207,6 +215,30 @@ impl Words {
             relocations: self.options.has(Flag::Relocations),
             format: self.options.format(),
         })
+    }
+
+    /// The sizes of a file, or what grew and shrank between two.
+    fn size(&mut self) -> Result<Command, Usage> {
+        let input = self.input()?;
+        let choice = growth::Choice {
+            most: self.options.functions()?,
+            format: self.options.format(),
+            limit: self.options.limit()?,
+        };
+        match self.words.next().map(Input::from) {
+            Some(new) if new == Input::Standard && new == input => Err(Usage::StandardTwice),
+            Some(new) => Ok(Command::Compare {
+                old: input,
+                new,
+                choice,
+            }),
+            None if choice.limit.is_some() => Err(Usage::LimitOfOne),
+            None => Ok(Command::Size {
+                input,
+                functions: choice.most,
+                format: choice.format,
+            }),
+        }
     }
 
     fn shorten(&mut self) -> Result<Command, Usage> {
