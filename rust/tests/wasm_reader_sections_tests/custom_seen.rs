@@ -150,8 +150,8 @@ fn library_told<'a>(item: &DylinkItem<'a>) -> Told<'a> {
             [path] => Told::Folder(path),
             _ => Told::Others,
         },
-        _ => unreachable!("the library has no other case"),
         DylinkItem::Other { .. } => Told::Others,
+        _ => unreachable!("the library has no other case"),
     }
 }
 
