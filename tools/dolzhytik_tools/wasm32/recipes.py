@@ -75,8 +75,9 @@ def in_node(recipes: list[str]) -> list[str]:
     folder = OUT / 'web'
     folder.mkdir(exist_ok=True)
     shutil.copyfile(OUT / TARGET / 'release/dolzhytik_web.wasm', folder / 'dolzhytik.wasm')
-    shutil.copyfile(WEB / 'dolzhytik.js', folder / 'dolzhytik.mjs')
-    command = ['node', TOP / 'rust/wasm32/recipes.mjs', folder / 'dolzhytik.mjs']
+    for file in [WEB / 'package.json', *WEB.glob('*.js')]:
+        shutil.copyfile(file, folder / file.name)
+    command = ['node', TOP / 'rust/wasm32/recipes.mjs', folder / 'node.js']
     ran = subprocess.run(command, input=json.dumps(recipes), stdout=subprocess.PIPE, encoding='utf-8', check=True)
     return json.loads(ran.stdout)
 
