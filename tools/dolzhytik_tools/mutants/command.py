@@ -5,6 +5,7 @@ import argparse
 import os
 import signal
 import tempfile
+import time
 from collections.abc import Sequence
 
 from .crates import crates
@@ -23,6 +24,7 @@ def parser_of(usage: str) -> argparse.ArgumentParser:
     parser.add_argument("--all", action="store_true")
     parser.add_argument("--share", action="store_true")
     parser.add_argument("--at-once", type=int, default=len(os.sched_getaffinity(0)), help="how many crates are tried at a time; by default one a processor")
+    parser.add_argument("--minutes", type=float, default=float("inf"), help="begin no check later than this; by default each mutant is tried")
     parser.add_argument("--keep", action="store_true")
     parser.add_argument("--log", default="", type=lambda it: os.path.abspath(it) if it else "")
     parser.add_argument("--own-test", action="store_true")
@@ -40,10 +42,12 @@ def main(words: Sequence[str], usage: str) -> int:
     repository = crates()
     if unknown := [it for it in args.names if it not in repository]:
         parser.error(f"crates.txt has no crate {unknown[0]}")
+    args.until = time.time() + 60 * args.minutes
     work = own_test if args.own_test else lacking if args.lacking else all_crates
     with tempfile.TemporaryDirectory(prefix="wrong-bodies-") as tempfile.tempdir:
         for it in (signal.SIGINT, signal.SIGTERM, signal.SIGHUP):
             signal.signal(it, stop)
-        passed, failed = work(repository, args)
-    print(f"{passed} passed, {failed} failed")
+        passed, failed, *left = work(repository, args)
+    remark = f" ({left[0]} mutants were not tried: the time was up)" if any(left) else ""
+    print(f"{passed} passed, {failed} failed{remark}")
     return 1 if failed else 0

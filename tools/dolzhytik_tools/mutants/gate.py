@@ -57,25 +57,26 @@ class Gate:
 
     def report(self, tries: Tries) -> None:
         """Prints the verdicts of a crate."""
-        tried = self.waiting[tries.name]
+        tried = [it for it in self.waiting[tries.name] if it.said]
         for it in tried:
             if self.args.verbose or not it.is_rejected:
                 say(f"{it.label}: {'rejected: ' * it.is_rejected}{it.said}")
         say(f"{tries.name}: {len(tried)} mutants in {tries.checks} checks, {tries.seconds:.0f} s of processor time")
 
-    def run(self) -> tuple[int, int]:
-        """Tries the mutants, those of large crates first. Returns how many were rejected, and how
-        many not."""
+    def run(self) -> tuple[int, int, int]:
+        """Tries the mutants, those of large crates first. Returns how many were rejected, how many
+        not, and how many were not tried, since the time was up."""
         names = sorted(filter(self.waiting.get, self.waiting), key=lambda it: -self.size(it))
         build_below(self.repository, names)
         with ThreadPoolExecutor(self.args.at_once) as pool:
             for done in as_completed([pool.submit(self.try_crate, name) for name in names]):
                 self.report(done.result())
-        tried = [it for name in names for it in self.waiting[name]]
+        waiting = [it for name in names for it in self.waiting[name]]
+        tried = [it for it in waiting if it.said]
         rejected = sum(it.is_rejected for it in tried)
-        return rejected, len(tried) - rejected
+        return rejected, len(tried) - rejected, len(waiting) - len(tried)
 
 
-def all_crates(repository: Repository, args: argparse.Namespace) -> tuple[int, int]:
+def all_crates(repository: Repository, args: argparse.Namespace) -> tuple[int, int, int]:
     """Tries the mutants of the named crates, or of all."""
     return Gate(repository, args).run()

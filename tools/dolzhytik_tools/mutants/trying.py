@@ -42,6 +42,10 @@ class Tries:
             return [self.symbols[function]]
         return [it.partition("::")[2] for it in self.of_library if function.has_symbol(it)] or [function.module]
 
+    def has_time(self) -> bool:
+        """Returns whether another check may begin."""
+        return time.time() < self.args.until
+
     # The ledger's checksums cover check, alone and together: see judging.py.
 
     def check(self, edits):
@@ -104,7 +108,7 @@ class Tries:
                 it.end(False, f"BAD EDIT: {it.at}: {it.bad}")
         alone = [it for it in edits if not it.bad and not it.target]
         waiting = [it for it in edits if not it.bad and it.target]
-        while waiting:
+        while waiting and self.has_time():
             first = {it.target: it for it in reversed(waiting)}
             now = [it for it in waiting if first[it.target] is it]
             if len(now) == 1:
@@ -115,7 +119,8 @@ class Tries:
             alone += single
             waiting = [it for it in waiting if it not in now or it in again]
         for it in alone:
-            self.alone(it)
-            record([it])
+            if self.has_time():
+                self.alone(it)
+                record([it])
         if not self.args.keep:
             shutil.rmtree(self.kept, ignore_errors=True)
