@@ -21,9 +21,9 @@ module _ (function : ℕ) (is : List Plain) (i : Plain) where
   calls_and_other e = omega (arith, subst (λ b. count_by (is_call function) (is ++ i ∷ []) ≡ count_by (is_call function) is + cond b 1 0) (sym e) calls_with)
 
 -- The results of `next` over the members of a vector.
-module _ {T X : Type 0} {F : Format X} (view : T → X) {m : Mode} {old new : VisitingMembers} {r : Result T Failure} where
-  pub gives_member : {x : T} → NextMember F view m old (Some r) new → r ≡ Ok x → GivesMember F view m old x new
-  gives_member h e = subst (λ z. NextMember F view m old (Some z) new) e h
+module _ {T X : Type 0} (P : Type 0) {F : Format X} (view : T → X) {m : Mode} {old new : VisitingMembers} {r : Result T Failure} where
+  pub gives_member : {x : T} → NextMember P F view m old (Some r) new → r ≡ Ok x → GivesMember F view m old x new
+  gives_member h e = subst (λ z. NextMember P F view m old (Some z) new) e h
 
-  pub ends_members : {f : Failure} → NextMember F view m old (Some r) new → r ≡ Err f → EndsMembers F m old f new
-  ends_members h e = subst (λ z. NextMember F view m old (Some z) new) e h
+  pub ends_members : {f : Failure} → NextMember P F view m old (Some r) new → r ≡ Err f → EndsMembers P F m old f new
+  ends_members h e = subst (λ z. NextMember P F view m old (Some z) new) e h

@@ -1,5 +1,5 @@
 -- This file proves what callers conclude from the minimizers of values and of bodies.
-use Rattle.wasm_base.proofs.Words.{◌≡◌, ℕ, List, [], ◌∷◌, ◌++◌, false, refl, sym, ap, subst, ◌∙◌, inl, admitted, builders, minimal, padded, standard, standard_minimal, Decodes, ref_type, decodes_same, ref_unambiguous, AppendsMinimal, size_prefixed}
+use Rattle.wasm_base.proofs.Words.{◌≡◌, ℕ, List, [], ◌∷◌, ◌++◌, false, refl, sym, ap, subst, ◌∙◌, inl, admitted, builders, minimal, padded, standard, standard_minimal, Decodes, ref_type, decodes_same, ref_unambiguous, AppendsMinimal, builders_alone, size_prefixed}
 use Rattle.wasm_base.specs.Minimal.{Minimizes, MinimizesWhole}
 use Rattle.wasm_base.specs.Types.{abstract_code, nullable_to}
 use Rattle.wasm_base.specs.declared.types.AbstractHeapType.{AbstractHeapType}
@@ -20,12 +20,12 @@ one_byte {old = old} h ty last d =
     h.appended ∙ ap (λ z. old ++ z) encoding
 
 -- The appended encoding is the minimal one of the body that the bytes encode.
-pub of_body : {bytes old new : List ℕ} → (y : Body) × body padded bytes y × AppendsMinimal (size_prefixed body) y old new → (x : Body) (encoding : List ℕ) → body padded bytes x → size_prefixed body minimal encoding x → new ≡ old ++ encoding
+pub of_body : {bytes old new : List ℕ} → (y : Body) × body padded bytes y × AppendsMinimal builders_alone (size_prefixed body) y old new → (x : Body) (encoding : List ℕ) → body padded bytes x → size_prefixed body minimal encoding x → new ≡ old ++ encoding
 of_body {bytes = bytes} {old = old} {new = new} h x encoding b e =
     let same : h.0 ≡ x = body_whole.whole padded bytes h.0 x h.1 b in
-    let appends : AppendsMinimal (size_prefixed body) x old new = subst (λ z. AppendsMinimal (size_prefixed body) z old new) same h.2 in
+    let appends : AppendsMinimal builders_alone (size_prefixed body) x old new = subst (λ z. AppendsMinimal builders_alone (size_prefixed body) z old new) same h.2 in
     let unique = size_prefixed_body_unambiguous.encodings in
-    let is : appends.encoding ≡ encoding = unique.one builders appends.encoding encoding x (appends.encodes encoding (unique.included minimal padded tt encoding x e)) e in
+    let is : appends.encoding ≡ encoding = unique.one builders appends.encoding encoding x (appends.encodes builders tt encoding (unique.included minimal padded tt encoding x e)) e in
     appends.appended ∙ ap (λ z. old ++ z) is
 
 -- The minimal encoding of a payload decodes to the same items.

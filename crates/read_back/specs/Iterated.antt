@@ -1,6 +1,8 @@
 -- This file defines the results of callers that iterate over a module.
 use Rattle.std.specs.Prelude.{◌≡◌, ℕ, List, ◌++◌}
-use Rattle.wasm_base.specs.Words.{minimal, padded, standard, any_bytes, header, size_prefixed, u32, Decodes}
+use Rattle.wasm_base.specs.Words.{padded, standard, any_bytes, header, size_prefixed, u32, Decodes}
+use Rattle.wasm_base.specs.Minimal.{IsMinimalEncoding}
+use Rattle.wasm_reader.specs.Kinds.{grammars_of}
 use Rattle.wasm_reader.specs.Words.{Contents, content, kind_in, Section, IsSection, LocatedBody, bytes_of, section_kind_of}
 
 -- The bytes are the header of a module, a section of this payload, and any suffix.
@@ -11,12 +13,11 @@ pub record BeginsWithPayload (bytes payload : List ℕ) : Type 0 where
   pub split : bytes ≡ header ++ (bytes_of section ++ rest)
   pub is : payload ≡ section.payload
 
--- The section decodes to items, and the new bytes are their minimal encoding as a payload, if they
--- have one that builders write.
+-- The section decodes to items, and the new bytes are their minimal encoding as a payload.
 pub record IsEncodedAgain (s : Section) (new : List ℕ) : Type 0 where
   pub items : Contents
   pub decoded : content (section_kind_of s) standard s.payload items
-  pub encoded : (bytes : List ℕ) → content (kind_in items) padded bytes items → content (kind_in items) minimal new items
+  pub encoded : IsMinimalEncoding (grammars_of (kind_in items)) (content (kind_in items)) items new
 
 -- The payload is a number, this body with its size prefix, and any suffix.
 pub record IsFirstBody (s : Section) (body : LocatedBody) : Type 0 where

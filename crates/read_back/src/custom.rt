@@ -10,18 +10,20 @@ ghost use Rattle.wasm_custom.specs.Linking.{linking_payload};
 ghost use Rattle.wasm_custom.specs.Producers.{producers_payload};
 ghost use Rattle.wasm_custom.specs.Hints.{hints_payload};
 ghost use Rattle.wasm_custom.specs.TargetFeatures.{features_payload};
-ghost use Rattle.wasm_base.specs.Minimal.{AppendsMinimal};
+ghost use Rattle.wasm_base.specs.Minimal.{AppendsMinimal, MinimizesWhole, both_grammars};
+ghost use Rattle.wasm_base.specs.Numbers.{admitted, standard};
+ghost use Rattle.wasm_base.specs.Continuing.{RejectsWhole};
 ghost use Rattle.wasm_base.specs.declared.fault.ReadFault.TheVariants.{Memory};
 ghost use Rattle.read_back.specs.Customs.{name_and_more, data_symbol, links, language, likely_hints, used_and_not};
 ghost use Rattle.wasm_reader.specs.Kinds.{Names, Linking, Producers, Hints, Custom, TargetFeatures, contents_of};
 
 use crate::read_and_shorten;
 use std::alloc::Allocator;
-use wasm_base::{CowSlice, CowStr, Encode, Padded, ReadFault, Result};
+use wasm_base::{CowSlice, CowStr, DecodeError, Encode, Padded, ReadFault, Result, Standard};
 use wasm_custom::{
     BranchHint, BranchHints, CustomSection, DataSymbolDefinition, FeaturePrefix, LinkingSection,
     NameItem, NameSection, ProducersField, ProducersSection, SymbolTable, TargetFeaturesSection,
-    append_names, read_names,
+    append_links, append_names, read_links, read_names,
 };
 use wasm_reader::{Items, SectionKind};
 
@@ -63,7 +65,7 @@ pub fn titled_names<A: Allocator>(
     names: &[NameItem<'_, A>],
     sink: &mut Vec<u8, A>,
 ) -> Result<bool>
-    ensures named { IfOk result (λ all. all ≡ true → AppendsMinimal name_payload (map name_item_view names.now) (sink.old.items ++ title.now) sink.new.items) }
+    ensures named { IfOk result (λ all. all ≡ true → AppendsMinimal both_grammars name_payload (map name_item_view names.now) (sink.old.items ++ title.now) sink.new.items) }
     ensures titled { IfOk result (λ all. all ≡ false → sink.new.items ≡ sink.old.items ++ title.now) }
     ensures err { OnErr result (sink.new.items ≡ sink.old.items) }
 {
@@ -87,6 +89,21 @@ pub fn rewritten_names<A: Allocator + Copy>(bytes: &[u8], sink: &mut Vec<u8, A>)
         }
         Err(_) => Ok(false),
     }
+}
+
+/// Decodes the payload of the linking section of an object file, and appends it in its minimal
+/// encoding.
+pub fn rewritten_linking<A: Allocator + Copy>(
+    payload: &[u8],
+    sink: &mut Vec<u8, A>,
+) -> Result<(), DecodeError>
+    ensures found { OnOk result (MinimizesWhole admitted linking_payload payload.now sink.old.items sink.new.items) }
+    ensures none { IfErr result (λ e. e.cause ≢ Memory → RejectsWhole linking_payload standard payload.now) }
+    ensures err { OnErr result (sink.new.items ≡ sink.old.items) }
+{
+    let items = read_links::<A, Standard>(payload, *sink.allocator())?;
+    append_links(&items, sink)?;
+    Ok(())
 }
 
 /// Returns a symbol table of one data symbol.

@@ -1,5 +1,5 @@
 -- This file proves the laws of this crate's formats.
-use Rattle.wasm_base.proofs.Std.{ℕ, List, [], ◌∷◌, ◌++◌, length, pos, refl, arith, ◌≡◌, ◌+◌, ap, ℤ, negsuc}
+use Rattle.wasm_base.proofs.Std.{ℕ, List, [], ◌∷◌, ◌++◌, length, pos, refl, arith, ◌≡◌, ap, ℤ, negsuc}
 use Rattle.std.specs.Prelude.{IsUtf8}
 use Rattle.wasm_base.specs.{minimal, padded, unsigned_encoding, signed_encoding, Format, u32, u64, s32, s64, s33, little_endian, byte, any_bytes, members, pair, vec, size_prefixed, name, custom}
 use Rattle.wasm_base.specs.{wasm_module, twos_complement, vector_format, IsVector, Unambiguous, UnambiguousWhole, HasMinimalEncodings, UnambiguousPadded, UnambiguousWholePadded, vec_encoding}

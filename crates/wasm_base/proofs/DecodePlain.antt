@@ -1,35 +1,35 @@
 -- This file proves that decoded values are well-formed and in normal form, so that their encoding
 -- is the minimal one.
-use Rattle.wasm_base.proofs.Std.{◌≡◌, ℕ, ◌^◌, ◌<◌, List, [], ◌∷◌, ◌++◌, length, Bool, true, false, refl, sym, subst, eqb, arith, All, ints, All-nil, All-cons}
+use Rattle.wasm_base.proofs.Std.{◌≡◌, ℕ, ◌^◌, ◌<◌, List, [], ◌∷◌, ◌++◌, length, Bool, true, false, sym, subst, eqb, arith, All, ints, All-nil, All-cons}
 use Rattle.wasm_base.specs.{Mode, minimal, padded, standard_minimal, standard, by_mode, mapped, unsigned_encoding, Format, u32, s33, any_bytes, name, size_prefixed, choice, members, vec, when}
 use Rattle.wasm_base.specs.{little_endian, HasMinimalEncodings, IsHeap, IsRef, IsVal, heap_type, heap_tags, ref_tags, tight_tags, admitted_tags, nullable_abstract, abstract_type, ref_type, val_tags}
-use Rattle.wasm_base.specs.{val_type, val_encoding, IsEncodableVec, size_prefixed_encoding, HasEncodableSize, AppendsMinimal}
+use Rattle.wasm_base.specs.{val_type, val_encoding, IsEncodableVec, size_prefixed_encoding, Grammars, builders_alone, AppendsMinimal}
 use Rattle.wasm_base.specs.declared.types.ValType.{ValType}
 use Rattle.wasm_base.proofs.FormatLaws.{AllValues, AllChoices, values_one_of, values_tagged}
-use Rattle.wasm_base.proofs.EncodingLaws.{u32_encodes, name_encodes, size_prefixed_encodes}
 use Rattle.wasm_base.proofs.ValTypeLaws.{val-encodings}
 use Rattle.wasm_base.proofs.DecodeFixed.{sum_below}
-use Rattle.wasm_base.proofs.MinimalEncodings.{encoding_appended}
+use Rattle.wasm_base.proofs.GrammarLaws.{u32_canonical, name_canonical, bytes_canonical}
+use Rattle.wasm_base.proofs.MinimalEncodings.{built_appended, canonical_appended}
 
--- If all decoded values fit, the encoding of one is minimal.
-pub fitting_appended : {X : Type 0} (F : Format X) (Encodable : X → Type 0) (encoding : X → List ℕ) (x : X) (old new : List ℕ) → HasMinimalEncodings F Encodable encoding → AllValues Encodable F → new ≡ old ++ encoding x → AppendsMinimal F x old new
-fitting_appended F Encodable encoding x old new encodings all e = encoding_appended F x (encoding x) old new (λ s h. encodings.encodes x (all padded s x h)) e
+-- If all decoded values fit, the encoding of one is minimal in the builders' grammar.
+pub fitting_appended : {X : Type 0} (F : Format X) (Encodable : X → Type 0) (encoding : X → List ℕ) (x : X) (old new : List ℕ) → HasMinimalEncodings F Encodable encoding → AllValues Encodable F → new ≡ old ++ encoding x → AppendsMinimal builders_alone F x old new
+fitting_appended F Encodable encoding x old new encodings all e = built_appended F x (encoding x) old new (λ s h. encodings.encodes x (all padded s x h)) e
 
 -- ---- numbers and fixed bytes
 
-pub u32_appended : (n : ℕ) (old new : List ℕ) → new ≡ old ++ unsigned_encoding n → AppendsMinimal u32 n old new
-u32_appended n old new e = encoding_appended u32 n (unsigned_encoding n) old new (λ s h. u32_encodes n h.range) e
+pub u32_appended : {k : Grammars} (n : ℕ) (old new : List ℕ) → new ≡ old ++ unsigned_encoding n → AppendsMinimal k u32 n old new
+u32_appended n old new e = canonical_appended u32 (λ n. n) unsigned_encoding n old new u32_canonical e
 
 pub little_endian_below : (n : ℕ) (mode : Mode) (s : List ℕ) (v : ℕ) → little_endian n mode s v → v < 256 ^ n
 little_endian_below n mode s v h = subst (λ k. v < 256 ^ k) h.2 (subst (λ z. z < 256 ^ length s) h.0 (sum_below s h.1))
 
 -- ---- size-prefixed bytes and names
 
-pub bytes_appended : (bytes old new : List ℕ) → HasEncodableSize bytes → new ≡ old ++ size_prefixed_encoding bytes → AppendsMinimal (size_prefixed any_bytes) bytes old new
-bytes_appended bytes old new encodable e = encoding_appended (size_prefixed any_bytes) bytes (size_prefixed_encoding bytes) old new (λ s h. size_prefixed_encodes any_bytes bytes bytes encodable refl) e
+pub bytes_appended : {k : Grammars} (bytes old new : List ℕ) → new ≡ old ++ size_prefixed_encoding bytes → AppendsMinimal k (size_prefixed any_bytes) bytes old new
+bytes_appended bytes old new e = canonical_appended (size_prefixed any_bytes) (λ b. b) size_prefixed_encoding bytes old new bytes_canonical e
 
-pub name_appended : (bytes old new : List ℕ) → HasEncodableSize bytes → new ≡ old ++ size_prefixed_encoding bytes → AppendsMinimal name bytes old new
-name_appended bytes old new encodable e = encoding_appended name bytes (size_prefixed_encoding bytes) old new (λ s h. name_encodes bytes h.1 encodable) e
+pub name_appended : {k : Grammars} (bytes old new : List ℕ) → new ≡ old ++ size_prefixed_encoding bytes → AppendsMinimal k name bytes old new
+name_appended bytes old new e = canonical_appended name (λ n. n) size_prefixed_encoding bytes old new name_canonical e
 
 -- ---- types
 
@@ -76,7 +76,7 @@ val_type_is =
     (λ mode s x h. subst IsVal (sym h.1) tt, (λ mode s x h. subst IsVal (sym h.1) tt, (λ mode s x h. subst IsVal (sym h.1) tt, (λ mode s x h. subst IsVal (sym h.1) tt, (λ mode s x h. subst IsVal (sym h.1) tt, tt))))))
     (λ mode s x h. subst IsVal h.1 (ref_is mode s h.0 h.2))
 
-pub val_appended : (ty : ValType) (old new : List ℕ) → new ≡ old ++ val_encoding ty → AppendsMinimal val_type ty old new
+pub val_appended : (ty : ValType) (old new : List ℕ) → new ≡ old ++ val_encoding ty → AppendsMinimal builders_alone val_type ty old new
 val_appended ty old new e = fitting_appended val_type IsVal val_encoding ty old new val-encodings val_type_is e
 
 -- ---- vectors

@@ -1,5 +1,5 @@
 -- This file proves that the error of a decoder is the number in which it is kept.
-use Rattle.wasm_base.proofs.Std.{◌≡◌, ◌≢◌, ℕ, ◌+◌, ◌*◌, ◌/◌, ◌%◌, ◌<◌, ◌^◌, refl, sym, subst, ap, ap₂, ◌∙◌, arith, ne_eqb}
+use Rattle.wasm_base.proofs.Std.{◌≡◌, ◌≢◌, ℕ, ◌<◌, ◌^◌, refl, sym, subst, ap, ap₂, ◌∙◌, arith, ne_eqb}
 use Rattle.std.proofs.lemmas.Nat.{mod-mul-add, div-mul-add}
 use Rattle.wasm_base.specs.{Failure, cause_number, cause_numbered, word_of, failure_of, IsWord}
 use Rattle.wasm_base.specs.declared.fault.ReadFault.{ReadFault}

@@ -1,15 +1,14 @@
--- This file proves which formats are the same in both grammars.
+-- This file proves of which formats the builders' minimal encodings are minimal in both grammars.
 use Rattle.wasm_base.proofs.Std.{ℕ, ◌^◌, ◌<◌, List, [], ◌∷◌, length, Bool, true, false, Some, None, eqb, inl, inr, refl, subst, arith, IsUtf8}
-use Rattle.wasm_base.specs.{minimal, IsUnsignedSize, IsSignedSize, Unsigned, Signed, Format, u32, u64, s32, s64, s33, byte, raw_bytes, any_bytes, little_endian, fixed, impossible, such, when, mapped}
+use Rattle.wasm_base.specs.{minimal, standard_minimal, Unsigned, Signed, Format, u32, u64, s32, s64, s33, byte, raw_bytes, any_bytes, little_endian, fixed, impossible, such, when, mapped}
 use Rattle.wasm_base.specs.{Then, pair, tagged, choice, prefixed, members, vec, size_prefixed, optional, one_of, coded, numbered, name, vector_format, unsigned_encoding, Grammar, builders, admitted, minimal_of, padded_of}
 use Rattle.wasm_base.specs.{IsIncludedIn, EncodesMinimally, HasEncodableSize, size_prefixed_encoding, signed_encoding, IsSigned32InRange, IsSigned64InRange}
-use Rattle.wasm_base.specs.Minimal.{Twins, minimal_twins, padded_twins, first_twin, second_twin, IsShared}
 use Rattle.wasm_base.proofs.FormatLaws.{AllValues}
 use Rattle.wasm_base.proofs.EncodingLaws.{u32_encodes, s32_encodes, s64_encodes, name_encodes, size_prefixed_encodes}
 
 -- The minimal encodings of the builders' grammar are minimal in the standard's too.
-abbrev pub AreMinimalInBoth : {X : Type 0} → Format X → Type 0
-AreMinimalInBoth F = IsShared minimal_twins F
+pub record AreMinimalInBoth {X : Type 0} (F : Format X) : Type 0 where
+  pub same : IsIncludedIn (F minimal) (F standard_minimal)
 
 -- An encoding that is minimal in the builders' grammar is minimal in each.
 pub minimal_in : {X : Type 0} (w : Grammar) {F : Format X} (x : X) (encoding : List ℕ) → AreMinimalInBoth F → F minimal encoding x → F (minimal_of w) encoding x
@@ -18,125 +17,117 @@ minimal_in admitted x encoding k h = k.same encoding x h
 
 -- ---- numbers
 
-unsigned_size : (p : Twins) (bits : ℕ) (s : List ℕ) → IsUnsignedSize (first_twin p) bits s → IsUnsignedSize (second_twin p) bits s
-unsigned_size minimal_twins bits s h = h
-unsigned_size padded_twins bits s h = h
+pub unsigned_both : (bits : ℕ) → AreMinimalInBoth (λ mode. Unsigned mode bits)
+unsigned_both bits = record { same = λ s x h. record { groups = h.groups; total = h.total; range = h.range; size = h.size } }
 
-signed_size : (p : Twins) (bits : ℕ) (s : List ℕ) → IsSignedSize (first_twin p) bits s → IsSignedSize (second_twin p) bits s
-signed_size minimal_twins bits s h = h
-signed_size padded_twins bits s h = h
+pub signed_both : (bits : ℕ) → AreMinimalInBoth (λ mode. Signed mode bits)
+signed_both bits = record { same = λ s x h. record { groups = h.groups; total = h.total; above = h.above; below = h.below; size = h.size } }
 
-pub unsigned_both : {p : Twins} (bits : ℕ) → IsShared p (λ mode. Unsigned mode bits)
-unsigned_both {p} bits = record { same = λ s x h. record { groups = h.groups; total = h.total; range = h.range; size = unsigned_size p bits s h.size } }
-
-pub signed_both : {p : Twins} (bits : ℕ) → IsShared p (λ mode. Signed mode bits)
-signed_both {p} bits = record { same = λ s x h. record { groups = h.groups; total = h.total; above = h.above; below = h.below; size = signed_size p bits s h.size } }
-
-pub u32_both : {p : Twins} → IsShared p u32
+pub u32_both : AreMinimalInBoth u32
 u32_both = unsigned_both 32
 
-pub u64_both : {p : Twins} → IsShared p u64
+pub u64_both : AreMinimalInBoth u64
 u64_both = unsigned_both 64
 
-pub s32_both : {p : Twins} → IsShared p s32
+pub s32_both : AreMinimalInBoth s32
 s32_both = signed_both 32
 
-pub s64_both : {p : Twins} → IsShared p s64
+pub s64_both : AreMinimalInBoth s64
 s64_both = signed_both 64
 
-pub s33_both : {p : Twins} → IsShared p s33
-s33_both {p} = record { same = λ s x h. record { groups = h.groups; total = h.total; above = h.above; below = h.below; size = signed_size p 33 s h.size } }
+pub s33_both : AreMinimalInBoth s33
+s33_both = record { same = λ s x h. record { groups = h.groups; total = h.total; above = h.above; below = h.below; size = h.size } }
 
 -- ---- bytes
 
-pub byte_both : {p : Twins} → IsShared p byte
+pub byte_both : AreMinimalInBoth byte
 byte_both = record { same = λ s x h. h }
 
-pub raw_bytes_both : {p : Twins} (n : ℕ) → IsShared p (raw_bytes n)
+pub raw_bytes_both : (n : ℕ) → AreMinimalInBoth (raw_bytes n)
 raw_bytes_both n = record { same = λ s x h. h }
 
-pub any_bytes_both : {p : Twins} → IsShared p any_bytes
+pub any_bytes_both : AreMinimalInBoth any_bytes
 any_bytes_both = record { same = λ s x h. h }
 
-pub little_endian_both : {p : Twins} (n : ℕ) → IsShared p (little_endian n)
+pub little_endian_both : (n : ℕ) → AreMinimalInBoth (little_endian n)
 little_endian_both n = record { same = λ s x h. h }
 
-pub vector_both : {p : Twins} → IsShared p vector_format
+pub vector_both : AreMinimalInBoth vector_format
 vector_both = record { same = λ s x h. h }
 
-pub fixed_both : {p : Twins} {X : Type 0} (bytes : List ℕ) (v : X) → IsShared p (fixed bytes v)
+pub fixed_both : {X : Type 0} (bytes : List ℕ) (v : X) → AreMinimalInBoth (fixed bytes v)
 fixed_both bytes v = record { same = λ s x h. h }
 
-pub impossible_both : {p : Twins} {X : Type 0} → IsShared p (impossible {X = X})
+pub impossible_both : {X : Type 0} → AreMinimalInBoth (impossible {X = X})
 impossible_both = record { same = λ s x h. h }
 
-pub coded_both : {p : Twins} {X : Type 0} (code : X → ℕ) → IsShared p (coded code)
+pub coded_both : {X : Type 0} (code : X → ℕ) → AreMinimalInBoth (coded code)
 coded_both code = record { same = λ s x h. h }
 
-pub numbered_both : {p : Twins} {X : Type 0} (code : X → ℕ) → IsShared p (numbered code)
-numbered_both {p} code = let both : IsShared p u32 = u32_both in record { same = λ s x h. both.same s (code x) h }
+pub numbered_both : {X : Type 0} (code : X → ℕ) → AreMinimalInBoth (numbered code)
+numbered_both code = let both : AreMinimalInBoth u32 = u32_both in record { same = λ s x h. both.same s (code x) h }
 
 -- ---- combinators
 
-pub such_both : {p : Twins} {X : Type 0} (P : X → Type 0) {F : Format X} → IsShared p F → IsShared p (such P F)
+pub such_both : {X : Type 0} (P : X → Type 0) {F : Format X} → AreMinimalInBoth F → AreMinimalInBoth (such P F)
 such_both P {F} k = record { same = λ s x h. (k.same s x h.0, h.1) }
 
-pub when_both : {p : Twins} {X : Type 0} (test : Bool) {F G : Format X} → IsShared p F → IsShared p G → IsShared p (when test F G)
+pub when_both : {X : Type 0} (test : Bool) {F G : Format X} → AreMinimalInBoth F → AreMinimalInBoth G → AreMinimalInBoth (when test F G)
 when_both true {F} {G} k l = k
 when_both false {F} {G} k l = l
 
-pub mapped_both : {p : Twins} {X Y : Type 0} (f : X → Y) {F : Format X} → IsShared p F → IsShared p (mapped f F)
+pub mapped_both : {X Y : Type 0} (f : X → Y) {F : Format X} → AreMinimalInBoth F → AreMinimalInBoth (mapped f F)
 mapped_both f {F} k = record { same = λ s y h. (h.0, h.1, k.same s h.0 h.2) }
 
-pub then_both : {p : Twins} {X Y : Type 0} {F : Format X} {G : X → Format Y} → IsShared p F → ((x : X) → IsShared p (G x)) → IsShared p (Then F G)
+pub then_both : {X Y : Type 0} {F : Format X} {G : X → Format Y} → AreMinimalInBoth F → ((x : X) → AreMinimalInBoth (G x)) → AreMinimalInBoth (Then F G)
 then_both {F} {G} k l = record { same = λ s x h. record { front = h.front; back = h.back; joined = h.joined; first = k.same h.front x.0 h.first; second = (l x.0).same h.back x.1 h.second } }
 
-pub pair_both : {p : Twins} {X Y : Type 0} {F : Format X} {G : Format Y} → IsShared p F → IsShared p G → IsShared p (pair F G)
+pub pair_both : {X Y : Type 0} {F : Format X} {G : Format Y} → AreMinimalInBoth F → AreMinimalInBoth G → AreMinimalInBoth (pair F G)
 pair_both {F} {G} k l = then_both k (λ x. l)
 
-pub tagged_both : {p : Twins} {X Y : Type 0} {F : Format X} {G : X → Format Y} → IsShared p F → ((x : X) → IsShared p (G x)) → IsShared p (tagged F G)
+pub tagged_both : {X Y : Type 0} {F : Format X} {G : X → Format Y} → AreMinimalInBoth F → ((x : X) → AreMinimalInBoth (G x)) → AreMinimalInBoth (tagged F G)
 tagged_both {F} {G} k l = mapped_both (λ x. x.1) (then_both k l)
 
-pub prefixed_both : {p : Twins} {X : Type 0} (bytes : List ℕ) {F : Format X} → IsShared p F → IsShared p (prefixed bytes F)
+pub prefixed_both : {X : Type 0} (bytes : List ℕ) {F : Format X} → AreMinimalInBoth F → AreMinimalInBoth (prefixed bytes F)
 prefixed_both bytes {F} k = tagged_both (fixed_both bytes (tt {0})) (λ u. k)
 
--- All formats that the tags select are shared.
-abbrev pub AllShared : {X : Type 0} → Twins → List (ℕ × Format X) → Type 0
-AllShared p [] = Unit {0}
-AllShared p (c ∷ cs) = IsShared p c.1 × AllShared p cs
+-- The same of all formats that the tags select.
+abbrev pub AllMinimalInBoth : {X : Type 0} → List (ℕ × Format X) → Type 0
+AllMinimalInBoth [] = Unit {0}
+AllMinimalInBoth (c ∷ cs) = AreMinimalInBoth c.1 × AllMinimalInBoth cs
 
-pub choice_both : {p : Twins} {X : Type 0} (cs : List (ℕ × Format X)) (other : ℕ → Format X) → AllShared p cs → ((b : ℕ) → IsShared p (other b)) → (b : ℕ) → IsShared p (choice cs other b)
+pub choice_both : {X : Type 0} (cs : List (ℕ × Format X)) (other : ℕ → Format X) → AllMinimalInBoth cs → ((b : ℕ) → AreMinimalInBoth (other b)) → (b : ℕ) → AreMinimalInBoth (choice cs other b)
 choice_both [] other all k b = k b
 choice_both (c ∷ cs) other all k b = when_both (eqb b c.0) all.0 (choice_both cs other all.1 k b)
 
 -- A tag byte, and the value whose format the tag selects.
-pub choices_both : {p : Twins} {X : Type 0} (cs : List (ℕ × Format X)) → AllShared p cs → IsShared p (tagged byte (choice cs (λ b. impossible)))
+pub choices_both : {X : Type 0} (cs : List (ℕ × Format X)) → AllMinimalInBoth cs → AreMinimalInBoth (tagged byte (choice cs (λ b. impossible)))
 choices_both cs all = tagged_both byte_both (choice_both cs (λ b. impossible) all (λ b. impossible_both))
 
-pub one_of_both : {p : Twins} {X : Type 0} {F G : Format X} → IsShared p F → IsShared p G → IsShared p (one_of F G)
-one_of_both {p} {X} {F} {G} k l = record { same = same }
+pub one_of_both : {X : Type 0} {F G : Format X} → AreMinimalInBoth F → AreMinimalInBoth G → AreMinimalInBoth (one_of F G)
+one_of_both {X} {F} {G} k l = record { same = same }
   where
-    same : IsIncludedIn (one_of F G (first_twin p)) (one_of F G (second_twin p))
+    same : IsIncludedIn (one_of F G minimal) (one_of F G standard_minimal)
     same s x (inl h) = inl (k.same s x h)
     same s x (inr h) = inr (l.same s x h)
 
-pub optional_both : {p : Twins} {X : Type 0} (flag : Bool) {F : Format X} → IsShared p F → IsShared p (optional flag F)
+pub optional_both : {X : Type 0} (flag : Bool) {F : Format X} → AreMinimalInBoth F → AreMinimalInBoth (optional flag F)
 optional_both flag {F} k = when_both flag (mapped_both Some k) (fixed_both [] None)
 
-pub members_both : {p : Twins} {X : Type 0} {F : Format X} → IsShared p F → IsShared p (members F)
-members_both {p} {X} {F} k = record { same = same }
+pub members_both : {X : Type 0} {F : Format X} → AreMinimalInBoth F → AreMinimalInBoth (members F)
+members_both {X} {F} k = record { same = same }
   where
-    same : IsIncludedIn (members F (first_twin p)) (members F (second_twin p))
+    same : IsIncludedIn (members F minimal) (members F standard_minimal)
     same s [] h = h
     same s (x ∷ xs) h = (h.0, h.1, h.2, k.same h.0 x h.3, same h.1 xs h.4)
 
-pub vec_both : {p : Twins} {X : Type 0} {F : Format X} → IsShared p F → IsShared p (vec F)
-vec_both {p} {X} {F} k = let both : IsShared p (Then u32 (λ n. members F)) = then_both u32_both (λ n. members_both k) in record { same = λ s xs h. both.same s (length xs, xs) h }
+pub vec_both : {X : Type 0} {F : Format X} → AreMinimalInBoth F → AreMinimalInBoth (vec F)
+vec_both {X} {F} k = let both : AreMinimalInBoth (Then u32 (λ n. members F)) = then_both u32_both (λ n. members_both k) in record { same = λ s xs h. both.same s (length xs, xs) h }
 
-pub size_prefixed_both : {p : Twins} {X : Type 0} {F : Format X} → IsShared p F → IsShared p (size_prefixed F)
-size_prefixed_both {p} {F} k = let number : IsShared p u32 = u32_both in record { same = λ s x h. record { front = h.front; content = h.content; joined = h.joined; size = number.same h.front (length h.content) h.size; encodes = k.same h.content x h.encodes } }
+pub size_prefixed_both : {X : Type 0} {F : Format X} → AreMinimalInBoth F → AreMinimalInBoth (size_prefixed F)
+size_prefixed_both {F} k = let number : AreMinimalInBoth u32 = u32_both in record { same = λ s x h. record { front = h.front; content = h.content; joined = h.joined; size = number.same h.front (length h.content) h.size; encodes = k.same h.content x h.encodes } }
 
-pub name_both : {p : Twins} → IsShared p name
+pub name_both : AreMinimalInBoth name
 name_both = such_both IsUtf8 (size_prefixed_both any_bytes_both)
 
 -- ---- encodings

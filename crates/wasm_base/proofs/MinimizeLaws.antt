@@ -2,13 +2,12 @@
 -- and so of the whole value.
 use Rattle.wasm_base.proofs.Std.{◌≡◌, ◌≢◌, ap₂, drop, take, drop_at, take_at, map-id, ℕ, ◌+◌, List, [], ◌∷◌, ◌++◌, length, refl, sym, ap, subst, ◌∙◌, append_assoc, append-nil, arith}
 use Rattle.std.proofs.lemmas.List.{length-append}
-use Rattle.wasm_base.specs.{Grammar, builders, admitted, minimal_of, padded_of, Format, u32, mapped, such, Then, pair, tagged, members, vec, Decodes, AppendsMinimal, Minimizes, MinimizesWhole, HasEncodableSize, size_prefixed, any_bytes, Unambiguous, EncodesMinimally, unsigned_encoding, size_prefixed_encoding, name}
+use Rattle.wasm_base.specs.{Grammar, minimal_of, padded_of, Format, u32, mapped, such, Then, pair, tagged, members, vec, Decodes, Grammars, Includes, both_grammars, AppendsMinimal, Minimizes, MinimizesWhole, HasEncodableSize, size_prefixed, any_bytes, Unambiguous, EncodesMinimally, unsigned_encoding, size_prefixed_encoding, name}
 use Rattle.wasm_base.proofs.DecodingSteps.{then_decodes, mapped_decodes, such_decodes, members_start, members_step, members_push, vec_decodes}
 use Rattle.wasm_base.proofs.DecodeSizePrefixed.{filled_decodes}
 use Rattle.wasm_base.proofs.DecodeWhole.{HasMembers, members_begun, members_continued, members_done, whole_decodes}
 use Rattle.wasm_base.proofs.EncodingLaws.{size_prefixed_in}
 use Rattle.wasm_base.proofs.SkipLaws.{HasSkipped}
-use Rattle.wasm_base.specs.Minimal.{AreSameInBoth, minimal_twins, padded_twins}
 use Rattle.wasm_base.proofs.GrammarLaws.{u32_canonical, name_canonical, bytes_canonical}
 
 -- ---- values
@@ -57,19 +56,17 @@ module _ {X Y : Type 0} {w : Grammar} {bytes after rest old middle new : List �
   abbrev pub tagged_minimizes : {F : Format X} {G : X → Format Y} (h : Minimizes w F bytes after old middle) → Minimizes w (G h.value) after rest middle new → Minimizes w (tagged F G) bytes rest old new
   tagged_minimizes h g = mapped_minimizes (λ p. p.1) (then_minimizes h g)
 
--- ---- formats of both grammars
+-- ---- decoded values, whose minimal encoding is appended
 
--- A decoded value, whose minimal encoding is appended. The standard's grammar has no other
--- encodings of it than the builders'.
-abbrev pub same_minimizes : {X : Type 0} (w : Grammar) (F : Format X) (x : X) (bytes old new : List ℕ) → AreSameInBoth F → F (padded_of w) bytes x → AppendsMinimal F x old new → MinimizesWhole w F bytes old new
-same_minimizes builders F x bytes old new k h a = record { value = x; decoded = h; encoding = a.encoding; encodes = a.encodes bytes h; appended = a.appended }
-same_minimizes admitted F x bytes old new k h a = record { value = x; decoded = h; encoding = a.encoding; encodes = (k.shared minimal_twins).same a.encoding x (a.encodes bytes ((k.shared padded_twins).same bytes x h)); appended = a.appended }
+pub decoded_minimizes : {k : Grammars} {X : Type 0} (w : Grammar) (F : Format X) (x : X) (bytes rest old new : List ℕ) → Includes k w → Decodes F (padded_of w) bytes x rest → AppendsMinimal k F x old new → Minimizes w F bytes rest old new
+decoded_minimizes w F x bytes rest old new q h a = record { value = x; decoded = h; encoding = a.encoding; encodes = a.encodes w q h.front h.encodes; appended = a.appended }
 
--- A decoded value at the front, whose minimal encoding is appended.
-pub shared_minimizes : {X : Type 0} (w : Grammar) (F : Format X) (x : X) (bytes rest old new : List ℕ) → AreSameInBoth F → Decodes F (padded_of w) bytes x rest → AppendsMinimal F x old new → Minimizes w F bytes rest old new
-shared_minimizes w F x bytes rest old new k h a =
-    let m = same_minimizes w F x h.front old new k h.encodes a in
-    record { value = m.value; decoded = record { front = h.front; split = h.split; encodes = m.decoded }; encoding = m.encoding; encodes = m.encodes; appended = m.appended }
+-- The grammars are both.
+pub shared_minimizes : {k : Grammars} {X : Type 0} (w : Grammar) (F : Format X) (x : X) (bytes rest old new : List ℕ) → k ≡ both_grammars → Decodes F (padded_of w) bytes x rest → AppendsMinimal k F x old new → Minimizes w F bytes rest old new
+shared_minimizes w F x bytes rest old new e h a = decoded_minimizes w F x bytes rest old new (subst (λ k. Includes k w) (sym e) tt) h a
+
+pub decoded_whole_minimizes : {k : Grammars} {X : Type 0} (w : Grammar) (F : Format X) (x : X) (bytes old new : List ℕ) → Includes k w → F (padded_of w) bytes x → AppendsMinimal k F x old new → MinimizesWhole w F bytes old new
+decoded_whole_minimizes w F x bytes old new q h a = record { value = x; decoded = h; encoding = a.encoding; encodes = a.encodes w q bytes h; appended = a.appended }
 
 -- ---- a loop over members
 

@@ -76,7 +76,7 @@ pub use Rattle.wasm_base.proofs.FormatLaws.{such_unambiguous, tagged_at, tagged_
 pub use Rattle.wasm_base.proofs.FormatLaws.{whole_from_unique, AllDetermine}
 pub use Rattle.wasm_base.proofs.GroupLaws.{if_err_any}
 pub use Rattle.wasm_base.proofs.KnownLengths.{array_items, copied_items, drained_array, drained_copied, drained_vec}
-pub use Rattle.wasm_base.proofs.MinimalEncodings.{all_appended, cut_off, encoding_appended, front_appended, front_encoded, front_then, mapped_appended, members_more, next_appended}
+pub use Rattle.wasm_base.proofs.MinimalEncodings.{all_appended, built_appended, built_encoding, canonical_appended, cut_off, encoding_appended, front_appended, front_encoded, fewer_appended, front_then, mapped_appended, members_more, next_appended}
 pub use Rattle.wasm_base.proofs.MinimalEncodings.{no_members_appended, nothing_appended, pair_appended, prefixed_appended, records_appended, size_prefixed_appended, tagged_appended, then_appended}
 pub use Rattle.wasm_base.proofs.MinimalEncodings.{vec_appended}
 pub use Rattle.wasm_base.proofs.ModuleLaws.{module_encoding-decodes, section_unambiguous}
@@ -109,7 +109,7 @@ pub use Rattle.wasm_base.specs.Formats.{u64, vec, vector_format, wasm_module, wh
 pub use Rattle.wasm_base.specs.Groups.{HasGroups, groups}
 pub use Rattle.wasm_base.specs.Iterators.{AppendsVec}
 pub use Rattle.wasm_base.specs.Laws.{IsEncodableName, IsUnsignedInRange, RejectsAllAfterPadded}
-pub use Rattle.wasm_base.specs.Minimal.{AppendsMinimal, HasEncoding, IsFrontOf}
+pub use Rattle.wasm_base.specs.Minimal.{AppendsMinimal, Grammars, HasEncoding, Includes, IsFrontOf, IsMinimalEncoding, both_grammars, builders_alone}
 pub use Rattle.wasm_base.specs.Modules.{DecodesPayloads, DecodesSections, GainsDecoding, GainsDecodingPadded, SectionDecoding, decoding_of, padded_decoding_of}
 pub use Rattle.wasm_base.specs.Numbers.{AreGroups, IsOfBuilders, IsUnsignedSize, Grammar, Mode, admitted, builders, groups_sum, is_admitted, minimal, minimal_of, padded, padded_of, standard}
 pub use Rattle.wasm_base.specs.Numbers.{standard_minimal, signed_encoding, unsigned_encoding}

@@ -48,6 +48,8 @@ impl Layout for u8 {
 }
 
 impl<'a, A: Allocator + Copy, G: Grammar> Readable<'a, A, G> for u8 {
+    ghost may_allocate = { ⊥ };
+
     #[tactic(auto, using(crate::proofs::DecodingSteps::steps))]
     #[inline]
     fn read(bytes: &'a [u8], _alloc: A) -> Result<(u8, &'a [u8]), DecodeError> {
@@ -76,6 +78,8 @@ impl Layout for i128 {
 }
 
 impl<'a, A: Allocator + Copy, G: Grammar> Readable<'a, A, G> for i128 {
+    ghost may_allocate = { ⊥ };
+
     fn read(bytes: &'a [u8], _alloc: A) -> Result<(i128, &'a [u8]), DecodeError> {
         match bytes.split_first_chunk::<16>() {
             Some((front, rest)) => Ok((i128::from_le_bytes(*front), rest)),
@@ -96,6 +100,8 @@ impl Layout for [u8; 16] {
 }
 
 impl<'a, A: Allocator + Copy, G: Grammar> Readable<'a, A, G> for [u8; 16] {
+    ghost may_allocate = { ⊥ };
+
     #[tactic(auto, using(crate::proofs::DecodeFixed::raw_steps))]
     fn read(bytes: &'a [u8], _alloc: A) -> Result<([u8; 16], &'a [u8]), DecodeError> {
         match bytes.split_first_chunk::<16>() {

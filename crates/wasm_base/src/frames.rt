@@ -118,6 +118,8 @@ impl<T: Layout> Layout for SizePrefixed<T> {
 
 impl<'a, A: Allocator + Copy, G: Grammar, T: Readable<'a, A, G>> Readable<'a, A, G>
     for SizePrefixed<T> {
+    ghost may_allocate = { T.may_allocate };
+
     #[tactic(auto, using(crate::proofs::DecodeSizePrefixed::filled_steps))]
     fn read(bytes: &'a [u8], alloc: A) -> Result<(SizePrefixed<T>, &'a [u8]), DecodeError> {
         let (content, rest) = <&'a [u8] as Readable<'a, A, G>>::read(bytes, alloc)?;
@@ -149,9 +151,9 @@ pub fn prefix_size_since<B: Allocator>(sink: &mut Vec<u8, B>, start: usize) -> R
 /// Appends the minimal encoding of the value with its size prefix.
 #[tactic(auto, using(crate::proofs::MinimalEncodings::size_prefixed_appended, crate::proofs::DecodedValues::content_encoded, crate::proofs::DecodedValues::behind_encodable))]
 fn append_payload<T: Shorten, B: Allocator>(value: &T, sink: &mut Vec<u8, B>) -> Result<()>
-    ensures ok { OnOk result (AppendsMinimal (size_prefixed T.format) (T.view value.now) sink.old.items sink.new.items) }
+    ensures ok { OnOk result (AppendsMinimal T.grammars (size_prefixed T.format) (T.view value.now) sink.old.items sink.new.items) }
     ensures front { IsFrontOf sink.old.items sink.new.items }
-    ensures too_long { HasEncoding (size_prefixed T.format) (T.view value.now) → result ≢ Err TooLong }
+    ensures too_long { HasEncoding T.grammars (size_prefixed T.format) (T.view value.now) → result ≢ Err TooLong }
 {
     T::laws();
     let start = sink.len();
@@ -160,6 +162,8 @@ fn append_payload<T: Shorten, B: Allocator>(value: &T, sink: &mut Vec<u8, B>) ->
 }
 
 impl<T: Shorten> Shorten for SizePrefixed<T> {
+    ghost grammars = { T.grammars };
+
     fn write_minimal<B: Allocator>(&self, sink: &mut Vec<u8, B>) -> Result<()> {
         let SizePrefixed(value) = self;
         append_payload(value, sink)
@@ -187,6 +191,8 @@ impl<G: Grammar, T: Minimize<G>> Minimize<G> for SizePrefixed<T> {
 
 /// Skips the payload, which the value occupies to the last byte.
 impl<'a, A: Allocator + Copy, G: Grammar, P: Skip<'a, A, G>> Skip<'a, A, G> for SizePrefixed<P> {
+    ghost may_allocate = { P.may_allocate };
+
     #[tactic(auto, using(crate::proofs::DecodeSizePrefixed::filled_steps))]
     fn skip(bytes: &'a [u8], alloc: A) -> Result<&'a [u8], DecodeError> {
         let (content, rest) = <&'a [u8] as Readable<'a, A, G>>::read(bytes, alloc)?;

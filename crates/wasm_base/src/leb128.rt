@@ -6,6 +6,7 @@ ghost use Rattle.wasm_base.specs.Groups.{groups, HasGroups, signed_of};
 ghost use Rattle.wasm_base.specs.Numbers.{padded, padded_of, next_group, last_group, groups_encoding, unsigned_encoding, signed_encoding};
 ghost use Rattle.wasm_base.specs.Decoding.{Rejects, Decodes};
 ghost use Rattle.wasm_base.specs.Encodings.{longest};
+ghost use Rattle.wasm_base.specs.Minimal.{both_grammars};
 ghost use Rattle.wasm_base.specs.declared.fault.ReadFault.TheVariants.{Ended, TooLarge, Memory};
 ghost use Rattle.wasm_base.specs.Formats.{u32 as u32_format, u64 as u64_format, s32, s64, s33};
 
@@ -269,6 +270,7 @@ pub fn read_groups(bytes: &[u8], limit: u8) -> Result<(Groups, &[u8]), DecodeErr
     ensures power { IfOk result (λ x. x.0.power ≤ 128 ^ limit) }
     ensures below { IfOk result (λ x. x.0.sum < x.0.power) }
     ensures none { IfErr result (λ _. Rejects (groups limit) padded bytes.now) }
+    ensures no_memory { IfErr result (λ e. e.cause ≢ Memory) }
     ensures ended { IfErr result (λ e. e.cause ≡ Ended → length bytes.now < limit) }
     ensures too_many { IfErr result (λ e. e.cause ≡ TooLarge → limit ≤ length bytes.now) }
 {
@@ -337,6 +339,7 @@ fn read_few_groups(bytes: &[u8]) -> Result<(FewGroups, &[u8]), DecodeError>
     ensures power { IfOk result (λ x. x.0.power ≤ 2 ^ 35) }
     ensures below { IfOk result (λ x. x.0.sum < x.0.power) }
     ensures none { IfErr result (λ _. Rejects (groups 5) padded bytes.now) }
+    ensures no_memory { IfErr result (λ e. e.cause ≢ Memory) }
 {
     let mut rest = bytes;
     let mut sum: u64 = 0;
@@ -379,6 +382,7 @@ fn signed_few(groups: FewGroups) -> i64
 fn read_long_u32<G: Grammar>(bytes: &[u8]) -> Result<(u32, &[u8]), DecodeError>
     ensures found { IfOk result (λ x. Decodes u32_format (padded_of G.grammar) bytes.now x.0 x.1.now) }
     ensures none { IfErr result (λ e. e.cause ≢ Memory → Rejects u32_format (padded_of G.grammar) bytes.now) }
+    ensures no_memory { IfErr result (λ e. e.cause ≢ Memory) }
 {
     let (groups, rest) = read_few_groups(bytes)?;
     if groups.sum < 1 << 32 {
@@ -394,6 +398,7 @@ fn read_long_u32<G: Grammar>(bytes: &[u8]) -> Result<(u32, &[u8]), DecodeError>
 fn read_long_u64<G: Grammar>(bytes: &[u8]) -> Result<(u64, &[u8]), DecodeError>
     ensures found { IfOk result (λ x. Decodes u64_format (padded_of G.grammar) bytes.now x.0 x.1.now) }
     ensures none { IfErr result (λ e. e.cause ≢ Memory → Rejects u64_format (padded_of G.grammar) bytes.now) }
+    ensures no_memory { IfErr result (λ e. e.cause ≢ Memory) }
 {
     if let Ok((groups, rest)) = read_few_groups(bytes) {
         return Ok((groups.sum, rest));
@@ -412,6 +417,7 @@ fn read_long_u64<G: Grammar>(bytes: &[u8]) -> Result<(u64, &[u8]), DecodeError>
 fn read_long_i32<G: Grammar>(bytes: &[u8]) -> Result<(i32, &[u8]), DecodeError>
     ensures found { IfOk result (λ x. Decodes s32 (padded_of G.grammar) bytes.now x.0 x.1.now) }
     ensures none { IfErr result (λ e. e.cause ≢ Memory → Rejects s32 (padded_of G.grammar) bytes.now) }
+    ensures no_memory { IfErr result (λ e. e.cause ≢ Memory) }
 {
     let (groups, rest) = read_few_groups(bytes)?;
     let value = signed_few(groups);
@@ -431,6 +437,7 @@ fn read_long_i32<G: Grammar>(bytes: &[u8]) -> Result<(i32, &[u8]), DecodeError>
 fn read_long_i64<G: Grammar>(bytes: &[u8]) -> Result<(i64, &[u8]), DecodeError>
     ensures found { IfOk result (λ x. Decodes s64 (padded_of G.grammar) bytes.now x.0 x.1.now) }
     ensures none { IfErr result (λ e. e.cause ≢ Memory → Rejects s64 (padded_of G.grammar) bytes.now) }
+    ensures no_memory { IfErr result (λ e. e.cause ≢ Memory) }
 {
     if let Ok((groups, rest)) = read_few_groups(bytes) {
         return Ok((signed_few(groups), rest));
@@ -459,6 +466,8 @@ impl Layout for u32 {
 }
 
 impl<'a, A: Allocator + Copy, G: Grammar> Readable<'a, A, G> for u32 {
+    ghost may_allocate = { ⊥ };
+
     #[tactic(auto, using(crate::proofs::DecodeNumbers::u32_steps))]
     #[inline]
     fn read(bytes: &'a [u8], _alloc: A) -> Result<(u32, &'a [u8]), DecodeError> {
@@ -483,6 +492,8 @@ impl Layout for u64 {
 }
 
 impl<'a, A: Allocator + Copy, G: Grammar> Readable<'a, A, G> for u64 {
+    ghost may_allocate = { ⊥ };
+
     #[tactic(auto, using(crate::proofs::DecodeNumbers::u64_steps))]
     #[inline]
     fn read(bytes: &'a [u8], _alloc: A) -> Result<(u64, &'a [u8]), DecodeError> {
@@ -507,6 +518,8 @@ impl Layout for i32 {
 }
 
 impl<'a, A: Allocator + Copy, G: Grammar> Readable<'a, A, G> for i32 {
+    ghost may_allocate = { ⊥ };
+
     #[tactic(auto, using(crate::proofs::DecodeNumbers::s32_steps))]
     #[inline]
     fn read(bytes: &'a [u8], _alloc: A) -> Result<(i32, &'a [u8]), DecodeError> {
@@ -531,6 +544,8 @@ impl Layout for i64 {
 }
 
 impl<'a, A: Allocator + Copy, G: Grammar> Readable<'a, A, G> for i64 {
+    ghost may_allocate = { ⊥ };
+
     #[tactic(auto, using(crate::proofs::DecodeNumbers::s64_steps))]
     #[inline]
     fn read(bytes: &'a [u8], _alloc: A) -> Result<(i64, &'a [u8]), DecodeError> {
@@ -548,12 +563,13 @@ impl<'a, A: Allocator + Copy, G: Grammar> Readable<'a, A, G> for i64 {
 ///
 /// # Errors
 ///
-/// Any error but `Memory` means that no such index is at the front.
+/// An error means that no such index is at the front.
 #[tactic(auto, using(crate::proofs::DecodeNumbers::index_steps))]
 #[inline]
 pub fn read_index<G: Grammar>(bytes: &[u8]) -> Result<(u32, &[u8]), DecodeError>
     ensures found { IfOk result (λ x. Decodes s33 (padded_of G.grammar) bytes.now x.0 x.1.now) }
     ensures none { IfErr result (λ e. e.cause ≢ Memory → Rejects s33 (padded_of G.grammar) bytes.now) }
+    ensures no_memory { IfErr result (λ e. e.cause ≢ Memory) }
 {
     let (groups, rest) = read_few_groups(bytes)?;
     if groups.last >= 0x40 {
@@ -567,6 +583,8 @@ pub fn read_index<G: Grammar>(bytes: &[u8]) -> Result<(u32, &[u8]), DecodeError>
 }
 
 impl Shorten for u32 {
+    ghost grammars = { both_grammars };
+
     #[tactic(auto, using(crate::proofs::DecodePlain::u32_appended))]
     fn write_minimal<B: Allocator>(&self, sink: &mut Vec<u8, B>) -> Result<()> {
         self.encode(sink)

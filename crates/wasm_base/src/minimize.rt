@@ -1,9 +1,9 @@
 // The trait `Minimize`: values whose minimal encoding is appended while they are decoded.
-ghost use Rattle.std.specs.Prelude.{◌≢◌, IfOk, IfErr, OnOk};
+ghost use Rattle.std.specs.Prelude.{◌≡◌, ◌≢◌, IfOk, IfErr, OnOk};
 ghost use Rattle.wasm_base.specs.Numbers.{padded_of};
 ghost use Rattle.wasm_base.specs.Formats.{members, vec};
 ghost use Rattle.wasm_base.specs.Decoding.{Rejects, BeginsWith};
-ghost use Rattle.wasm_base.specs.Minimal.{Minimizes, MinimizesWhole, EncodesMinimally, AreSameInBoth, IsFrontOf};
+ghost use Rattle.wasm_base.specs.Minimal.{Minimizes, MinimizesWhole, EncodesMinimally, IsFrontOf, both_grammars};
 ghost use Rattle.wasm_base.specs.Continuing.{RejectsWhole};
 ghost use Rattle.wasm_base.specs.declared.fault.ReadFault.TheVariants.{Memory};
 
@@ -67,15 +67,15 @@ pub fn minimize_value<
     Ok(rest)
 }
 
-/// A value with the same encodings in both grammars.
-pub trait Shared: Layout {
-    /// Proves that the format is the same in both grammars. The function does nothing.
+/// A value whose written encoding is minimal in both grammars.
+pub trait Shared: Shorten {
+    /// Proves that it is minimal in both. The function does nothing.
     fn shared()
-        ensures { AreSameInBoth Self.format };
+        ensures { Self.grammars ≡ both_grammars };
 }
 
-/// Decodes the value at the front, appends its minimal encoding, and drops it. The value has the
-/// same encodings in both grammars.
+/// Decodes the value at the front, appends its minimal encoding, and drops it. That encoding is the
+/// same in both grammars.
 ///
 /// # Errors
 ///
@@ -84,7 +84,7 @@ pub trait Shared: Layout {
 #[tactic(auto, using(crate::proofs::MinimizeLaws::shared_minimizes, crate::proofs::MinimalEncodings::front_steps))]
 pub fn minimize_shared<
     'a,
-    T: Readable<'a, A, G> + Shorten + Shared,
+    T: Readable<'a, A, G> + Shared,
     A: Allocator + Copy,
     G: Grammar,
     B: Allocator,

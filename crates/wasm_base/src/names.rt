@@ -1,7 +1,7 @@
 // Names, and size-prefixed bytes. Decoded ones are slices of the input.
 ghost use Rattle.std.specs.Prelude.{◌≢◌, ◌<◌, ℕ, List, length, IfOk, IfErr};
 ghost use Rattle.wasm_base.specs.Numbers.{padded_of};
-ghost use Rattle.wasm_base.specs.Minimal.{Minimizes, IsFrontOf};
+ghost use Rattle.wasm_base.specs.Minimal.{Minimizes, IsFrontOf, both_grammars};
 ghost use Rattle.wasm_base.specs.declared.fault.ReadFault.TheVariants.{Memory};
 ghost use Rattle.wasm_base.specs.Encodings.{longest, size_prefixed_encoding, HasEncodableSize};
 ghost use Rattle.wasm_base.specs.Formats.{size_prefixed, any_bytes, name};
@@ -46,6 +46,8 @@ impl<'a> Layout for &'a [u8] {
 }
 
 impl<'a, A: Allocator + Copy, G: Grammar> Readable<'a, A, G> for &'a [u8] {
+    ghost may_allocate = { ⊥ };
+
     #[tactic(auto, using(crate::proofs::DecodeSizePrefixed::size_prefixed_steps))]
     fn read(bytes: &'a [u8], alloc: A) -> Result<(&'a [u8], &'a [u8]), DecodeError> {
         let (size, rest) = <u32 as Readable<'a, A, G>>::read(bytes, alloc)?;
@@ -71,6 +73,8 @@ impl<'a> Layout for &'a str {
 }
 
 impl<'a, A: Allocator + Copy, G: Grammar> Readable<'a, A, G> for &'a str {
+    ghost may_allocate = { ⊥ };
+
     #[tactic(auto, using(crate::proofs::DecodeSizePrefixed::name_steps))]
     fn read(bytes: &'a [u8], alloc: A) -> Result<(&'a str, &'a [u8]), DecodeError> {
         let (encoding, rest) = <&'a [u8] as Readable<'a, A, G>>::read(bytes, alloc)?;
@@ -82,6 +86,8 @@ impl<'a, A: Allocator + Copy, G: Grammar> Readable<'a, A, G> for &'a str {
 }
 
 impl Shorten for &[u8] {
+    ghost grammars = { both_grammars };
+
     #[tactic(auto, using(crate::proofs::DecodePlain::bytes_appended, crate::proofs::DecodedValues::bytes_encodable))]
     fn write_minimal<B: Allocator>(&self, sink: &mut Vec<u8, B>) -> Result<()> {
         encode_size_prefixed(sink, self)
@@ -89,6 +95,8 @@ impl Shorten for &[u8] {
 }
 
 impl Shorten for &str {
+    ghost grammars = { both_grammars };
+
     #[tactic(auto, using(crate::proofs::DecodePlain::name_appended, crate::proofs::DecodedValues::name_encodable))]
     fn write_minimal<B: Allocator>(&self, sink: &mut Vec<u8, B>) -> Result<()> {
         self.encode(sink)

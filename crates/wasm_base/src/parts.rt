@@ -1,5 +1,5 @@
 // Components of values: borrowed ones, and optional ones.
-ghost use Rattle.std.specs.Prelude.{IfSome, ◌≢◌, IfOk, IfErr, option_map};
+ghost use Rattle.std.specs.Prelude.{IfSome, ◌≡◌, ◌≢◌, IfOk, IfErr, option_map};
 ghost use Rattle.wasm_base.specs.Encodings.{optional_encoding};
 ghost use Rattle.wasm_base.specs.Formats.{optional};
 ghost use Rattle.wasm_base.specs.Numbers.{padded_of};
@@ -61,6 +61,7 @@ pub fn read_optional<'a, T: Readable<'a, A, G>, A: Allocator + Copy, G: Grammar>
 ) -> Result<(Option<T>, &'a [u8]), DecodeError>
     ensures found { IfOk result (λ x. Decodes (optional flag T.format) (padded_of G.grammar) bytes.now (option_map T.view x.0) x.1.now) }
     ensures none { IfErr result (λ e. e.cause ≢ Memory → Rejects (optional flag T.format) (padded_of G.grammar) bytes.now) }
+    ensures no_memory { IfErr result (λ e. e.cause ≡ Memory → T.may_allocate) }
 {
     if flag {
         let (value, rest) = T::read(bytes, alloc)?;

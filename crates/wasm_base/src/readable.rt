@@ -1,5 +1,5 @@
 // The traits of decoding: the format of a value, and its decoder.
-ghost use Rattle.std.specs.Prelude.{◌≢◌, ℕ, List, IfOk, IfErr};
+ghost use Rattle.std.specs.Prelude.{◌≡◌, ◌≢◌, ⊤, ℕ, List, IfOk, IfErr};
 ghost use Rattle.wasm_base.specs.Numbers.{Mode, padded_of};
 ghost use Rattle.wasm_base.specs.Decoding.{Unambiguous, Decodes, Rejects};
 ghost use Rattle.wasm_base.specs.declared.fault.ReadFault.TheVariants.{Memory};
@@ -27,6 +27,9 @@ pub trait Layout {
 /// A value that can be decoded from the front of bytes. Lists are allocated in `A`; names and bytes
 /// are slices of the input.
 pub trait Readable<'a, A: Allocator + Copy, G: Grammar>: Layout + Drop {
+    // Whether decoding may request memory. Without it, no error is `Memory`.
+    ghost may_allocate: { Type 0 } = { ⊤ };
+
     /// Decodes the value at the front, in the grammar `G`, and returns it with the remaining bytes.
     ///
     /// # Errors
@@ -34,5 +37,6 @@ pub trait Readable<'a, A: Allocator + Copy, G: Grammar>: Layout + Drop {
     /// Any error but `Memory` means that no such value is at the front.
     fn read(bytes: &'a [u8], alloc: A) -> Result<(Self, &'a [u8]), DecodeError>
         ensures found { IfOk result (λ x. Decodes Self.format (padded_of G.grammar) bytes.now (Self.view x.0) x.1.now) }
-        ensures none { IfErr result (λ e. e.cause ≢ Memory → Rejects Self.format (padded_of G.grammar) bytes.now) };
+        ensures none { IfErr result (λ e. e.cause ≢ Memory → Rejects Self.format (padded_of G.grammar) bytes.now) }
+        ensures no_memory { IfErr result (λ e. e.cause ≡ Memory → Self.may_allocate) };
 }

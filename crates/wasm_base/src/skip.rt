@@ -14,6 +14,9 @@ use std::alloc::Allocator;
 /// A value at the front of bytes, as for [`Readable`], that is skipped to reach the remaining
 /// bytes.
 pub trait Skip<'a, A: Allocator + Copy, G: Grammar>: Layout {
+    // Whether skipping may request memory. Without it, no error is `Memory`.
+    ghost may_allocate: { Type 0 } = { ⊥ };
+
     /// Skips the value at the front, in the grammar `G`, and returns the remaining bytes.
     ///
     /// # Errors
@@ -21,7 +24,8 @@ pub trait Skip<'a, A: Allocator + Copy, G: Grammar>: Layout {
     /// Any error but `Memory` means that no such value is at the front.
     fn skip(bytes: &'a [u8], alloc: A) -> Result<&'a [u8], DecodeError>
         ensures found { IfOk result (λ rest. (x : Self.Value) × Decodes Self.format (padded_of G.grammar) bytes.now x rest.now) }
-        ensures none { IfErr result (λ e. e.cause ≢ Memory → Rejects Self.format (padded_of G.grammar) bytes.now) };
+        ensures none { IfErr result (λ e. e.cause ≢ Memory → Rejects Self.format (padded_of G.grammar) bytes.now) }
+        ensures no_memory { IfErr result (λ e. e.cause ≡ Memory → Self.may_allocate) };
 }
 
 /// A value that is skipped by decoding it, for types without a cheaper `skip`.
@@ -40,6 +44,8 @@ impl<T: Layout> Layout for Dropped<T> {
 }
 
 impl<'a, A: Allocator + Copy, G: Grammar, T: Readable<'a, A, G>> Skip<'a, A, G> for Dropped<T> {
+    ghost may_allocate = { T.Readable.may_allocate };
+
     #[inline]
     fn skip(bytes: &'a [u8], alloc: A) -> Result<&'a [u8], DecodeError> {
         let (_value, rest) = T::read(bytes, alloc)?;
@@ -58,6 +64,7 @@ pub fn skip_many<'a, P: Skip<'a, A, G>, A: Allocator + Copy, G: Grammar>(
 ) -> Result<(u32, &'a [u8]), DecodeError>
     ensures found { IfOk result (λ x. (xs : List P.Value) × Decodes (vec P.format) (padded_of G.grammar) bytes.now xs x.1.now × (x.0 ≡ length xs)) }
     ensures none { IfErr result (λ e. e.cause ≢ Memory → Rejects (vec P.format) (padded_of G.grammar) bytes.now) }
+    ensures no_memory { IfErr result (λ e. e.cause ≡ Memory → P.Skip.may_allocate) }
 {
     let (count, mut rest) = <u32 as Readable<'a, A, G>>::read(bytes, alloc)?;
     P::laws();
@@ -79,6 +86,7 @@ pub fn check_whole<'a, P: Skip<'a, A, G>, A: Allocator + Copy, G: Grammar>(
 ) -> Result<(), DecodeError>
     ensures found { OnOk result ((x : P.Value) × P.format (padded_of G.grammar) bytes.now x) }
     ensures none { IfErr result (λ e. e.cause ≢ Memory → RejectsWhole P.format (padded_of G.grammar) bytes.now) }
+    ensures no_memory { IfErr result (λ e. e.cause ≡ Memory → P.Skip.may_allocate) }
 {
     let rest = P::skip(bytes, alloc)?;
     P::laws();
@@ -102,6 +110,7 @@ pub fn check_to_end<'a, P: Skip<'a, A, G>, A: Allocator + Copy, G: Grammar>(
     requires { BeginsWith (λ b. Unit {0}) P.format }
     ensures found { OnOk result ((xs : List P.Value) × members P.format (padded_of G.grammar) bytes.now xs) }
     ensures none { IfErr result (λ e. e.cause ≢ Memory → RejectsWhole (members P.format) (padded_of G.grammar) bytes.now) }
+    ensures no_memory { IfErr result (λ e. e.cause ≡ Memory → P.Skip.may_allocate) }
 {
     let mut rest = bytes;
     P::laws();

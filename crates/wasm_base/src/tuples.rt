@@ -1,7 +1,8 @@
 // Several values one after another.
-ghost use Rattle.std.specs.Prelude.{◌++◌};
+ghost use Rattle.std.specs.Prelude.{◌++◌, ◌⊎◌};
 ghost use Rattle.wasm_base.specs.Calls.{Appends};
 ghost use Rattle.wasm_base.specs.Formats.{pair};
+ghost use Rattle.wasm_base.specs.Minimal.{common_grammars};
 
 use crate::encode::Encode;
 use crate::fault::DecodeError;
@@ -64,6 +65,8 @@ impl<S: Encode, T: Encode, U: Encode> Encode for (S, T, U) {
 /// One value, and then another.
 impl<'a, A: Allocator + Copy, G: Grammar, P: Skip<'a, A, G>, Q: Skip<'a, A, G>> Skip<'a, A, G>
     for (P, Q) {
+    ghost may_allocate = { P.may_allocate ⊎ Q.may_allocate };
+
     #[tactic(auto, using(crate::proofs::DecodingSteps::steps))]
     fn skip(bytes: &'a [u8], alloc: A) -> Result<&'a [u8], DecodeError> {
         let after = P::skip(bytes, alloc)?;
@@ -92,6 +95,8 @@ impl<'a, A: Allocator + Copy, G: Grammar, T: Readable<'a, A, G>, U: Readable<'a,
     A,
     G,
 > for (T, U) {
+    ghost may_allocate = { T.may_allocate ⊎ U.may_allocate };
+
     #[tactic(auto, using(crate::proofs::DecodingSteps::steps))]
     #[inline]
     fn read(bytes: &'a [u8], alloc: A) -> Result<((T, U), &'a [u8]), DecodeError> {
@@ -103,7 +108,9 @@ impl<'a, A: Allocator + Copy, G: Grammar, T: Readable<'a, A, G>, U: Readable<'a,
 }
 
 impl<T: Shorten, U: Shorten> Shorten for (T, U) {
-    #[tactic(auto, using(crate::proofs::MinimalEncodings::pair_appended, crate::proofs::DecodedValues::left_encoded, crate::proofs::DecodedValues::right_encoded))]
+    ghost grammars = { common_grammars T.grammars U.grammars };
+
+    #[tactic(auto, using(crate::proofs::MinimalEncodings::pair_in_common, crate::proofs::DecodedValues::left_in_common, crate::proofs::DecodedValues::right_in_common))]
     fn write_minimal<B: Allocator>(&self, sink: &mut Vec<u8, B>) -> Result<()> {
         self.0.write_minimal(sink)?;
         self.1.write_minimal(sink)

@@ -3,6 +3,7 @@ ghost use Rattle.std.specs.Prelude.{◌≡◌, ◌∷◌, [], ⊤, cond, ◌≢�
 ghost use Rattle.wasm_base.specs.Calls.{Appends};
 ghost use Rattle.wasm_base.specs.Types.{abstract_code, heap_encoding, ref_encoding, val_encoding, tight_bytes, ref_encoding_in, val_encoding_in, abstract_type, heap_type, ref_type, val_type, HasNoByte, HasLongForm};
 ghost use Rattle.wasm_base.specs.Formats.{after_byte};
+ghost use Rattle.wasm_base.specs.Minimal.{builders_alone};
 ghost use Rattle.wasm_base.specs.Numbers.{is_admitted, padded_of};
 ghost use Rattle.wasm_base.specs.Decoding.{Decodes, Rejects};
 ghost use Rattle.wasm_base.specs.declared.types.AbstractHeapType.{AbstractHeapType as Abstract};
@@ -284,6 +285,8 @@ impl Layout for AbstractHeapType {
 }
 
 impl<'a, A: Allocator + Copy, G: Grammar> Readable<'a, A, G> for AbstractHeapType {
+    ghost may_allocate = { ⊥ };
+
     #[tactic(auto, using(crate::proofs::DecodeTypes::abstract_type_steps))]
     fn read(bytes: &'a [u8], alloc: A) -> Result<(AbstractHeapType, &'a [u8]), DecodeError> {
         let (byte, rest) = <u8 as Readable<'a, A, G>>::read(bytes, alloc)?;
@@ -306,6 +309,8 @@ impl Layout for HeapType {
 }
 
 impl<'a, A: Allocator + Copy, G: Grammar> Readable<'a, A, G> for HeapType {
+    ghost may_allocate = { ⊥ };
+
     #[tactic(auto, using(crate::proofs::DecodeTypes::heap_steps))]
     fn read(bytes: &'a [u8], alloc: A) -> Result<(HeapType, &'a [u8]), DecodeError> {
         let (tag, rest) = <u8 as Readable<'a, A, G>>::read(bytes, alloc)?;
@@ -383,6 +388,7 @@ fn read_ref_after<'a, A: Allocator + Copy, G: Grammar>(
 ) -> Result<(RefType, &'a [u8]), DecodeError>
     ensures found { IfOk result (λ x. Decodes (after_byte ref_type tag) (padded_of G.grammar) bytes.now x.0 x.1.now) }
     ensures none { IfErr result (λ e. e.cause ≢ Memory → Rejects (after_byte ref_type tag) (padded_of G.grammar) bytes.now) }
+    ensures no_memory { IfErr result (λ e. e.cause ≢ Memory) }
 {
     match tag {
         0x70 => Ok((RefType::FUNCREF, bytes)),
@@ -430,6 +436,8 @@ impl Layout for RefType {
 }
 
 impl<'a, A: Allocator + Copy, G: Grammar> Readable<'a, A, G> for RefType {
+    ghost may_allocate = { ⊥ };
+
     #[tactic(auto, using(crate::proofs::DecodeTypes::ref_type_steps))]
     fn read(bytes: &'a [u8], alloc: A) -> Result<(RefType, &'a [u8]), DecodeError> {
         let (tag, rest) = <u8 as Readable<'a, A, G>>::read(bytes, alloc)?;
@@ -454,7 +462,7 @@ impl<G: Grammar> Minimize<G> for RefType {
 ///
 /// # Errors
 ///
-/// Any error but `Memory` means that no value type is at the front of `tag` and the bytes.
+/// An error means that no value type is at the front of `tag` and the bytes.
 #[tactic(auto, using(crate::proofs::DecodeTypes::val_steps))]
 pub fn read_val_after<'a, A: Allocator + Copy, G: Grammar>(
     tag: u8,
@@ -463,6 +471,7 @@ pub fn read_val_after<'a, A: Allocator + Copy, G: Grammar>(
 ) -> Result<(ValType, &'a [u8]), DecodeError>
     ensures found { IfOk result (λ x. Decodes (after_byte val_type tag) (padded_of G.grammar) bytes.now x.0 x.1.now) }
     ensures none { IfErr result (λ e. e.cause ≢ Memory → Rejects (after_byte val_type tag) (padded_of G.grammar) bytes.now) }
+    ensures no_memory { IfErr result (λ e. e.cause ≢ Memory) }
 {
     match tag {
         0x7F => Ok((ValType::I32, bytes)),
@@ -489,6 +498,8 @@ impl Layout for ValType {
 }
 
 impl<'a, A: Allocator + Copy, G: Grammar> Readable<'a, A, G> for ValType {
+    ghost may_allocate = { ⊥ };
+
     #[tactic(auto, using(crate::proofs::DecodeTypes::val_type_steps))]
     fn read(bytes: &'a [u8], alloc: A) -> Result<(ValType, &'a [u8]), DecodeError> {
         let (tag, rest) = <u8 as Readable<'a, A, G>>::read(bytes, alloc)?;
@@ -497,6 +508,8 @@ impl<'a, A: Allocator + Copy, G: Grammar> Readable<'a, A, G> for ValType {
 }
 
 impl Shorten for ValType {
+    ghost grammars = { builders_alone };
+
     #[tactic(auto, using(crate::proofs::DecodePlain::val_appended))]
     fn write_minimal<B: Allocator>(&self, sink: &mut Vec<u8, B>) -> Result<()> {
         self.encode(sink)

@@ -90,9 +90,9 @@ impl<'a, A: Allocator + Copy, G: Grammar, T: Readable<'a, A, G>> Readable<'a, A,
 /// bytes.
 #[tactic(auto, using(crate::proofs::MinimalEncodings::no_members_appended))]
 fn write_all<T: Shorten, B: Allocator>(items: &[T], sink: &mut Vec<u8, B>) -> Result<()>
-    ensures ok { OnOk result (AppendsMinimal (members T.format) (map T.view items.now) sink.old.items sink.new.items) }
+    ensures ok { OnOk result (AppendsMinimal T.grammars (members T.format) (map T.view items.now) sink.old.items sink.new.items) }
     ensures front { IsFrontOf sink.old.items sink.new.items }
-    ensures too_long { HasEncoding (members T.format) (map T.view items.now) → result ≢ Err TooLong }
+    ensures too_long { HasEncoding T.grammars (members T.format) (map T.view items.now) → result ≢ Err TooLong }
 {
     for item in items {
         item.write_minimal(sink)?;
@@ -105,11 +105,11 @@ fn write_all<T: Shorten, B: Allocator>(items: &[T], sink: &mut Vec<u8, B>) -> Re
 /// # Errors
 ///
 /// Returns [`Refused`](crate::Refused), and leaves the bytes of the sink unchanged, if an
-/// allocation fails. Decoded values never cause `TooLong`.
+/// allocation fails. Values that were decoded in one of the `grammars` never cause `TooLong`.
 pub fn append_all<T: Shorten, B: Allocator>(items: &[T], sink: &mut Vec<u8, B>) -> Result<()>
-    ensures ok { OnOk result (AppendsMinimal (members T.format) (map T.view items.now) sink.old.items sink.new.items) }
+    ensures ok { OnOk result (AppendsMinimal T.grammars (members T.format) (map T.view items.now) sink.old.items sink.new.items) }
     ensures err { OnErr result (sink.new.items ≡ sink.old.items) }
-    ensures too_long { HasEncoding (members T.format) (map T.view items.now) → result ≢ Err TooLong }
+    ensures too_long { HasEncoding T.grammars (members T.format) (map T.view items.now) → result ≢ Err TooLong }
 {
     let start = sink.len();
     let written = write_all(items, sink);
@@ -121,6 +121,8 @@ pub fn append_all<T: Shorten, B: Allocator>(items: &[T], sink: &mut Vec<u8, B>) 
 
 /// Writes the number of values, and the values.
 impl<T: Shorten, A: Allocator> Shorten for Vec<T, A> {
+    ghost grammars = { T.grammars };
+
     fn write_minimal<B: Allocator>(&self, sink: &mut Vec<u8, B>) -> Result<()> {
         self.len().encode(sink)?;
         write_all(self, sink)
@@ -141,6 +143,8 @@ impl<G: Grammar, T: Minimize<G>, C: Allocator> Minimize<G> for Vec<T, C> {
 /// Skips the members one by one, and keeps none.
 impl<'a, A: Allocator + Copy, G: Grammar, P: Skip<'a, A, G>, C: Allocator> Skip<'a, A, G>
     for Vec<P, C> {
+    ghost may_allocate = { P.may_allocate };
+
     fn skip(bytes: &'a [u8], alloc: A) -> Result<&'a [u8], DecodeError> {
         let (_count, rest) = skip_many::<'a, P, A, G>(bytes, alloc)?;
         Ok(rest)

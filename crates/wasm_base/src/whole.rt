@@ -1,5 +1,5 @@
 // Decoding of values that occupy all of the bytes.
-ghost use Rattle.std.specs.Prelude.{◌≢◌, ◌≤◌, IfOk, IfErr, length, map, min};
+ghost use Rattle.std.specs.Prelude.{◌≡◌, ◌≢◌, ◌≤◌, IfOk, IfErr, length, map, min};
 ghost use Rattle.wasm_base.specs.Encodings.{longest};
 ghost use Rattle.wasm_base.specs.Formats.{members};
 ghost use Rattle.wasm_base.specs.Continuing.{RejectsWhole};
@@ -24,6 +24,7 @@ pub fn read_whole<'a, T: Readable<'a, A, G>, A: Allocator + Copy, G: Grammar>(
 ) -> Result<T, DecodeError>
     ensures found { IfOk result (λ x. T.format (padded_of G.grammar) bytes.now (T.view x)) }
     ensures none { IfErr result (λ e. e.cause ≢ Memory → RejectsWhole T.format (padded_of G.grammar) bytes.now) }
+    ensures no_memory { IfErr result (λ e. e.cause ≡ Memory → T.may_allocate) }
 {
     let (value, left) = T::read(bytes, alloc)?;
     T::laws();
@@ -47,6 +48,7 @@ pub fn read_before<'a, T: Readable<'a, A, G>, A: Allocator + Copy, G: Grammar>(
 ) -> Result<T, DecodeError>
     ensures found { IfOk result (λ x. T.format (padded_of G.grammar) bytes.now (T.view x)) }
     ensures none { IfErr result (λ e. e.cause ≢ Memory → RejectsWhole T.format (padded_of G.grammar) bytes.now) }
+    ensures no_memory { IfErr result (λ e. e.cause ≡ Memory → T.may_allocate) }
     ensures left { IfErr result (λ e. min (length rest.now) longest ≤ e.left) }
 {
     match read_whole::<'a, T, A, G>(bytes, alloc) {

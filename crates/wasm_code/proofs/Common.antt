@@ -1,6 +1,6 @@
 -- This file re-exports what the proofs of this crate's functions use.
 pub use Rattle.std.specs.declared.alloc.Global.{Global}
-pub use Rattle.wasm_base.proofs.Words.{All, All-last, AppendsMinimal, Decodes, HasEncodableSize, HasMembers, IsEncodableSection, List, Rejects, Yields-push, [], all_appended, ap, append-nil}
+pub use Rattle.wasm_base.proofs.Words.{All, All-last, AppendsMinimal, builders_alone, Decodes, HasEncodableSize, HasMembers, IsEncodableSection, List, Rejects, Yields-push, [], all_appended, ap, append-nil}
 pub use Rattle.wasm_base.proofs.Words.{append_assoc, arith, begins_such, drop, empty_not, eqb-false, eqb-true, fault_stays, filled_decodes, filled_none, filled_rejects, flat_map, front_and_rest}
 pub use Rattle.wasm_base.proofs.Words.{front_appended, front_then, if_err_any, length, map, member_encoded, member_shorter, members, members_continued, members_done, members_fail, members_more}
 pub use Rattle.wasm_base.proofs.Words.{memory_stays, next_appended, no_members_appended, none_left, on_ok, on_ok_both, optional_encoding, padded, padded_of, refl, rules, size_prefixed_appended}

@@ -1,5 +1,5 @@
 -- This file proves how expressions and bodies are minimized while they are decoded.
-use Rattle.wasm_base.proofs.Words.{◌≡◌, ◌≢◌, ℕ, List, [], ◌∷◌, ◌++◌, length, refl, sym, subst, map-id, append-nil, Grammar, builders, padded, minimal_of, padded_of, members, pair, vec, such, u32, val_type, Decodes, AppendsMinimal, such_unambiguous}
+use Rattle.wasm_base.proofs.Words.{◌≡◌, ◌≢◌, ℕ, List, [], ◌∷◌, ◌++◌, length, refl, sym, subst, map-id, append-nil, Grammar, builders, padded, minimal_of, padded_of, members, pair, vec, such, u32, val_type, Decodes, AppendsMinimal, built_appended, builders_alone, such_unambiguous}
 use Rattle.wasm_base.specs.Minimal.{Minimizes, MinimizesWhole}
 use Rattle.wasm_base.proofs.Words.{HasEncodableSize, size_prefixed, size_prefixed_encoding}
 use Rattle.wasm_base.proofs.Words.{drop, take, size_prefixed_appended}
@@ -58,9 +58,9 @@ body_minimizes w bytes after old middle new h g = record {
 }
 
 -- In the builders' grammar the encoding is that of the decoded body.
-pub body_shortened : (bytes old middle new : List ℕ) (start : ℕ) → start ≡ length old → MinimizesWhole builders body bytes old middle → HasEncodableSize (drop start middle) → new ≡ take start middle ++ size_prefixed_encoding (drop start middle) → (x : Body) × body padded bytes x × AppendsMinimal (size_prefixed body) x old new
+pub body_shortened : (bytes old middle new : List ℕ) (start : ℕ) → start ≡ length old → MinimizesWhole builders body bytes old middle → HasEncodableSize (drop start middle) → new ≡ take start middle ++ size_prefixed_encoding (drop start middle) → (x : Body) × body padded bytes x × AppendsMinimal builders_alone (size_prefixed body) x old new
 body_shortened bytes old middle new start e h encodable is = (
   h.value,
   h.decoded,
-  size_prefixed_appended body h.value start old middle new e (record { encoding = h.encoding; appended = h.appended; encodes = λ s k. h.encodes }) encodable is,
+  size_prefixed_appended body h.value start old middle new e (built_appended body h.value h.encoding old middle (λ s k. h.encodes) h.appended) encodable is,
 )

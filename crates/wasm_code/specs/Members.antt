@@ -16,14 +16,15 @@ pub record GivesMember {T X : Type 0} (F : Format X) (view : T → X) (mode : Mo
   pub left : old.left ≡ new.left + 1
 
 -- The iterator returned this error, and has ended: no member is at the front, for any cause but
--- `Memory`.
-pub record EndsMembers {X : Type 0} (F : Format X) (mode : Mode) (old : VisitingMembers) (e : Failure) (new : VisitingMembers) : Type 0 where
+-- `Memory`. For `Memory`, decoding a member may request memory.
+pub record EndsMembers {X : Type 0} (MayAllocate : Type 0) (F : Format X) (mode : Mode) (old : VisitingMembers) (e : Failure) (new : VisitingMembers) : Type 0 where
   pub some : old.left ≢ 0
   pub none : e.cause ≢ Memory → Rejects F mode old.rest
+  pub no_memory : e.cause ≡ Memory → MayAllocate
   pub ended : (new.left ≡ 0) × (new.rest ≡ old.rest)
 
 -- The result of `next`: `None` if no member is left, a member, or an error.
-abbrev pub NextMember : {T X : Type 0} → Format X → (T → X) → Mode → VisitingMembers → Option (Result T Failure) → VisitingMembers → Type 0
-NextMember F view mode old None new = (old.left ≡ 0) × (new ≡ old)
-NextMember F view mode old (Some (Ok member)) new = GivesMember F view mode old member new
-NextMember F view mode old (Some (Err e)) new = EndsMembers F mode old e new
+abbrev pub NextMember : {T X : Type 0} → Type 0 → Format X → (T → X) → Mode → VisitingMembers → Option (Result T Failure) → VisitingMembers → Type 0
+NextMember MayAllocate F view mode old None new = (old.left ≡ 0) × (new ≡ old)
+NextMember MayAllocate F view mode old (Some (Ok member)) new = GivesMember F view mode old member new
+NextMember MayAllocate F view mode old (Some (Err e)) new = EndsMembers MayAllocate F mode old e new

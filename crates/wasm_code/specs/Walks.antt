@@ -25,10 +25,11 @@ pub record GivesInstruction (F : Format Plain) (mode : Mode) (before : Walking) 
   pub within : after.offset ≤ length after.bytes
   pub same : after.bytes ≡ before.bytes
 
--- The visitor returned this error, and did not move. For any cause but `Memory`, no value of the
--- format decodes from the next bytes.
+-- The visitor returned this error, and did not move. No value of the format decodes from the next
+-- bytes. The cause is not `Memory`.
 pub record GivesFailure {X : Type 0} (F : Format X) (mode : Mode) (before : Walking) (e : Failure) (after : Walking) : Type 0 where
   pub none : e.cause ≢ Memory → Rejects F mode (ahead before)
+  pub no_memory : e.cause ≢ Memory
   pub stays : after ≡ before
 
 -- The result of `next`: `None` at the end of the bytes, an instruction, or an error.

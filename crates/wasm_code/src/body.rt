@@ -7,7 +7,7 @@ ghost use Rattle.wasm_insn.specs.Plain.{instruction, Plain as PlainInstruction};
 ghost use Rattle.wasm_insn.specs.Table.{table};
 ghost use Rattle.wasm_code.specs.Bodies.{Body as BodyModel, body};
 ghost use Rattle.wasm_base.specs.declared.refused.Refused.TheVariants.{TooLong};
-ghost use Rattle.wasm_base.specs.Minimal.{AppendsMinimal, IsFrontOf, HasEncoding, MinimizesWhole};
+ghost use Rattle.wasm_base.specs.Minimal.{AppendsMinimal, IsFrontOf, HasEncoding, MinimizesWhole, builders_alone};
 ghost use Rattle.wasm_base.specs.declared.fault.ReadFault.TheVariants.{Memory};
 ghost use Rattle.wasm_insn.specs.Views.{plain_view};
 ghost use Rattle.wasm_code.specs.BodyViews.{body_view};
@@ -54,9 +54,9 @@ pub(crate) fn append_code<A: Allocator, B: Allocator>(
     code: &[Plain<A>],
     sink: &mut Vec<u8, B>,
 ) -> Result<()>
-    ensures ok { OnOk result (AppendsMinimal (members (instruction table)) (map plain_view code.now) sink.old.items sink.new.items) }
+    ensures ok { OnOk result (AppendsMinimal builders_alone (members (instruction table)) (map plain_view code.now) sink.old.items sink.new.items) }
     ensures front { IsFrontOf sink.old.items sink.new.items }
-    ensures too_long { HasEncoding (members (instruction table)) (map plain_view code.now) → result ≢ Err TooLong }
+    ensures too_long { HasEncoding builders_alone (members (instruction table)) (map plain_view code.now) → result ≢ Err TooLong }
 {
     for instruction in code {
         instruction.write_minimal(sink)?;
@@ -113,6 +113,8 @@ impl<'a, A: Allocator + Copy, G: Grammar> Readable<'a, A, G> for Body<A> {
 }
 
 impl<A: Allocator> Shorten for Body<A> {
+    ghost grammars = { builders_alone };
+
     #[tactic(auto, using(crate::proofs::MinimalLists::body_code_encoded))]
     fn write_minimal<B: Allocator>(&self, sink: &mut Vec<u8, B>) -> Result<()> {
         let start = sink.len();
@@ -145,7 +147,7 @@ fn write_body<A: Allocator + Copy, B: Allocator>(
     alloc: A,
     sink: &mut Vec<u8, B>,
 ) -> Result<(), DecodeError>
-    ensures found { OnOk result ((x : BodyModel) × body padded bytes.now x × AppendsMinimal (size_prefixed body) x sink.old.items sink.new.items) }
+    ensures found { OnOk result ((x : BodyModel) × body padded bytes.now x × AppendsMinimal builders_alone (size_prefixed body) x sink.old.items sink.new.items) }
     ensures none { IfErr result (λ e. e.cause ≢ Memory → RejectsWhole body padded bytes.now) }
     ensures front { IsFrontOf sink.old.items sink.new.items }
 {
@@ -172,7 +174,7 @@ pub fn shorten_body<A: Allocator + Copy, B: Allocator>(
     alloc: A,
     sink: &mut Vec<u8, B>,
 ) -> Result<(), DecodeError>
-    ensures found { OnOk result ((x : BodyModel) × body padded bytes.now x × AppendsMinimal (size_prefixed body) x sink.old.items sink.new.items) }
+    ensures found { OnOk result ((x : BodyModel) × body padded bytes.now x × AppendsMinimal builders_alone (size_prefixed body) x sink.old.items sink.new.items) }
     ensures none { IfErr result (λ e. e.cause ≢ Memory → RejectsWhole body padded bytes.now) }
     ensures err { OnErr result (sink.new.items ≡ sink.old.items) }
 {
@@ -210,6 +212,7 @@ fn skip_code<'a, A: Allocator + Copy, G: Grammar>(
 ) -> Result<(), DecodeError>
     ensures found { OnOk result ((xs : List PlainInstruction) × members (instruction table) (padded_of G.grammar) bytes.now xs) }
     ensures none { IfErr result (λ e. e.cause ≢ Memory → RejectsWhole (members (instruction table)) (padded_of G.grammar) bytes.now) }
+    ensures no_memory { IfErr result (λ e. e.cause ≢ Memory) }
 {
     let mut rest = bytes;
     loop {
@@ -228,6 +231,7 @@ fn skip_body<'a, A: Allocator + Copy, G: Grammar>(
 ) -> Result<(), DecodeError>
     ensures found { OnOk result ((x : BodyModel) × body (padded_of G.grammar) bytes.now x) }
     ensures none { IfErr result (λ e. e.cause ≢ Memory → RejectsWhole body (padded_of G.grammar) bytes.now) }
+    ensures no_memory { IfErr result (λ e. e.cause ≢ Memory) }
 {
     let (_count, rest) = skip_many::<'a, Dropped<(u32, ValType)>, A, G>(bytes, alloc)?;
     skip_code::<A, G>(rest, alloc)?;

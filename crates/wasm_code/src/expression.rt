@@ -3,6 +3,7 @@ ghost use Rattle.std.specs.Prelude.{List, map};
 ghost use Rattle.wasm_insn.specs.Plain.{Plain as PlainInstruction};
 ghost use Rattle.wasm_code.specs.Expressions.{expression};
 ghost use Rattle.wasm_insn.specs.Views.{plain_view};
+ghost use Rattle.wasm_base.specs.Minimal.{builders_alone};
 
 use crate::body::append_code;
 use std::alloc::{Allocator, Global};
@@ -49,6 +50,8 @@ impl<'a, A: Allocator + Copy, G: Grammar> Readable<'a, A, G> for Expression<A> {
 }
 
 impl<A: Allocator> Shorten for Expression<A> {
+    ghost grammars = { builders_alone };
+
     #[tactic(auto, using(crate::proofs::MinimalLists::expression_appended, crate::proofs::MinimalLists::code_encoded))]
     fn write_minimal<B: Allocator>(&self, sink: &mut Vec<u8, B>) -> Result<()> {
         append_code(&self.0, sink)?;

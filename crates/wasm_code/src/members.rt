@@ -47,10 +47,11 @@ impl<'a, T: Readable<'a, A, G>, A: Allocator + Copy, G: Grammar> Members<'a, T, 
     ///
     /// # Errors
     ///
-    /// Any error but `Memory` means that the bytes do not begin with a number.
+    /// An error means that the bytes do not begin with a number.
     pub fn new(bytes: &'a [u8], alloc: A) -> Result<Self, DecodeError>
         ensures found { IfOk result (λ it. Decodes u32 (padded_of G.grammar) bytes.now it.left it.rest) }
         ensures none { IfErr result (λ e. e.cause ≢ Memory → Rejects u32 (padded_of G.grammar) bytes.now) }
+        ensures no_memory { IfErr result (λ e. e.cause ≢ Memory) }
     {
         let (left, rest) = <u32 as Readable<'a, A, G>>::read(bytes, alloc)?;
         Ok(Members {
@@ -81,7 +82,7 @@ impl<'a, T: Readable<'a, A, G>, A: Allocator + Copy, G: Grammar> Members<'a, T, 
 impl<'a, T: Readable<'a, A, G>, A: Allocator + Copy, G: Grammar> Iterator for Members<'a, T, A, G> {
     type Item = Result<T, DecodeError>;
 
-    ghost next_gives = { NextMember T.format T.view (padded_of G.grammar) };
+    ghost next_gives = { NextMember T.may_allocate T.format T.view (padded_of G.grammar) };
 
     ghost remaining = { λ it. at_most it.left };
 

@@ -1,5 +1,5 @@
 -- This file proves that COMDAT groups are unambiguous, and how they are decoded and minimized.
-use Rattle.wasm_base.proofs.Words.{◌≡◌, ℕ, ◌^◌, ◌<◌, List, [], ◌∷◌, ◌++◌, map, ap, refl, sym, subst, map-id, Format, u32, byte, name, pair, vec, Mode, Unambiguous, Decodes, Rejects, AppendsMinimal}
+use Rattle.wasm_base.proofs.Words.{◌≡◌, ℕ, ◌^◌, ◌<◌, List, [], ◌∷◌, ◌++◌, map, ap, refl, sym, subst, map-id, Format, u32, byte, name, pair, vec, Mode, Unambiguous, Decodes, Rejects, AppendsMinimal, both_grammars}
 use Rattle.wasm_base.proofs.Words.{HasEncoding, IsEncodableName, minimal, unsigned_encoding, size_prefixed_encoding, vec_encoding, pair_encodes, u32_encodes, name_encodes, vec_encodes}
 use Rattle.wasm_base.proofs.Words.{mapped_unambiguous, pair_unambiguous, name_unambiguous, u32_unambiguous, byte_unambiguous, vec_unambiguous, mapped_decodes, mapped_rejects, mapped_appended}
 use Rattle.wasm_base.proofs.Words.{pair_appended, encoding_appended, mapped_encoded, left_encoded, right_encoded}
@@ -27,9 +27,9 @@ comdat_symbol_none bytes n = mapped_rejects comdat_symbol_of n
 
 pub ruleset comdat_symbol_steps = (comdat_symbol_decodes, comdat_symbol_none)
 
-pub comdat_symbol_appended : (kind index : ℕ) (old middle new : List ℕ) → middle ≡ old ++ kind ∷ [] → AppendsMinimal u32 index middle new → AppendsMinimal comdat_symbol (record { kind = kind; index = index }) old new
+pub comdat_symbol_appended : (kind index : ℕ) (old middle new : List ℕ) → middle ≡ old ++ kind ∷ [] → AppendsMinimal both_grammars u32 index middle new → AppendsMinimal both_grammars comdat_symbol (record { kind = kind; index = index }) old new
 comdat_symbol_appended kind index old middle new e a =
-    mapped_appended comdat_symbol_of (pair byte u32) (kind, index) old new (λ z k. ap member_parts k) (pair_appended byte u32 (encoding_appended byte kind (kind ∷ []) old middle (λ s h. refl) e) a)
+    mapped_appended comdat_symbol_of (pair byte u32) (kind, index) old new (λ z k. ap member_parts k) (pair_appended byte u32 (encoding_appended byte kind (kind ∷ []) old middle (λ w q s h. refl) e) a)
 
 -- ---- groups
 
@@ -66,18 +66,18 @@ pub ruleset comdat_steps = (comdat_decodes, comdat_none)
 
 -- ---- the one minimal encoding of decoded groups
 
-pub comdat_appended : (n : List ℕ) (flags : ℕ) (symbols : List ComdatSymbol) (old first second new : List ℕ) → AppendsMinimal name n old first → AppendsMinimal u32 flags first second → AppendsMinimal (vec comdat_symbol) (map (λ s. s) symbols) second new
-    → AppendsMinimal comdat (record { name = n; flags = flags; symbols = symbols }) old new
+pub comdat_appended : (n : List ℕ) (flags : ℕ) (symbols : List ComdatSymbol) (old first second new : List ℕ) → AppendsMinimal both_grammars name n old first → AppendsMinimal both_grammars u32 flags first second → AppendsMinimal both_grammars (vec comdat_symbol) (map (λ s. s) symbols) second new
+    → AppendsMinimal both_grammars comdat (record { name = n; flags = flags; symbols = symbols }) old new
 comdat_appended n flags symbols old first second new a b c =
-    let members = subst (λ z. AppendsMinimal (vec comdat_symbol) z second new) (map-id symbols) c in
+    let members = subst (λ z. AppendsMinimal both_grammars (vec comdat_symbol) z second new) (map-id symbols) c in
     mapped_appended comdat_of parts (n, (flags, symbols)) old new (λ z k. ap parts_of k) (pair_appended name (pair u32 (vec comdat_symbol)) a (pair_appended u32 (vec comdat_symbol) b members))
 
-parts_encoded : (n : List ℕ) (flags : ℕ) (symbols : List ComdatSymbol) → HasEncoding comdat (record { name = n; flags = flags; symbols = symbols }) → HasEncoding parts (n, (flags, symbols))
+parts_encoded : (n : List ℕ) (flags : ℕ) (symbols : List ComdatSymbol) → HasEncoding both_grammars comdat (record { name = n; flags = flags; symbols = symbols }) → HasEncoding both_grammars parts (n, (flags, symbols))
 parts_encoded n flags symbols h = mapped_encoded comdat_of parts (n, (flags, symbols)) (λ z k. ap parts_of k) h
 
-pub comdat_name_encoded : (n : List ℕ) (flags : ℕ) (symbols : List ComdatSymbol) → HasEncoding comdat (record { name = n; flags = flags; symbols = symbols }) → HasEncoding name n
+pub comdat_name_encoded : (n : List ℕ) (flags : ℕ) (symbols : List ComdatSymbol) → HasEncoding both_grammars comdat (record { name = n; flags = flags; symbols = symbols }) → HasEncoding both_grammars name n
 comdat_name_encoded n flags symbols h = left_encoded name (pair u32 (vec comdat_symbol)) n (flags, symbols) (parts_encoded n flags symbols h)
 
-pub comdat_symbols_encoded : (n : List ℕ) (flags : ℕ) (symbols : List ComdatSymbol) → HasEncoding comdat (record { name = n; flags = flags; symbols = symbols }) → HasEncoding (vec comdat_symbol) (map (λ s. s) symbols)
+pub comdat_symbols_encoded : (n : List ℕ) (flags : ℕ) (symbols : List ComdatSymbol) → HasEncoding both_grammars comdat (record { name = n; flags = flags; symbols = symbols }) → HasEncoding both_grammars (vec comdat_symbol) (map (λ s. s) symbols)
 comdat_symbols_encoded n flags symbols h =
-    subst (λ z. HasEncoding (vec comdat_symbol) z) (sym (map-id symbols)) (right_encoded u32 (vec comdat_symbol) flags symbols (right_encoded name (pair u32 (vec comdat_symbol)) n (flags, symbols) (parts_encoded n flags symbols h)))
+    subst (λ z. HasEncoding both_grammars (vec comdat_symbol) z) (sym (map-id symbols)) (right_encoded u32 (vec comdat_symbol) flags symbols (right_encoded name (pair u32 (vec comdat_symbol)) n (flags, symbols) (parts_encoded n flags symbols h)))

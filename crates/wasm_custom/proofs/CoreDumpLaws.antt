@@ -3,7 +3,7 @@ use Rattle.wasm_base.proofs.Words.{◌≡◌, ℕ, List, [], ◌∷◌, ◌++◌
 use Rattle.wasm_base.proofs.Words.{prefixed, IsUnsignedInRange, minimal, unsigned_encoding, Mode, Unambiguous, Decodes, Rejects, UnambiguousWhole, size_prefixed_encoding, HasEncodableSize}
 use Rattle.wasm_base.proofs.Words.{vec_encoding, name_unambiguous, vec_u32_unambiguous, ascii, mapped_unambiguous, pair_unambiguous, prefixed_unambiguous, whole_from_unique, size_prefixed_unambiguous}
 use Rattle.wasm_base.proofs.Words.{u32_unambiguous, pair_encodes, prefixed_encodes, decodes_uniquely, u32_encodes, name_encodes, vec_encodes, map-id, RejectsWhole, mapped_decodes, mapped_rejects}
-use Rattle.wasm_base.proofs.Words.{after_whole, SectionLaws, AppendsMinimal, HasEncoding, left_encoded, right_encoded, prefixed_encoded, mapped_encoded, pair_appended, prefixed_appended}
+use Rattle.wasm_base.proofs.Words.{after_whole, SectionLaws, AppendsMinimal, both_grammars, HasEncoding, left_encoded, right_encoded, prefixed_encoded, mapped_encoded, pair_appended, prefixed_appended}
 use Rattle.wasm_base.proofs.Words.{mapped_appended}
 use Rattle.wasm_custom.specs.{marked_encoding, marked_name, core_name, core_section, SaysProcess, modules_name, Instance, instance_encoding, IsInstance, instance_of, instance, instances_name}
 use Rattle.wasm_custom.specs.{module_items, instance_items, core_payload, modules_payload, instances_payload, named_encoding, IsEncodableNamed, CustomLayoutLaws}
@@ -97,37 +97,37 @@ pub ruleset instance_steps = (instance_decodes, instance_none)
 
 -- ---- the one minimal encoding of decoded core dumps
 
-pub marked_appended : (n old middle new : List ℕ) → middle ≡ old ++ 0x00 ∷ [] → AppendsMinimal name n middle new → AppendsMinimal marked_name n old new
+pub marked_appended : (n old middle new : List ℕ) → middle ≡ old ++ 0x00 ∷ [] → AppendsMinimal both_grammars name n middle new → AppendsMinimal both_grammars marked_name n old new
 marked_appended n old middle new e a = prefixed_appended (0x00 ∷ []) name n old middle new e a
 
-pub process_appended : (n old middle new : List ℕ) → HasEncodableSize core_name → middle ≡ old ++ size_prefixed_encoding core_name → AppendsMinimal marked_name n middle new → AppendsMinimal core_payload n old new
-process_appended n old middle new encodable e a = named_appended core_name marked_name n encodable e a
+pub process_appended : (n old middle new : List ℕ) → middle ≡ old ++ size_prefixed_encoding core_name → AppendsMinimal both_grammars marked_name n middle new → AppendsMinimal both_grammars core_payload n old new
+process_appended n old middle new e a = named_appended core_name marked_name n e a
 
-pub instance_appended : (n : ℕ) (ms gs old front first second new : List ℕ) → front ≡ old ++ 0x00 ∷ [] → AppendsMinimal u32 n front first → AppendsMinimal (vec u32) (map (λ m. m) ms) first second → AppendsMinimal (vec u32) (map (λ g. g) gs) second new
-    → AppendsMinimal instance (record { module_index = n; memories = ms; globals = gs }) old new
+pub instance_appended : (n : ℕ) (ms gs old front first second new : List ℕ) → front ≡ old ++ 0x00 ∷ [] → AppendsMinimal both_grammars u32 n front first → AppendsMinimal both_grammars (vec u32) (map (λ m. m) ms) first second → AppendsMinimal both_grammars (vec u32) (map (λ g. g) gs) second new
+    → AppendsMinimal both_grammars instance (record { module_index = n; memories = ms; globals = gs }) old new
 instance_appended n ms gs old front first second new e a b c =
-    let lists = pair_appended (vec u32) (vec u32) (subst (λ z. AppendsMinimal (vec u32) z first second) (map-id ms) b) (subst (λ z. AppendsMinimal (vec u32) z second new) (map-id gs) c) in
+    let lists = pair_appended (vec u32) (vec u32) (subst (λ z. AppendsMinimal both_grammars (vec u32) z first second) (map-id ms) b) (subst (λ z. AppendsMinimal both_grammars (vec u32) z second new) (map-id gs) c) in
     let parts : ℕ × (List ℕ × List ℕ) = (n, (ms, gs)) in
     let all = pair_appended u32 (pair (vec u32) (vec u32)) a lists in
     mapped_appended instance_of (prefixed (0x00 ∷ []) (pair u32 (pair (vec u32) (vec u32)))) parts old new (λ z k. ap (λ i. (i.module_index, (i.memories, i.globals))) k) (prefixed_appended (0x00 ∷ []) (pair u32 (pair (vec u32) (vec u32))) parts old front new e all)
 
 -- ---- names and fields of values that have encodings
 
-pub marked_encoded : (n : List ℕ) → HasEncoding marked_name n → HasEncoding name n
+pub marked_encoded : (n : List ℕ) → HasEncoding both_grammars marked_name n → HasEncoding both_grammars name n
 marked_encoded n h = prefixed_encoded (0x00 ∷ []) name n h
 
-pub process_encoded : (n : List ℕ) → HasEncoding core_payload n → HasEncoding marked_name n
+pub process_encoded : (n : List ℕ) → HasEncoding both_grammars core_payload n → HasEncoding both_grammars marked_name n
 process_encoded n h = named_encoded core_name marked_name n h
 
-lists_encoded : (n : ℕ) (ms gs : List ℕ) → HasEncoding instance (record { module_index = n; memories = ms; globals = gs }) → HasEncoding (pair (vec u32) (vec u32)) (ms, gs)
+lists_encoded : (n : ℕ) (ms gs : List ℕ) → HasEncoding both_grammars instance (record { module_index = n; memories = ms; globals = gs }) → HasEncoding both_grammars (pair (vec u32) (vec u32)) (ms, gs)
 lists_encoded n ms gs h =
     let parts : ℕ × (List ℕ × List ℕ) = (n, (ms, gs)) in
     right_encoded u32 (pair (vec u32) (vec u32)) n (ms, gs)
     (prefixed_encoded (0x00 ∷ []) (pair u32 (pair (vec u32) (vec u32))) parts
     (mapped_encoded instance_of (prefixed (0x00 ∷ []) (pair u32 (pair (vec u32) (vec u32)))) parts (λ z k. ap (λ i. (i.module_index, (i.memories, i.globals))) k) h))
 
-pub memories_encoded : (n : ℕ) (ms gs : List ℕ) → HasEncoding instance (record { module_index = n; memories = ms; globals = gs }) → HasEncoding (vec u32) (map (λ m. m) ms)
-memories_encoded n ms gs h = subst (λ z. HasEncoding (vec u32) z) (sym (map-id ms)) (left_encoded (vec u32) (vec u32) ms gs (lists_encoded n ms gs h))
+pub memories_encoded : (n : ℕ) (ms gs : List ℕ) → HasEncoding both_grammars instance (record { module_index = n; memories = ms; globals = gs }) → HasEncoding both_grammars (vec u32) (map (λ m. m) ms)
+memories_encoded n ms gs h = subst (λ z. HasEncoding both_grammars (vec u32) z) (sym (map-id ms)) (left_encoded (vec u32) (vec u32) ms gs (lists_encoded n ms gs h))
 
-pub globals_encoded : (n : ℕ) (ms gs : List ℕ) → HasEncoding instance (record { module_index = n; memories = ms; globals = gs }) → HasEncoding (vec u32) (map (λ g. g) gs)
-globals_encoded n ms gs h = subst (λ z. HasEncoding (vec u32) z) (sym (map-id gs)) (right_encoded (vec u32) (vec u32) ms gs (lists_encoded n ms gs h))
+pub globals_encoded : (n : ℕ) (ms gs : List ℕ) → HasEncoding both_grammars instance (record { module_index = n; memories = ms; globals = gs }) → HasEncoding both_grammars (vec u32) (map (λ g. g) gs)
+globals_encoded n ms gs h = subst (λ z. HasEncoding both_grammars (vec u32) z) (sym (map-id gs)) (right_encoded (vec u32) (vec u32) ms gs (lists_encoded n ms gs h))

@@ -1,14 +1,16 @@
 -- This file proves that stacks of core dumps are unambiguous, and how they are decoded and
 -- minimized.
 use Rattle.wasm_base.proofs.Words.{ℕ, ◌≤◌, List, [], ◌∷◌, ◌++◌, length, map, true, refl, sym, ap, subst, arith, length-append, ◌≡◌, ◌≢◌, ℤ, AllZip, DecodesBack, ItemLaws, entry_encoding, u32, byte}
-use Rattle.wasm_base.proofs.Words.{pair, prefixed, vec, Format, name, just, s32, s64, little_endian, impossible, choice, minimal, unsigned_encoding, signed_encoding, Mode, padded, joined, Unambiguous}
+use Rattle.wasm_base.proofs.Words.{pair, prefixed, vec, Format, name, just, s32, s64, little_endian, impossible, choice, minimal, unsigned_encoding, signed_encoding, Mode, joined, Unambiguous}
 use Rattle.wasm_base.proofs.Words.{Decodes, Rejects, UnambiguousWhole, longest, HasEncodableSize, vec_encoding, little_endian_encoding, size_prefixed_encoding, IsEncodableVec, s32_unambiguous}
 use Rattle.wasm_base.proofs.Words.{s64_unambiguous, name_unambiguous, entries_encodes, mapped_unambiguous, pair_unambiguous, pair_whole, vec_unambiguous, prefixed_unambiguous, fixed_unambiguous}
 use Rattle.wasm_base.proofs.Words.{byte_unambiguous, choice_of, little_endian_unambiguous, whole_from_unique, size_prefixed_unambiguous, AllValues, values_tagged, u32_unambiguous, decodes_uniquely}
 use Rattle.wasm_base.proofs.Words.{tagged_encodes, u32_encodes, s32_encodes, s64_encodes, little_endian_encodes, vec_encodes, ascii, pair_encodes, prefixed_encodes, map-id, RejectsWhole, decodes_same}
 use Rattle.wasm_base.proofs.Words.{then_decodes, then_rejects_first, then_rejects_second, mapped_decodes, mapped_rejects, tagged_decodes, tagged_none, tagged_rejects, no_choice, fixed_decodes}
-use Rattle.wasm_base.proofs.Words.{after_whole, AppendsMinimal, HasEncoding, left_encoded, right_encoded, mapped_encoded, counted_encodable, little_endian_below, pair_appended, prefixed_appended}
+use Rattle.wasm_base.proofs.Words.{after_whole, AppendsMinimal, both_grammars, HasEncoding, left_encoded, right_encoded, mapped_encoded, counted_encodable, little_endian_below, pair_appended, prefixed_appended}
 use Rattle.wasm_base.proofs.Words.{mapped_appended, records_appended}
+use Rattle.wasm_base.specs.Minimal.{EncodesMinimally}
+use Rattle.wasm_base.proofs.GrammarLaws.{canonical_by, choices_both, fixed_both, mapped_both, s32_both, s64_both, little_endian_both}
 use Rattle.wasm_custom.specs.{marked_encoding, marked_name, StackFrame, frame_entry, IsFrame, CodeLocation, stack_frame_of, stack_frame, stack_name, stack_section, SaysStack, frame_items}
 use Rattle.wasm_custom.specs.{stack_payload, value_encoding, IsValue, f32_of, f64_of, value_tags, value, named_encoding, IsEncodableNamed, count_encoding, entries_encoding}
 use Rattle.wasm_custom.specs.declared.core_values.CoreDumpValue.{CoreDumpValue}
@@ -226,13 +228,16 @@ value_is =
       ),
     )
 
-values_appended : (vs : List CoreDumpValue) (old new : List ℕ) → IsEncodableVec (λ v. Unit {0}) vs → new ≡ old ++ vec_encoding value_encoding vs → AppendsMinimal (vec value) vs old new
-values_appended vs old new encodable e =
-    subst (λ z. AppendsMinimal (vec value) z old new) (map-id vs) (records_appended value (λ v. v) value_encoding (λ v. Unit {0}) vs old new (λ v f s k. value_encodes v (value_is padded s v k)) encodable e)
+pub value_canonical : EncodesMinimally value (λ v. v) value_encoding
+value_canonical = canonical_by (λ v. v) value_encoding IsValue value_is value_encodes (choices_both value_tags (fixed_both [] Missing, (mapped_both I32 s32_both, (mapped_both I64 s64_both, (mapped_both f32_of (little_endian_both 4), (mapped_both f64_of (little_endian_both 8), tt))))))
 
-pub frame_appended : (n m o : ℕ) (ls ss : List CoreDumpValue) (old front first second third fourth new : List ℕ) → front ≡ old ++ 0x00 ∷ [] → AppendsMinimal u32 n front first → AppendsMinimal u32 m first second → AppendsMinimal u32 o second third
+values_appended : (vs : List CoreDumpValue) (old new : List ℕ) → IsEncodableVec (λ v. Unit {0}) vs → new ≡ old ++ vec_encoding value_encoding vs → AppendsMinimal both_grammars (vec value) vs old new
+values_appended vs old new encodable e =
+    subst (λ z. AppendsMinimal both_grammars (vec value) z old new) (map-id vs) (records_appended value (λ v. v) value_encoding (λ v. Unit {0}) vs old new (λ v f w q s k. value_canonical.minimal_in w s v k) encodable e)
+
+pub frame_appended : (n m o : ℕ) (ls ss : List CoreDumpValue) (old front first second third fourth new : List ℕ) → front ≡ old ++ 0x00 ∷ [] → AppendsMinimal both_grammars u32 n front first → AppendsMinimal both_grammars u32 m first second → AppendsMinimal both_grammars u32 o second third
     → IsEncodableVec (λ v. Unit {0}) ls → fourth ≡ third ++ vec_encoding value_encoding ls → IsEncodableVec (λ v. Unit {0}) ss → new ≡ fourth ++ vec_encoding value_encoding ss
-    → AppendsMinimal stack_frame (record { instance = n; function = m; offset = o; locals = ls; stack = ss }) old new
+    → AppendsMinimal both_grammars stack_frame (record { instance = n; function = m; offset = o; locals = ls; stack = ss }) old new
 frame_appended n m o ls ss old front first second third fourth new e a b c lf le sf se =
     let numbers = pair_appended u32 (pair u32 u32) a (pair_appended u32 u32 b c) in
     let place : CodeLocation = (n, (m, o)) in
@@ -241,29 +246,29 @@ frame_appended n m o ls ss old front first second third fourth new e a b c lf le
     mapped_appended stack_frame_of (pair (prefixed (0x00 ∷ []) (pair u32 (pair u32 u32))) (pair (vec value) (vec value))) (place, (ls, ss)) old new (λ z k. ap (λ f. ((f.instance, (f.function, f.offset)), (f.locals, f.stack))) k)
     (pair_appended (prefixed (0x00 ∷ []) (pair u32 (pair u32 u32))) (pair (vec value) (vec value)) placed lists)
 
-pub stack_appended : (thread : List ℕ) (frames : List StackFrame) (old front middle new : List ℕ) → HasEncodableSize stack_name → front ≡ old ++ size_prefixed_encoding stack_name → AppendsMinimal marked_name thread front middle → AppendsMinimal (vec stack_frame) frames middle new
-    → AppendsMinimal stack_payload (thread, frames) old new
-stack_appended thread frames old front middle new encodable e a b = named_appended stack_name (pair marked_name (vec stack_frame)) (thread, frames) encodable e (pair_appended marked_name (vec stack_frame) a b)
+pub stack_appended : (thread : List ℕ) (frames : List StackFrame) (old front middle new : List ℕ) → front ≡ old ++ size_prefixed_encoding stack_name → AppendsMinimal both_grammars marked_name thread front middle → AppendsMinimal both_grammars (vec stack_frame) frames middle new
+    → AppendsMinimal both_grammars stack_payload (thread, frames) old new
+stack_appended thread frames old front middle new e a b = named_appended stack_name (pair marked_name (vec stack_frame)) (thread, frames) e (pair_appended marked_name (vec stack_frame) a b)
 
 -- ---- fields of a frame that has an encoding
 
-values_encodable : (vs : List CoreDumpValue) → HasEncoding (vec value) vs → IsEncodableVec (λ v. Unit {0}) vs
+values_encodable : (vs : List CoreDumpValue) → HasEncoding both_grammars (vec value) vs → IsEncodableVec (λ v. Unit {0}) vs
 values_encodable vs h = record { count = counted_encodable value vs h; members = λ k d l. tt }
 
-lists_encoded : (n m o : ℕ) (ls ss : List CoreDumpValue) → HasEncoding stack_frame (record { instance = n; function = m; offset = o; locals = ls; stack = ss }) → HasEncoding (pair (vec value) (vec value)) (ls, ss)
+lists_encoded : (n m o : ℕ) (ls ss : List CoreDumpValue) → HasEncoding both_grammars stack_frame (record { instance = n; function = m; offset = o; locals = ls; stack = ss }) → HasEncoding both_grammars (pair (vec value) (vec value)) (ls, ss)
 lists_encoded n m o ls ss h =
     let place : CodeLocation = (n, (m, o)) in
     right_encoded (prefixed (0x00 ∷ []) (pair u32 (pair u32 u32))) (pair (vec value) (vec value)) place (ls, ss)
     (mapped_encoded stack_frame_of (pair (prefixed (0x00 ∷ []) (pair u32 (pair u32 u32))) (pair (vec value) (vec value))) (place, (ls, ss)) (λ z k. ap (λ f. ((f.instance, (f.function, f.offset)), (f.locals, f.stack))) k) h)
 
-pub locals_encodable : (n m o : ℕ) (ls ss : List CoreDumpValue) → HasEncoding stack_frame (record { instance = n; function = m; offset = o; locals = ls; stack = ss }) → IsEncodableVec (λ v. Unit {0}) ls
+pub locals_encodable : (n m o : ℕ) (ls ss : List CoreDumpValue) → HasEncoding both_grammars stack_frame (record { instance = n; function = m; offset = o; locals = ls; stack = ss }) → IsEncodableVec (λ v. Unit {0}) ls
 locals_encodable n m o ls ss h = values_encodable ls (left_encoded (vec value) (vec value) ls ss (lists_encoded n m o ls ss h))
 
-pub stack_encodable : (n m o : ℕ) (ls ss : List CoreDumpValue) → HasEncoding stack_frame (record { instance = n; function = m; offset = o; locals = ls; stack = ss }) → IsEncodableVec (λ v. Unit {0}) ss
+pub stack_encodable : (n m o : ℕ) (ls ss : List CoreDumpValue) → HasEncoding both_grammars stack_frame (record { instance = n; function = m; offset = o; locals = ls; stack = ss }) → IsEncodableVec (λ v. Unit {0}) ss
 stack_encodable n m o ls ss h = values_encodable ss (right_encoded (vec value) (vec value) ls ss (lists_encoded n m o ls ss h))
 
-pub thread_encoded : (thread : List ℕ) (frames : List StackFrame) → HasEncoding stack_payload (thread, frames) → HasEncoding marked_name thread
+pub thread_encoded : (thread : List ℕ) (frames : List StackFrame) → HasEncoding both_grammars stack_payload (thread, frames) → HasEncoding both_grammars marked_name thread
 thread_encoded thread frames h = left_encoded marked_name (vec stack_frame) thread frames (named_encoded stack_name (pair marked_name (vec stack_frame)) (thread, frames) h)
 
-pub frames_encoded : (thread : List ℕ) (frames : List StackFrame) → HasEncoding stack_payload (thread, frames) → HasEncoding (vec stack_frame) frames
+pub frames_encoded : (thread : List ℕ) (frames : List StackFrame) → HasEncoding both_grammars stack_payload (thread, frames) → HasEncoding both_grammars (vec stack_frame) frames
 frames_encoded thread frames h = right_encoded marked_name (vec stack_frame) thread frames (named_encoded stack_name (pair marked_name (vec stack_frame)) (thread, frames) h)

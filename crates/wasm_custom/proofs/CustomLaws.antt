@@ -3,6 +3,7 @@ use Rattle.wasm_base.proofs.Words.{◌≡◌, ℕ, ◌+◌, ◌≤◌, List, ◌
 use Rattle.wasm_base.proofs.Words.{just, Mode, minimal, padded, unsigned_encoding, IsOfBuilders, Unambiguous, UnambiguousWhole, DecodesUniquely, longest, size_prefixed_encoding, HasEncodableSize}
 use Rattle.wasm_base.proofs.Words.{after_whole, after_encodes, name_unambiguous, custom_unambiguous, size_prefixed_unambiguous, encodes_in, decodes_uniquely, decodes_uniquely_padded, size_prefixed_in}
 use Rattle.wasm_base.proofs.Words.{size_prefixed_encodes, pair_encodes, front_name_encodes, AppendsMinimal, HasEncoding, tagged_encoded, name_encodable, name_appended, tagged_appended}
+use Rattle.wasm_base.proofs.Words.{Grammars}
 use Rattle.wasm_custom.specs.{named_section, named_encoding, IsEncodableNamed, subsection_encoding, named_payload}
 
 pub named_unambiguous : {X : Type 0} (n : List ℕ) {F : Format X} → UnambiguousWhole F → Unambiguous (named_section n F)
@@ -44,15 +45,15 @@ content_encodable id content encodable = omega (arith, encodable, length-append 
 -- ---- the one minimal encoding of decoded custom sections
 
 -- The encoding of a fixed value is that of the value.
-pub just_appended : {X : Type 0} (F : Format X) (x : X) (old new : List ℕ) → AppendsMinimal F x old new → AppendsMinimal (just x F) tt old new
-just_appended F x old new a = record { encoding = a.encoding; appended = a.appended; encodes = λ s h. a.encodes s h }
+pub just_appended : {k : Grammars} {X : Type 0} (F : Format X) (x : X) (old new : List ℕ) → AppendsMinimal k F x old new → AppendsMinimal k (just x F) tt old new
+just_appended F x old new a = record { encoding = a.encoding; appended = a.appended; encodes = λ w q s h. a.encodes w q s h }
 
 -- The encoding after a name is the name, then that of the value.
-pub named_appended : {X : Type 0} (n : List ℕ) {old middle new : List ℕ} (G : Format X) (x : X) → HasEncodableSize n → middle ≡ old ++ size_prefixed_encoding n → AppendsMinimal G x middle new → AppendsMinimal (named_payload n G) x old new
-named_appended n {old = old} {middle = middle} G x encodable e a = tagged_appended (just n name) (λ u. G) (λ s z h. refl) (just_appended name n old middle (name_appended n old middle encodable e)) a
+pub named_appended : {k : Grammars} {X : Type 0} (n : List ℕ) {old middle new : List ℕ} (G : Format X) (x : X) → middle ≡ old ++ size_prefixed_encoding n → AppendsMinimal k G x middle new → AppendsMinimal k (named_payload n G) x old new
+named_appended n {old = old} {middle = middle} G x e a = tagged_appended (just n name) (λ u. G) (λ mode s z h. refl) (just_appended name n old middle (name_appended n old middle e)) a
 
-pub named_encoded : {X : Type 0} (n : List ℕ) (G : Format X) (x : X) → HasEncoding (named_payload n G) x → HasEncoding G x
-named_encoded n G x h = tagged_encoded (just n name) (λ u. G) tt x (λ s z h. refl) h
+pub named_encoded : {k : Grammars} {X : Type 0} (n : List ℕ) (G : Format X) (x : X) → HasEncoding k (named_payload n G) x → HasEncoding k G x
+named_encoded n G x h = tagged_encoded (just n name) (λ u. G) tt x (λ mode s z h. refl) h
 
-pub named_encodable : {X : Type 0} (n : List ℕ) (G : Format X) (x : X) → HasEncoding (named_payload n G) x → HasEncodableSize n
-named_encodable n G x h = let d = h.decoded in name_encodable n (record { bytes = d.2.front; decoded = d.2.first })
+pub named_encodable : {k : Grammars} {X : Type 0} (n : List ℕ) (G : Format X) (x : X) → HasEncoding k (named_payload n G) x → HasEncodableSize n
+named_encodable n G x h = let d = h.decoded in name_encodable n (record { grammar = h.grammar; included = h.included; bytes = d.2.front; decoded = d.2.first })

@@ -1,7 +1,7 @@
 -- This file proves that sections of dynamic libraries are unambiguous, and how they are decoded and
 -- minimized.
-use Rattle.wasm_base.proofs.Words.{◌≡◌, ◌≢◌, ◌+◌, ℕ, List, [], ◌∷◌, ◌++◌, length, length-append, false, ap, ap₂, refl, sym, subst, ◌∙◌, Format, u32, byte, name, just, vec, pair, mapped, fixed}
-use Rattle.wasm_base.proofs.Words.{prefixed, size_prefixed, members, any_bytes, any_bytes_whole, choice, impossible, minimal, padded, Mode, Grammar, builders, admitted, is_admitted, padded_of, true, IsIncludedIn, BeginsWith, IsOther, Unambiguous, Decodes, Rejects, RejectsWhole, AppendsMinimal, HasEncoding, HasEncodableSize}
+use Rattle.wasm_base.proofs.Words.{◌≡◌, ◌≢◌, ◌+◌, ℕ, List, [], ◌∷◌, ◌++◌, length, length-append, false, ap, ap₂, refl, ◌∙◌, Format, u32, byte, name, just, vec, pair, mapped, fixed}
+use Rattle.wasm_base.proofs.Words.{prefixed, size_prefixed, members, any_bytes, any_bytes_whole, minimal, padded, Mode, Grammar, builders, admitted, is_admitted, padded_of, true, IsIncludedIn, BeginsWith, IsOther, Unambiguous, Decodes, Rejects, RejectsWhole, AppendsMinimal, both_grammars, HasEncoding, HasEncodableSize}
 use Rattle.wasm_base.proofs.Words.{IsEncodableName, IsEncodableVec, unsigned_encoding, size_prefixed_encoding, vec_encoding, AllDetermine, ItemLaws, SectionLaws, pair_encodes, u32_encodes}
 use Rattle.wasm_base.proofs.Words.{name_encodes, vec_encodes, size_prefixed_encodes, tagged_encodes, tagged_begins, mapped_unambiguous, pair_unambiguous, name_unambiguous, u32_unambiguous}
 use Rattle.wasm_base.proofs.Words.{byte_unambiguous, vec_unambiguous, size_prefixed_unambiguous, whole_from_unique, fixed_unambiguous, choice_of, ascii, mapped_decodes, mapped_rejects}
@@ -15,8 +15,7 @@ use Rattle.wasm_custom.specs.declared.dylink_symbols.DylinkMemory.{DylinkMemory}
 use Rattle.wasm_custom.proofs.CustomLaws.{content_encodable}
 use Rattle.wasm_custom.proofs.DecodeNamed.{named_none, items_fill, no_items}
 use Rattle.wasm_custom.proofs.EntriesLaws.{entries_laws, items_appended, items_encoded}
-use Rattle.wasm_custom.proofs.LinkLaws.{content_appended, content_of}
-use Rattle.wasm_custom.proofs.WiderLaws.{choice_or, tagged_included, wider_unambiguous, wider_begins, tag_none, tag_rejects, both_is, both_is_not, other_is, other_is_not, tag_appended, unknown_appended, known_encoded, unknown_encoded}
+use Rattle.wasm_custom.proofs.WiderLaws.{choice_or, tagged_included, wider_unambiguous, wider_begins, tag_none, tag_rejects, both_is, both_is_not, other_is, other_is_not, AllLack, IsAfterTag, in_each, in_others, known_appended, known_encoded, content_appended, content_of}
 
 -- ---- memory and table
 
@@ -48,8 +47,8 @@ needs_none bytes n = mapped_rejects needs_of n
 
 pub ruleset needs_steps = (needs_decodes, needs_none)
 
-pub needs_appended : (a b c d : ℕ) (old first second third new : List ℕ) → AppendsMinimal u32 a old first → AppendsMinimal u32 b first second → AppendsMinimal u32 c second third → AppendsMinimal u32 d third new
-    → AppendsMinimal needs (record { memory_size = a; memory_alignment = b; table_size = c; table_alignment = d }) old new
+pub needs_appended : (a b c d : ℕ) (old first second third new : List ℕ) → AppendsMinimal both_grammars u32 a old first → AppendsMinimal both_grammars u32 b first second → AppendsMinimal both_grammars u32 c second third → AppendsMinimal both_grammars u32 d third new
+    → AppendsMinimal both_grammars needs (record { memory_size = a; memory_alignment = b; table_size = c; table_alignment = d }) old new
 needs_appended a b c d old first second third new p q r s =
     mapped_appended needs_of needs_format ((a, b), (c, d)) old new (λ z k. ap needs_parts k) (pair_appended (pair u32 u32) (pair u32 u32) (pair_appended u32 u32 p q) (pair_appended u32 u32 r s))
 
@@ -72,10 +71,10 @@ export_flags_none bytes n = mapped_rejects export_flags_of n
 
 pub ruleset export_flags_steps = (export_flags_decodes, export_flags_none)
 
-pub export_flags_appended : (n : List ℕ) (flags : ℕ) (old middle new : List ℕ) → AppendsMinimal name n old middle → AppendsMinimal u32 flags middle new → AppendsMinimal export_flags (record { name = n; flags = flags }) old new
+pub export_flags_appended : (n : List ℕ) (flags : ℕ) (old middle new : List ℕ) → AppendsMinimal both_grammars name n old middle → AppendsMinimal both_grammars u32 flags middle new → AppendsMinimal both_grammars export_flags (record { name = n; flags = flags }) old new
 export_flags_appended n flags old middle new a b = mapped_appended export_flags_of (pair name u32) (n, flags) old new (λ z k. ap export_parts k) (pair_appended name u32 a b)
 
-pub export_name_encoded : (n : List ℕ) (flags : ℕ) → HasEncoding export_flags (record { name = n; flags = flags }) → HasEncoding name n
+pub export_name_encoded : (n : List ℕ) (flags : ℕ) → HasEncoding both_grammars export_flags (record { name = n; flags = flags }) → HasEncoding both_grammars name n
 export_name_encoded n flags h = left_encoded name u32 n flags (mapped_encoded export_flags_of (pair name u32) (n, flags) (λ z k. ap export_parts k) h)
 
 -- ---- imports
@@ -102,17 +101,17 @@ import_flags_none bytes n = mapped_rejects import_flags_of n
 
 pub ruleset import_flags_steps = (import_flags_decodes, import_flags_none)
 
-pub import_flags_appended : (from n : List ℕ) (flags : ℕ) (old first second new : List ℕ) → AppendsMinimal name from old first → AppendsMinimal name n first second → AppendsMinimal u32 flags second new
-    → AppendsMinimal import_flags (record { module_name = from; name = n; flags = flags }) old new
+pub import_flags_appended : (from n : List ℕ) (flags : ℕ) (old first second new : List ℕ) → AppendsMinimal both_grammars name from old first → AppendsMinimal both_grammars name n first second → AppendsMinimal both_grammars u32 flags second new
+    → AppendsMinimal both_grammars import_flags (record { module_name = from; name = n; flags = flags }) old new
 import_flags_appended from n flags old first second new a b c = mapped_appended import_flags_of import_format (from, (n, flags)) old new (λ z k. ap import_parts k) (pair_appended name (pair name u32) a (pair_appended name u32 b c))
 
-import_encoded : (from n : List ℕ) (flags : ℕ) → HasEncoding import_flags (record { module_name = from; name = n; flags = flags }) → HasEncoding import_format (from, (n, flags))
+import_encoded : (from n : List ℕ) (flags : ℕ) → HasEncoding both_grammars import_flags (record { module_name = from; name = n; flags = flags }) → HasEncoding both_grammars import_format (from, (n, flags))
 import_encoded from n flags h = mapped_encoded import_flags_of import_format (from, (n, flags)) (λ z k. ap import_parts k) h
 
-pub import_module_encoded : (from n : List ℕ) (flags : ℕ) → HasEncoding import_flags (record { module_name = from; name = n; flags = flags }) → HasEncoding name from
+pub import_module_encoded : (from n : List ℕ) (flags : ℕ) → HasEncoding both_grammars import_flags (record { module_name = from; name = n; flags = flags }) → HasEncoding both_grammars name from
 import_module_encoded from n flags h = left_encoded name (pair name u32) from (n, flags) (import_encoded from n flags h)
 
-pub import_name_encoded : (from n : List ℕ) (flags : ℕ) → HasEncoding import_flags (record { module_name = from; name = n; flags = flags }) → HasEncoding name n
+pub import_name_encoded : (from n : List ℕ) (flags : ℕ) → HasEncoding both_grammars import_flags (record { module_name = from; name = n; flags = flags }) → HasEncoding both_grammars name n
 import_name_encoded from n flags h = left_encoded name u32 n flags (right_encoded name (pair name u32) from (n, flags) (import_encoded from n flags h))
 
 -- ---- subsections
@@ -125,16 +124,8 @@ dylink_id (ImportFlags imports) = 4
 dylink_id (RuntimePath paths) = 5
 dylink_id (OtherDylink id content) = id
 
--- The id of a subsection of the builders' grammar, and 0 for the others.
-abbrev built_id : DylinkItem → ℕ
-built_id (OtherDylink id content) = 0
-built_id x = dylink_id x
-
 full_ids : AllDetermine dylink_id dylink_tags
 full_ids = (λ mode s x h. ap dylink_id h.1, (λ mode s x h. ap dylink_id h.1, (λ mode s x h. ap dylink_id h.1, (λ mode s x h. ap dylink_id h.1, (λ mode s x h. ap dylink_id h.1, tt)))))
-
-built_ids : AllDetermine built_id dylink_tags
-built_ids = (λ mode s x h. ap built_id h.1, (λ mode s x h. ap built_id h.1, (λ mode s x h. ap built_id h.1, (λ mode s x h. ap built_id h.1, (λ mode s x h. ap built_id h.1, tt)))))
 
 contents_unambiguous : AllUnambiguous dylink_tags
 contents_unambiguous = (
@@ -152,7 +143,7 @@ contents_unambiguous = (
 )
 
 built_unambiguous : Unambiguous built_dylink
-built_unambiguous = choice_of byte built_id dylink_tags byte_unambiguous contents_unambiguous built_ids
+built_unambiguous = choice_of byte dylink_id dylink_tags byte_unambiguous contents_unambiguous full_ids
 
 full_unambiguous : Unambiguous full_dylink
 full_unambiguous = choice_or dylink_id dylink_tags other_dylink contents_unambiguous full_ids (λ b. mapped_unambiguous (OtherDylink b) (λ x y e. cc) (size_prefixed_unambiguous any_bytes_whole)) (λ b mode s x h. ap dylink_id h.1)
@@ -262,64 +253,70 @@ pub ruleset section_steps = (section_fills, section_none, section_rejects)
 
 -- ---- the one minimal encoding of decoded subsections
 
-pub memory_appended : (x : DylinkMemory) (old front new : List ℕ) → front ≡ old ++ 1 ∷ [] → AppendsMinimal (size_prefixed needs) x front new → AppendsMinimal (prefixed (1 ∷ []) (size_prefixed needs)) x old new
+pub memory_appended : (x : DylinkMemory) (old front new : List ℕ) → front ≡ old ++ 1 ∷ [] → AppendsMinimal both_grammars (size_prefixed needs) x front new → AppendsMinimal both_grammars (prefixed (1 ∷ []) (size_prefixed needs)) x old new
 memory_appended x old front new e a = prefixed_appended (1 ∷ []) (size_prefixed needs) x old front new e a
 
-pub memory_content : (x : DylinkMemory) → HasEncoding (prefixed (1 ∷ []) (size_prefixed needs)) x → HasEncoding (size_prefixed needs) x
+pub memory_content : (x : DylinkMemory) → HasEncoding both_grammars (prefixed (1 ∷ []) (size_prefixed needs)) x → HasEncoding both_grammars (size_prefixed needs) x
 memory_content x h = prefixed_encoded (1 ∷ []) (size_prefixed needs) x h
 
--- The format after an id of the builders' grammar.
-abbrev after_id : ℕ → Format DylinkItem
-after_id b = choice dylink_tags (λ c. impossible) b
+-- In each grammar that has an encoding of the subsection, `F` is the format after its id.
+abbrev IsKnown : DylinkItem → Format DylinkItem → Type 1
+IsKnown x F = IsAfterTag dylink_tags dylink_tags other_dylink dylink_id full_ids full_ids (λ b mode s x h. ap dylink_id h.1) x F
 
--- An encoding by the id and the content is one of the subsection.
-by_id : (x : DylinkItem) {old new : List ℕ} → AppendsMinimal (prefixed (built_id x ∷ []) (after_id (built_id x))) x old new → AppendsMinimal dylink_item x old new
-by_id x a = tag_appended dylink_tags dylink_tags other_dylink built_id built_ids x a
+module _ (x : DylinkItem) (F : Format DylinkItem) (known : IsKnown x F) where
+  known_short : {old new : List ℕ} → AppendsMinimal both_grammars (prefixed (dylink_id x ∷ []) F) x old new → AppendsMinimal both_grammars dylink_item x old new
+  known_short a = known_appended dylink_tags dylink_tags other_dylink dylink_id full_ids full_ids (λ b mode s x h. ap dylink_id h.1) x F known a
 
-id_encoded : (x : DylinkItem) → HasEncoding dylink_item x → HasEncoding (prefixed (built_id x ∷ []) (after_id (built_id x))) x
-id_encoded x h = known_encoded dylink_tags dylink_tags other_dylink built_id built_ids x h
+  known_content : HasEncoding both_grammars dylink_item x → HasEncoding both_grammars (prefixed (dylink_id x ∷ []) F) x
+  known_content h = known_encoded dylink_tags dylink_tags other_dylink dylink_id full_ids full_ids (λ b mode s x h. ap dylink_id h.1) x F known h
 
--- The builders' grammar has no encoding of a subsection of any other id.
-pub others_short : (id : ℕ) (content old new : List ℕ) → AppendsMinimal (prefixed (id ∷ []) (size_prefixed any_bytes)) content old new → AppendsMinimal dylink_item (OtherDylink id content) old new
-others_short id content old new a = unknown_appended dylink_tags dylink_tags other_dylink built_id built_ids (OtherDylink id content) refl (prefixed (id ∷ []) (size_prefixed any_bytes)) content a
+other_known : (id : ℕ) (content : List ℕ) → IsKnown (OtherDylink id content) (other_dylink id)
+other_known id content =
+    let lack : AllLack (OtherDylink id content) dylink_tags = (λ mode s h. absurd (cc (h.1)), (λ mode s h. absurd (cc (h.1)), (λ mode s h. absurd (cc (h.1)), (λ mode s h. absurd (cc (h.1)), (λ mode s h. absurd (cc (h.1)), tt))))) in
+    in_others dylink_tags dylink_tags other_dylink dylink_id full_ids full_ids (λ b mode s x h. ap dylink_id h.1) (OtherDylink id content) lack lack
 
-pub others_encoded : (id : ℕ) (content : List ℕ) → HasEncoding dylink_item (OtherDylink id content) → ⊥
-others_encoded id content h = unknown_encoded dylink_tags dylink_tags other_dylink built_id built_ids (OtherDylink id content) refl h
+-- The bytes that a call appends for a subsection are its minimal encoding, and a subsection that
+-- has an encoding has one with its content.
+pub others_short : (id : ℕ) (content old new : List ℕ) → AppendsMinimal both_grammars (prefixed (id ∷ []) (size_prefixed any_bytes)) content old new → AppendsMinimal both_grammars dylink_item (OtherDylink id content) old new
+others_short id content old new a = known_short (OtherDylink id content) (other_dylink id) (other_known id content) (content_appended (OtherDylink id) (λ x z k. cc k) (id ∷ []) (size_prefixed any_bytes) content a)
 
-pub memory_short : (x : DylinkMemory) (old new : List ℕ) → AppendsMinimal (prefixed (1 ∷ []) (size_prefixed needs)) x old new → AppendsMinimal dylink_item (Memory x) old new
-memory_short x old new a = by_id (Memory x) (content_appended Memory (λ x z k. cc k) 1 (size_prefixed needs) (size_prefixed needs) x (λ s x k. k) (λ s x k. k) a)
+pub others_encoded : (id : ℕ) (content : List ℕ) → HasEncoding both_grammars dylink_item (OtherDylink id content) → HasEncoding both_grammars (prefixed (id ∷ []) (size_prefixed any_bytes)) content
+others_encoded id content h = content_of (OtherDylink id) (λ x z k. cc k) (id ∷ []) (size_prefixed any_bytes) content (known_content (OtherDylink id content) (other_dylink id) (other_known id content) h)
 
-pub needed_short : (xs : List (List ℕ)) (old new : List ℕ) → AppendsMinimal (prefixed (2 ∷ []) (size_prefixed (vec name))) xs old new → AppendsMinimal dylink_item (Needed xs) old new
-needed_short xs old new a = by_id (Needed xs) (content_appended Needed (λ x z k. cc k) 2 (size_prefixed (vec name)) (size_prefixed (vec name)) xs (λ s x k. k) (λ s x k. k) a)
+pub memory_short : (x : DylinkMemory) (old new : List ℕ) → AppendsMinimal both_grammars (prefixed (1 ∷ []) (size_prefixed needs)) x old new → AppendsMinimal both_grammars dylink_item (Memory x) old new
+memory_short x old new a = known_short (Memory x) (mapped Memory (size_prefixed needs)) (in_each dylink_tags dylink_tags other_dylink dylink_id full_ids full_ids (λ b mode s x h. ap dylink_id h.1) (Memory x) (mapped Memory (size_prefixed needs)) refl refl) (content_appended Memory (λ x z k. cc k) (1 ∷ []) (size_prefixed needs) x a)
 
-pub exports_short : (xs : List DylinkExport) (old new : List ℕ) → AppendsMinimal (prefixed (3 ∷ []) (size_prefixed (vec export_flags))) xs old new → AppendsMinimal dylink_item (ExportFlags xs) old new
-exports_short xs old new a = by_id (ExportFlags xs) (content_appended ExportFlags (λ x z k. cc k) 3 (size_prefixed (vec export_flags)) (size_prefixed (vec export_flags)) xs (λ s x k. k) (λ s x k. k) a)
+pub memory_encoded : (x : DylinkMemory) → HasEncoding both_grammars dylink_item (Memory x) → HasEncoding both_grammars (prefixed (1 ∷ []) (size_prefixed needs)) x
+memory_encoded x h = content_of Memory (λ x z k. cc k) (1 ∷ []) (size_prefixed needs) x (known_content (Memory x) (mapped Memory (size_prefixed needs)) (in_each dylink_tags dylink_tags other_dylink dylink_id full_ids full_ids (λ b mode s x h. ap dylink_id h.1) (Memory x) (mapped Memory (size_prefixed needs)) refl refl) h)
 
-pub imports_short : (xs : List DylinkImport) (old new : List ℕ) → AppendsMinimal (prefixed (4 ∷ []) (size_prefixed (vec import_flags))) xs old new → AppendsMinimal dylink_item (ImportFlags xs) old new
-imports_short xs old new a = by_id (ImportFlags xs) (content_appended ImportFlags (λ x z k. cc k) 4 (size_prefixed (vec import_flags)) (size_prefixed (vec import_flags)) xs (λ s x k. k) (λ s x k. k) a)
+pub needed_short : (xs : List (List ℕ)) (old new : List ℕ) → AppendsMinimal both_grammars (prefixed (2 ∷ []) (size_prefixed (vec name))) xs old new → AppendsMinimal both_grammars dylink_item (Needed xs) old new
+needed_short xs old new a = known_short (Needed xs) (mapped Needed (size_prefixed (vec name))) (in_each dylink_tags dylink_tags other_dylink dylink_id full_ids full_ids (λ b mode s x h. ap dylink_id h.1) (Needed xs) (mapped Needed (size_prefixed (vec name))) refl refl) (content_appended Needed (λ x z k. cc k) (2 ∷ []) (size_prefixed (vec name)) xs a)
 
-pub paths_short : (xs : List (List ℕ)) (old new : List ℕ) → AppendsMinimal (prefixed (5 ∷ []) (size_prefixed (vec name))) xs old new → AppendsMinimal dylink_item (RuntimePath xs) old new
-paths_short xs old new a = by_id (RuntimePath xs) (content_appended RuntimePath (λ x z k. cc k) 5 (size_prefixed (vec name)) (size_prefixed (vec name)) xs (λ s x k. k) (λ s x k. k) a)
+pub needed_encoded : (xs : List (List ℕ)) → HasEncoding both_grammars dylink_item (Needed xs) → HasEncoding both_grammars (prefixed (2 ∷ []) (size_prefixed (vec name))) xs
+needed_encoded xs h = content_of Needed (λ x z k. cc k) (2 ∷ []) (size_prefixed (vec name)) xs (known_content (Needed xs) (mapped Needed (size_prefixed (vec name))) (in_each dylink_tags dylink_tags other_dylink dylink_id full_ids full_ids (λ b mode s x h. ap dylink_id h.1) (Needed xs) (mapped Needed (size_prefixed (vec name))) refl refl) h)
 
-pub memory_encoded : (x : DylinkMemory) → HasEncoding dylink_item (Memory x) → HasEncoding (prefixed (1 ∷ []) (size_prefixed needs)) x
-memory_encoded x h = content_of Memory (λ x z k. cc k) 1 (size_prefixed needs) (size_prefixed needs) x (λ s x k. k) (id_encoded (Memory x) h)
+pub exports_short : (xs : List DylinkExport) (old new : List ℕ) → AppendsMinimal both_grammars (prefixed (3 ∷ []) (size_prefixed (vec export_flags))) xs old new → AppendsMinimal both_grammars dylink_item (ExportFlags xs) old new
+exports_short xs old new a = known_short (ExportFlags xs) (mapped ExportFlags (size_prefixed (vec export_flags))) (in_each dylink_tags dylink_tags other_dylink dylink_id full_ids full_ids (λ b mode s x h. ap dylink_id h.1) (ExportFlags xs) (mapped ExportFlags (size_prefixed (vec export_flags))) refl refl) (content_appended ExportFlags (λ x z k. cc k) (3 ∷ []) (size_prefixed (vec export_flags)) xs a)
 
-pub needed_encoded : (xs : List (List ℕ)) → HasEncoding dylink_item (Needed xs) → HasEncoding (prefixed (2 ∷ []) (size_prefixed (vec name))) xs
-needed_encoded xs h = content_of Needed (λ x z k. cc k) 2 (size_prefixed (vec name)) (size_prefixed (vec name)) xs (λ s x k. k) (id_encoded (Needed xs) h)
+pub exports_encoded : (xs : List DylinkExport) → HasEncoding both_grammars dylink_item (ExportFlags xs) → HasEncoding both_grammars (prefixed (3 ∷ []) (size_prefixed (vec export_flags))) xs
+exports_encoded xs h = content_of ExportFlags (λ x z k. cc k) (3 ∷ []) (size_prefixed (vec export_flags)) xs (known_content (ExportFlags xs) (mapped ExportFlags (size_prefixed (vec export_flags))) (in_each dylink_tags dylink_tags other_dylink dylink_id full_ids full_ids (λ b mode s x h. ap dylink_id h.1) (ExportFlags xs) (mapped ExportFlags (size_prefixed (vec export_flags))) refl refl) h)
 
-pub exports_encoded : (xs : List DylinkExport) → HasEncoding dylink_item (ExportFlags xs) → HasEncoding (prefixed (3 ∷ []) (size_prefixed (vec export_flags))) xs
-exports_encoded xs h = content_of ExportFlags (λ x z k. cc k) 3 (size_prefixed (vec export_flags)) (size_prefixed (vec export_flags)) xs (λ s x k. k) (id_encoded (ExportFlags xs) h)
+pub imports_short : (xs : List DylinkImport) (old new : List ℕ) → AppendsMinimal both_grammars (prefixed (4 ∷ []) (size_prefixed (vec import_flags))) xs old new → AppendsMinimal both_grammars dylink_item (ImportFlags xs) old new
+imports_short xs old new a = known_short (ImportFlags xs) (mapped ImportFlags (size_prefixed (vec import_flags))) (in_each dylink_tags dylink_tags other_dylink dylink_id full_ids full_ids (λ b mode s x h. ap dylink_id h.1) (ImportFlags xs) (mapped ImportFlags (size_prefixed (vec import_flags))) refl refl) (content_appended ImportFlags (λ x z k. cc k) (4 ∷ []) (size_prefixed (vec import_flags)) xs a)
 
-pub imports_encoded : (xs : List DylinkImport) → HasEncoding dylink_item (ImportFlags xs) → HasEncoding (prefixed (4 ∷ []) (size_prefixed (vec import_flags))) xs
-imports_encoded xs h = content_of ImportFlags (λ x z k. cc k) 4 (size_prefixed (vec import_flags)) (size_prefixed (vec import_flags)) xs (λ s x k. k) (id_encoded (ImportFlags xs) h)
+pub imports_encoded : (xs : List DylinkImport) → HasEncoding both_grammars dylink_item (ImportFlags xs) → HasEncoding both_grammars (prefixed (4 ∷ []) (size_prefixed (vec import_flags))) xs
+imports_encoded xs h = content_of ImportFlags (λ x z k. cc k) (4 ∷ []) (size_prefixed (vec import_flags)) xs (known_content (ImportFlags xs) (mapped ImportFlags (size_prefixed (vec import_flags))) (in_each dylink_tags dylink_tags other_dylink dylink_id full_ids full_ids (λ b mode s x h. ap dylink_id h.1) (ImportFlags xs) (mapped ImportFlags (size_prefixed (vec import_flags))) refl refl) h)
 
-pub paths_encoded : (xs : List (List ℕ)) → HasEncoding dylink_item (RuntimePath xs) → HasEncoding (prefixed (5 ∷ []) (size_prefixed (vec name))) xs
-paths_encoded xs h = content_of RuntimePath (λ x z k. cc k) 5 (size_prefixed (vec name)) (size_prefixed (vec name)) xs (λ s x k. k) (id_encoded (RuntimePath xs) h)
+pub paths_short : (xs : List (List ℕ)) (old new : List ℕ) → AppendsMinimal both_grammars (prefixed (5 ∷ []) (size_prefixed (vec name))) xs old new → AppendsMinimal both_grammars dylink_item (RuntimePath xs) old new
+paths_short xs old new a = known_short (RuntimePath xs) (mapped RuntimePath (size_prefixed (vec name))) (in_each dylink_tags dylink_tags other_dylink dylink_id full_ids full_ids (λ b mode s x h. ap dylink_id h.1) (RuntimePath xs) (mapped RuntimePath (size_prefixed (vec name))) refl refl) (content_appended RuntimePath (λ x z k. cc k) (5 ∷ []) (size_prefixed (vec name)) xs a)
+
+pub paths_encoded : (xs : List (List ℕ)) → HasEncoding both_grammars dylink_item (RuntimePath xs) → HasEncoding both_grammars (prefixed (5 ∷ []) (size_prefixed (vec name))) xs
+paths_encoded xs h = content_of RuntimePath (λ x z k. cc k) (5 ∷ []) (size_prefixed (vec name)) xs (known_content (RuntimePath xs) (mapped RuntimePath (size_prefixed (vec name))) (in_each dylink_tags dylink_tags other_dylink dylink_id full_ids full_ids (λ b mode s x h. ap dylink_id h.1) (RuntimePath xs) (mapped RuntimePath (size_prefixed (vec name))) refl refl) h)
 
 pub ruleset short_steps = (others_short, others_encoded, memory_short, needed_short, exports_short, imports_short, paths_short, memory_encoded, needed_encoded, exports_encoded, imports_encoded, paths_encoded)
 
-pub section_appended : (xs : List DylinkItem) (old middle new : List ℕ) → HasEncodableSize dylink_name → middle ≡ old ++ size_prefixed_encoding dylink_name → AppendsMinimal (members dylink_item) xs middle new → AppendsMinimal dylink_payload xs old new
-section_appended xs old middle new encodable e a = items_appended dylink_name false dylink_item xs encodable e a
+pub section_appended : (xs : List DylinkItem) (old middle new : List ℕ) → middle ≡ old ++ size_prefixed_encoding dylink_name → AppendsMinimal both_grammars (members dylink_item) xs middle new → AppendsMinimal both_grammars dylink_payload xs old new
+section_appended xs old middle new e a = items_appended dylink_name false dylink_item xs e a
 
-pub section_encoded : (xs : List DylinkItem) → HasEncoding dylink_payload xs → HasEncoding (members dylink_item) xs
+pub section_encoded : (xs : List DylinkItem) → HasEncoding both_grammars dylink_payload xs → HasEncoding both_grammars (members dylink_item) xs
 section_encoded xs h = items_encoded dylink_name false dylink_item xs h

@@ -3,7 +3,7 @@ use Rattle.wasm_base.proofs.Words.{◌≡◌, ℕ, ◌≤◌, List, ◌++◌, le
 use Rattle.wasm_base.proofs.Words.{DecodesBackBoth, Kind, entry_encoding, ContainsItems, ContainsPadded, ItemLaws, Format, fixed, vec, Mode, minimal, padded, IsOfBuilders, joined, Unambiguous}
 use Rattle.wasm_base.proofs.Words.{UnambiguousWhole, BeginsWith, longest, size_prefixed_encoding, HasEncodableSize, entries_encodes, pieces_encodes, fixed_unambiguous, vec_unambiguous, members_whole}
 use Rattle.wasm_base.proofs.Words.{whole_from_unique, mapped_whole, pair_whole, encodes_in, decodes_uniquely, decodes_uniquely_padded, joined_encodes, vec_of_pieces, name_unambiguous, after_whole}
-use Rattle.wasm_base.proofs.Words.{SectionLaws, sized_laws, AppendsMinimal, HasEncoding, tagged_encoded, encoding_appended, tagged_appended}
+use Rattle.wasm_base.proofs.Words.{SectionLaws, sized_laws, AppendsMinimal, both_grammars, HasEncoding, tagged_encoded, encoding_appended, tagged_appended}
 use Rattle.wasm_custom.specs.{named_section, named_encoding, IsEncodableNamed, named_payload, count_encoding, entries_encoding, listing, entries, counted_payload, CustomLayoutLaws}
 use Rattle.wasm_custom.proofs.CustomLaws.{named_encoded, named_encodable, named_unambiguous, named_encodes, data_encodable, named_appended}
 
@@ -76,23 +76,23 @@ entries_laws {n = n} {counted = counted} laws more included plain = sized_laws l
 
 -- The minimal encoding of a section of items right after its name is the name, then that of the
 -- items.
-pub items_appended : {X : Type 0} (n : List ℕ) {old middle new : List ℕ} (counted : Bool) (F : Format X) (xs : List X) → HasEncodableSize n → middle ≡ old ++ size_prefixed_encoding n → AppendsMinimal (listing counted F) xs middle new
-    → AppendsMinimal (named_payload n (entries (fixed [] (tt {0})) counted F)) xs old new
-items_appended n {middle = middle} counted F xs encodable e a =
-    let none = encoding_appended (fixed [] (tt {0})) tt [] middle middle (λ s h. (refl, refl)) (sym (append-nil middle)) in
-    named_appended n (entries (fixed [] (tt {0})) counted F) xs encodable e (tagged_appended (fixed [] (tt {0})) (λ u. listing counted F) (λ s z h. refl) none a)
+pub items_appended : {X : Type 0} (n : List ℕ) {old middle new : List ℕ} (counted : Bool) (F : Format X) (xs : List X) → middle ≡ old ++ size_prefixed_encoding n → AppendsMinimal both_grammars (listing counted F) xs middle new
+    → AppendsMinimal both_grammars (named_payload n (entries (fixed [] (tt {0})) counted F)) xs old new
+items_appended n {middle = middle} counted F xs e a =
+    let none = encoding_appended (fixed [] (tt {0})) tt [] middle middle (λ w q s h. (refl, refl)) (sym (append-nil middle)) in
+    named_appended n (entries (fixed [] (tt {0})) counted F) xs e (tagged_appended (fixed [] (tt {0})) (λ u. listing counted F) (λ mode s z h. refl) none a)
 
 -- The same for counted items, with the name that is an argument of the call.
-pub counted_appended : {X : Type 0} {n known old middle new : List ℕ} → known ≡ n → (F : Format X) (xs : List X) → HasEncodableSize known → middle ≡ old ++ size_prefixed_encoding known → AppendsMinimal (vec F) xs middle new → AppendsMinimal (counted_payload n F) xs old new
-counted_appended {known = known} {old = old} {new = new} called F xs encodable e a = subst (λ z. AppendsMinimal (counted_payload z F) xs old new) called (items_appended known true F xs encodable e a)
+pub counted_appended : {X : Type 0} {n known old middle new : List ℕ} → known ≡ n → (F : Format X) (xs : List X) → middle ≡ old ++ size_prefixed_encoding known → AppendsMinimal both_grammars (vec F) xs middle new → AppendsMinimal both_grammars (counted_payload n F) xs old new
+counted_appended {known = known} {old = old} {new = new} called F xs e a = subst (λ z. AppendsMinimal both_grammars (counted_payload z F) xs old new) called (items_appended known true F xs e a)
 
-pub items_encoded : {X : Type 0} (n : List ℕ) (counted : Bool) (F : Format X) (xs : List X) → HasEncoding (named_payload n (entries (fixed [] (tt {0})) counted F)) xs → HasEncoding (listing counted F) xs
+pub items_encoded : {X : Type 0} (n : List ℕ) (counted : Bool) (F : Format X) (xs : List X) → HasEncoding both_grammars (named_payload n (entries (fixed [] (tt {0})) counted F)) xs → HasEncoding both_grammars (listing counted F) xs
 items_encoded n counted F xs h =
-    tagged_encoded (fixed [] (tt {0})) (λ u. listing counted F) tt xs (λ s z h. refl) (named_encoded n (entries (fixed [] (tt {0})) counted F) xs h)
+    tagged_encoded (fixed [] (tt {0})) (λ u. listing counted F) tt xs (λ mode s z h. refl) (named_encoded n (entries (fixed [] (tt {0})) counted F) xs h)
 
-pub counted_encoded : {X : Type 0} (n : List ℕ) (F : Format X) (xs : List X) → HasEncoding (counted_payload n F) xs → HasEncoding (vec F) xs
+pub counted_encoded : {X : Type 0} (n : List ℕ) (F : Format X) (xs : List X) → HasEncoding both_grammars (counted_payload n F) xs → HasEncoding both_grammars (vec F) xs
 counted_encoded n F xs h = items_encoded n true F xs h
 
 -- The name that is an argument of the call fits.
-pub counted_name_encodable : {X : Type 0} (n known : List ℕ) (F : Format X) (xs : List X) → known ≡ n → HasEncoding (counted_payload n F) xs → HasEncodableSize known
+pub counted_name_encodable : {X : Type 0} (n known : List ℕ) (F : Format X) (xs : List X) → known ≡ n → HasEncoding both_grammars (counted_payload n F) xs → HasEncodableSize known
 counted_name_encodable n known F xs e h = subst HasEncodableSize (sym e) (named_encodable n (entries (fixed [] (tt {0})) true F) xs h)

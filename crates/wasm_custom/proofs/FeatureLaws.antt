@@ -1,7 +1,7 @@
 -- This file proves that target features are unambiguous, and how they are decoded and minimized.
 use Rattle.wasm_base.proofs.Words.{Mode, ◌≡◌, ◌≢◌, ◌==◌, ℕ, List, [], ◌∷◌, ◌++◌, true, refl, if◌then◌else◌, ItemLaws, name, coded, byte, fixed, minimal, Unambiguous, Decodes, Rejects}
 use Rattle.wasm_base.proofs.Words.{size_prefixed_encoding, name_unambiguous, coded_unambiguous, pair_unambiguous, ascii, pair_encodes, name_encodes, SectionLaws, code_decodes, code_none, code_unknown}
-use Rattle.wasm_base.proofs.Words.{AppendsMinimal, encoding_appended}
+use Rattle.wasm_base.proofs.Words.{AppendsMinimal, both_grammars, encoding_appended}
 use Rattle.wasm_custom.specs.{CustomLayoutLaws, prefix_code, Feature, feature_encoding, IsFeature, feature, features_name, feature_items, features_payload}
 use Rattle.wasm_custom.specs.declared.target_features.FeaturePrefix.{FeaturePrefix}
 use Rattle.wasm_custom.specs.declared.target_features.FeaturePrefix.TheVariants.{Used, Disallowed, Required}
@@ -37,8 +37,8 @@ prefix_unknown bytes rest b h used disallowed required = code_unknown prefix_cod
 
 pub ruleset prefix_steps = (prefix_decodes, prefix_unknown)
 
-pub prefix_appended : (p : FeaturePrefix) (old new : List ℕ) → new ≡ old ++ prefix_code p ∷ [] → AppendsMinimal (coded prefix_code) p old new
-prefix_appended p old new e = encoding_appended (coded prefix_code) p (prefix_code p ∷ []) old new (λ s h. refl) e
+pub prefix_appended : (p : FeaturePrefix) (old new : List ℕ) → new ≡ old ++ prefix_code p ∷ [] → AppendsMinimal both_grammars (coded prefix_code) p old new
+prefix_appended p old new e = encoding_appended (coded prefix_code) p (prefix_code p ∷ []) old new (λ w q s h. refl) e
 
 -- ---- features
 

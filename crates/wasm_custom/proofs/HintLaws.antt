@@ -1,9 +1,11 @@
 -- This file proves that branch hints are unambiguous, and how they are decoded and minimized.
 use Rattle.wasm_base.proofs.Words.{◌<◌, [], ◌∷◌, true, false, refl, ap, ℕ, ◌≤◌, ◌≡◌, List, subst, arith, ◌++◌, ItemLaws, u32, byte, prefixed, such, vec, fixed, Format, minimal, unsigned_encoding}
-use Rattle.wasm_base.proofs.Words.{Mode, padded, Unambiguous, Decodes, Rejects, vec_encoding, IsEncodableVec, mapped_unambiguous, pair_unambiguous, vec_unambiguous, byte_unambiguous, such_unambiguous}
+use Rattle.wasm_base.proofs.Words.{Mode, Unambiguous, Decodes, Rejects, vec_encoding, IsEncodableVec, mapped_unambiguous, pair_unambiguous, vec_unambiguous, byte_unambiguous, such_unambiguous}
 use Rattle.wasm_base.proofs.Words.{prefixed_unambiguous, AllValues, u32_unambiguous, groups_encoding-last, u32_encodes, vec_encodes, ascii, pair_encodes, prefixed_encodes, map-id, then_decodes}
-use Rattle.wasm_base.proofs.Words.{then_rejects_first, then_rejects_second, mapped_decodes, mapped_rejects, such_decodes, such_none, such_rejects, SectionLaws, AppendsMinimal, HasEncoding}
+use Rattle.wasm_base.proofs.Words.{then_rejects_first, then_rejects_second, mapped_decodes, mapped_rejects, such_decodes, such_none, such_rejects, SectionLaws, AppendsMinimal, both_grammars, HasEncoding}
 use Rattle.wasm_base.proofs.Words.{right_encoded, counted_encodable, pair_appended, records_appended}
+use Rattle.wasm_base.specs.Minimal.{EncodesMinimally}
+use Rattle.wasm_base.proofs.GrammarLaws.{canonical_by, mapped_both, pair_both, prefixed_both, such_both, byte_both, u32_both}
 use Rattle.wasm_custom.specs.{CustomLayoutLaws, hint_encoding, IsHint, hints_encoding, AreHints, hint_of, hint, hints, hints_name, hint_items, hints_payload}
 use Rattle.wasm_custom.specs.Hints.{Hints}
 use Rattle.wasm_custom.specs.declared.hints.BranchHint.{BranchHint}
@@ -75,10 +77,13 @@ hint_is mode s x h =
     let back = h.2.second in
     subst IsHint h.1 (record { offset = h.2.first.range; value = subst (λ z. z < 128) back.1 back.2.second.1 })
 
-pub function_appended : (n : ℕ) (hs : List BranchHint) (old middle new : List ℕ) → AppendsMinimal u32 n old middle → IsEncodableVec (λ h. Unit {0}) hs → new ≡ middle ++ vec_encoding hint_encoding hs → AppendsMinimal hints (n, hs) old new
+hint_canonical : EncodesMinimally hint (λ h. h) hint_encoding
+hint_canonical = canonical_by (λ h. h) hint_encoding IsHint hint_is hint_encodes (mapped_both hint_of (pair_both u32_both (prefixed_both (0x01 ∷ []) (such_both (λ b. b < 128) byte_both))))
+
+pub function_appended : (n : ℕ) (hs : List BranchHint) (old middle new : List ℕ) → AppendsMinimal both_grammars u32 n old middle → IsEncodableVec (λ h. Unit {0}) hs → new ≡ middle ++ vec_encoding hint_encoding hs → AppendsMinimal both_grammars hints (n, hs) old new
 function_appended n hs old middle new a encodable e =
     pair_appended u32 (vec hint) a
-    (subst (λ z. AppendsMinimal (vec hint) z middle new) (map-id hs) (records_appended hint (λ h. h) hint_encoding (λ h. Unit {0}) hs middle new (λ h f s k. hint_encodes h (hint_is padded s h k)) encodable e))
+    (subst (λ z. AppendsMinimal both_grammars (vec hint) z middle new) (map-id hs) (records_appended hint (λ h. h) hint_encoding (λ h. Unit {0}) hs middle new (λ h f w q s k. hint_canonical.minimal_in w s h k) encodable e))
 
-pub of_branches_encodable : (n : ℕ) (hs : List BranchHint) → HasEncoding hints (n, hs) → IsEncodableVec (λ h. Unit {0}) hs
+pub of_branches_encodable : (n : ℕ) (hs : List BranchHint) → HasEncoding both_grammars hints (n, hs) → IsEncodableVec (λ h. Unit {0}) hs
 of_branches_encodable n hs h = record { count = counted_encodable hint hs (right_encoded u32 (vec hint) n hs h); members = λ k d l. tt }

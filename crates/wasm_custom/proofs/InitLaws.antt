@@ -1,5 +1,5 @@
 -- This file proves that init functions are unambiguous, and how they are decoded and minimized.
-use Rattle.wasm_base.proofs.Words.{ℕ, List, ap, refl, minimal, unsigned_encoding, pair_encodes, u32_encodes, u32, pair, Mode, Unambiguous, Decodes, Rejects, AppendsMinimal, mapped_unambiguous}
+use Rattle.wasm_base.proofs.Words.{ℕ, List, ap, refl, minimal, unsigned_encoding, pair_encodes, u32_encodes, u32, pair, Mode, Unambiguous, Decodes, Rejects, AppendsMinimal, both_grammars, mapped_unambiguous}
 use Rattle.wasm_base.proofs.Words.{pair_unambiguous, u32_unambiguous, mapped_decodes, mapped_rejects, mapped_appended, pair_appended}
 use Rattle.wasm_custom.specs.InitFunctions.{init_encoding, IsInit, init_of, init_function}
 use Rattle.wasm_custom.specs.declared.init_functions.InitFunction.{InitFunction}
@@ -25,5 +25,5 @@ pub ruleset init_steps = (init_decodes, init_none)
 
 -- ---- the one minimal encoding of decoded init functions
 
-pub init_appended : (f : InitFunction) (old middle new : List ℕ) → AppendsMinimal u32 f.priority old middle → AppendsMinimal u32 f.symbol middle new → AppendsMinimal init_function f old new
+pub init_appended : (f : InitFunction) (old middle new : List ℕ) → AppendsMinimal both_grammars u32 f.priority old middle → AppendsMinimal both_grammars u32 f.symbol middle new → AppendsMinimal both_grammars init_function f old new
 init_appended f old middle new a b = mapped_appended init_of (pair u32 u32) (f.priority, f.symbol) old new (λ z k. ap parts_of k) (pair_appended u32 u32 a b)

@@ -12,7 +12,7 @@ pub mod SegmentLaws
 pub mod InitLaws
 pub mod ComdatLaws
 pub mod LinkLaws
-pub mod SharedFormats
+pub mod LinkMinimal
 pub mod ProducerLaws
 pub mod FeatureLaws
 pub mod HintLaws

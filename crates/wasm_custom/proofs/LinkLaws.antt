@@ -1,11 +1,13 @@
 -- This file proves that linking sections are unambiguous, and how they are decoded and minimized.
-use Rattle.wasm_base.proofs.Words.{ℕ, [], ◌∷◌, length, false, true, refl, sym, ap, arith, length-append, map, map-id, ◌≡◌, ◌≢◌, ◌<◌, ◌≤◌, ◌⊎◌, inl, inr, List, subst, ◌++◌, take, drop, ItemLaws, u32, byte}
+use Rattle.wasm_base.proofs.Words.{ℕ, [], ◌∷◌, length, false, true, refl, sym, ap, arith, length-append, map, map-id, ◌≡◌, ◌≢◌, ◌<◌, List, subst, ◌++◌, take, drop, ItemLaws, u32, byte}
 use Rattle.wasm_base.proofs.Words.{name, any_bytes, any_bytes_whole, IsOther, just, vec, Format, size_prefixed, members, mapped, prefixed, minimal, unsigned_encoding, Mode, padded, standard, standard_minimal, Grammar, builders, admitted}
 use Rattle.wasm_base.proofs.Words.{is_admitted, padded_of, Unambiguous, Decodes, Rejects, size_prefixed_encoding, HasEncodableSize, vec_encoding, just_unambiguous, name_unambiguous, ascii}
 use Rattle.wasm_base.proofs.Words.{mapped_unambiguous, vec_unambiguous, size_prefixed_unambiguous, whole_from_unique, byte_unambiguous, choice_of, u32_unambiguous, flag_encodes, tagged_begins}
 use Rattle.wasm_base.proofs.Words.{tagged_encodes, name_encodes, vec_encodes, size_prefixed_encodes, RejectsWhole, AllDetermine, BeginsWith, IsIncludedIn, mapped_decodes, mapped_rejects, no_choice}
-use Rattle.wasm_base.proofs.Words.{AppendsMinimal, HasEncoding, tagged_encoded, content_encoded, behind_encodable, prefixed_encoded, prefixed_appended, u32_appended, tagged_appended}
+use Rattle.wasm_base.proofs.Words.{AppendsMinimal, both_grammars, HasEncoding, tagged_encoded, content_encoded, behind_encodable, prefixed_encoded, prefixed_appended, u32_appended, tagged_appended}
 use Rattle.wasm_base.proofs.Words.{size_prefixed_appended, SectionLaws}
+use Rattle.wasm_base.proofs.Words.{Grammars}
+use Rattle.wasm_base.specs.Numbers.{minimal_of}
 use Rattle.wasm_custom.specs.{CustomLayoutLaws, listing, entries, LinkItem, Target, link_encoding, IsLink, IsObjectLink, link_tags, built_link, full_link_tags, other_link, full_link, link, linking_name, version}
 use Rattle.wasm_custom.specs.{link_items, linking_payload, object_items, object_payload, named_payload, symbol_encoding, IsSymbol, IsObjectSymbol, built_symbol, full_symbol, symbol, Symbol}
 use Rattle.wasm_custom.specs.{SegmentInfo, segment_encoding, IsSegment, segment, init_encoding, IsInit, init_function, Comdat, comdat_encoding, IsComdat, comdat}
@@ -13,7 +15,7 @@ use Rattle.wasm_custom.specs.Linking.{Segments, InitFunctions, Comdats, Symbols,
 use Rattle.wasm_custom.specs.declared.init_functions.InitFunction.{InitFunction}
 use Rattle.wasm_custom.proofs.CustomLaws.{named_encoded, content_encodable, just_appended, named_appended}
 use Rattle.wasm_custom.proofs.WiderLaws.{choice_or, other_is, other_is_not, mapped_included, members_included, behind_included, vec_included, size_prefixed_included, tagged_included, decodes_included, rejects_included}
-use Rattle.wasm_custom.proofs.WiderLaws.{wider_unambiguous, wider_begins, tag_is, tag_is_not, tag_none, tag_rejects, tag_appended, unknown_appended, known_encoded, unknown_encoded}
+use Rattle.wasm_custom.proofs.WiderLaws.{wider_unambiguous, wider_begins, tag_is, tag_is_not, tag_none, tag_rejects, after_tag, IsAfterTag, in_each, in_standard, in_others, tag_appended, tag_encoded, known_appended, known_encoded, content_appended, content_of}
 use Rattle.wasm_custom.proofs.SymbolLaws.{built_symbol_unambiguous, full_symbol_unambiguous, built_is_full, symbol_encodes, full_symbol_encodes}
 use Rattle.wasm_custom.proofs.SegmentLaws.{segment_unambiguous, segment_encodes}
 use Rattle.wasm_custom.proofs.InitLaws.{init_unambiguous, init_encodes}
@@ -29,19 +31,17 @@ link_id (Symbols symbols) = 8
 link_id (Target n) = 9
 link_id (OtherLink id content) = id
 
--- The id of a subsection of the builders' grammar, and 0 for the others.
-abbrev built_id : LinkItem → ℕ
-built_id (Symbols symbols) = 8
-built_id (Target n) = 9
-built_id x = 0
-
 -- The id is determined by a subsection of the builders' grammar.
-built_ids : AllDetermine built_id link_tags
-built_ids = (λ mode s x h. ap built_id h.1, (λ mode s x h. ap built_id h.1, tt))
+built_ids : AllDetermine link_id link_tags
+built_ids = (λ mode s x h. ap link_id h.1, (λ mode s x h. ap link_id h.1, tt))
+
+-- The id is determined by a subsection whose content is decoded.
+full_ids : AllDetermine link_id full_link_tags
+full_ids = (λ mode s x h. ap link_id h.1, (λ mode s x h. ap link_id h.1, (λ mode s x h. ap link_id h.1, (λ mode s x h. ap link_id h.1, (λ mode s x h. ap link_id h.1, tt)))))
 
 built_unambiguous : Unambiguous built_link
 built_unambiguous =
-    choice_of byte built_id link_tags byte_unambiguous
+    choice_of byte link_id link_tags byte_unambiguous
     (mapped_unambiguous Symbols (λ x y e. cc) (size_prefixed_unambiguous (whole_from_unique (vec_unambiguous built_symbol_unambiguous))), (mapped_unambiguous Target (λ x y e. cc) (size_prefixed_unambiguous (whole_from_unique name_unambiguous)), tt))
     built_ids
 
@@ -60,7 +60,7 @@ full_link_unambiguous =
         ),
       ),
     )
-    (λ mode s x h. ap link_id h.1, (λ mode s x h. ap link_id h.1, (λ mode s x h. ap link_id h.1, (λ mode s x h. ap link_id h.1, (λ mode s x h. ap link_id h.1, tt)))))
+    full_ids
     (λ b. mapped_unambiguous (OtherLink b) (λ x y e. cc) (size_prefixed_unambiguous any_bytes_whole))
     (λ b mode s x h. ap link_id h.1)
 
@@ -269,99 +269,105 @@ pub ruleset section_steps = (links_fill, links_none, links_no_version, no_links)
 -- ---- the one minimal encoding of decoded linking sections
 
 -- A vector after the id of its subsection.
-pub vector_appended : {X : Type 0} (F : Format X) (id : ℕ) (xs : List X) (start : ℕ) (old front middle new : List ℕ) → front ≡ old ++ id ∷ [] → start ≡ length front → AppendsMinimal (vec F) xs front middle → HasEncodableSize (drop start middle)
-    → new ≡ take start middle ++ size_prefixed_encoding (drop start middle) → AppendsMinimal (prefixed (id ∷ []) (size_prefixed (vec F))) xs old new
+pub vector_appended : {k : Grammars} {X : Type 0} (F : Format X) (id : ℕ) (xs : List X) (start : ℕ) (old front middle new : List ℕ) → front ≡ old ++ id ∷ [] → start ≡ length front → AppendsMinimal k (vec F) xs front middle → HasEncodableSize (drop start middle)
+    → new ≡ take start middle ++ size_prefixed_encoding (drop start middle) → AppendsMinimal k (prefixed (id ∷ []) (size_prefixed (vec F))) xs old new
 vector_appended F id xs start old front middle new e l a encodable is = prefixed_appended (id ∷ []) (size_prefixed (vec F)) xs old front new e (size_prefixed_appended (vec F) xs start front middle new l a encodable is)
 
-pub other_appended : (id : ℕ) (content old front new : List ℕ) → front ≡ old ++ id ∷ [] → AppendsMinimal (size_prefixed any_bytes) content front new → AppendsMinimal (prefixed (id ∷ []) (size_prefixed any_bytes)) content old new
+pub other_appended : (id : ℕ) (content old front new : List ℕ) → front ≡ old ++ id ∷ [] → AppendsMinimal both_grammars (size_prefixed any_bytes) content front new → AppendsMinimal both_grammars (prefixed (id ∷ []) (size_prefixed any_bytes)) content old new
 other_appended id content old front new e a = prefixed_appended (id ∷ []) (size_prefixed any_bytes) content old front new e a
 
-pub target_appended : (n old front new : List ℕ) → front ≡ old ++ 9 ∷ [] → AppendsMinimal (size_prefixed name) n front new → AppendsMinimal (prefixed (9 ∷ []) (size_prefixed name)) n old new
+pub target_appended : (n old front new : List ℕ) → front ≡ old ++ 9 ∷ [] → AppendsMinimal both_grammars (size_prefixed name) n front new → AppendsMinimal both_grammars (prefixed (9 ∷ []) (size_prefixed name)) n old new
 target_appended n old front new e a = prefixed_appended (9 ∷ []) (size_prefixed name) n old front new e a
 
--- The subsection of an id whose content is encoded alike in both formats.
-module _ {X Y : Type 0} (f : X → Y) (apart : (x z : X) → f z ≡ f x → z ≡ x) (id : ℕ) (F G : Format X) (x : X) (within : IsIncludedIn (G padded) (F padded)) where
-  in_content : (s : List ℕ) → prefixed (id ∷ []) (mapped f G) padded s (f x) → prefixed (id ∷ []) F padded s x
-  in_content s h =
-      let y : mapped f G padded h.2.back (f x) = subst (λ y. mapped f G padded h.2.back y) h.1 h.2.second in
-      let inside : G padded h.2.back x = subst (λ z. G padded h.2.back z) (apart x y.0 y.1) y.2 in
-      ((tt, x), refl, record { front = h.2.front; back = h.2.back; joined = h.2.joined; first = h.2.first; second = within h.2.back x inside })
+-- In each grammar that has an encoding of the subsection, `F` is the format after its id.
+abbrev IsKnown : LinkItem → Format LinkItem → Type 1
+IsKnown x F = IsAfterTag link_tags full_link_tags other_link link_id built_ids full_ids (λ b mode s x h. ap link_id h.1) x F
 
-  pub content_appended : IsIncludedIn (F minimal) (G minimal) → {old new : List ℕ} → AppendsMinimal (prefixed (id ∷ []) F) x old new → AppendsMinimal (prefixed (id ∷ []) (mapped f G)) (f x) old new
-  content_appended short a = record {
-    encoding = a.encoding;
-    appended = a.appended;
-    encodes = λ s h.
-        let k = a.encodes s (in_content s h) in
-        ((tt, f x), refl, record { front = k.2.front; back = k.2.back; joined = k.2.joined; first = k.2.first; second = (k.0.1, ap f k.1, short k.2.back k.0.1 k.2.second) });
-  }
+module _ (x : LinkItem) (F : Format LinkItem) (known : IsKnown x F) where
+  known_short : {old new : List ℕ} → AppendsMinimal both_grammars (prefixed (link_id x ∷ []) F) x old new → AppendsMinimal both_grammars link x old new
+  known_short a = known_appended link_tags full_link_tags other_link link_id built_ids full_ids (λ b mode s x h. ap link_id h.1) x F known a
 
-  pub content_of : HasEncoding (prefixed (id ∷ []) (mapped f G)) (f x) → HasEncoding (prefixed (id ∷ []) F) x
-  content_of h = record { bytes = h.bytes; decoded = in_content h.bytes h.decoded }
+  known_content : HasEncoding both_grammars link x → HasEncoding both_grammars (prefixed (link_id x ∷ []) F) x
+  known_content h = known_encoded link_tags full_link_tags other_link link_id built_ids full_ids (λ b mode s x h. ap link_id h.1) x F known h
 
--- The bytes that a call appends for a subsection are its minimal encoding.
-pub segments_short : (xs : List SegmentInfo) (old new : List ℕ) → AppendsMinimal (prefixed (5 ∷ []) (size_prefixed (vec segment))) xs old new → AppendsMinimal link (Segments xs) old new
-segments_short xs old new a = unknown_appended link_tags full_link_tags other_link built_id built_ids (Segments xs) refl (prefixed (5 ∷ []) (size_prefixed (vec segment))) xs a
+other_known : (id : ℕ) (content : List ℕ) → IsKnown (OtherLink id content) (other_link id)
+other_known id content =
+    in_others link_tags full_link_tags other_link link_id built_ids full_ids (λ b mode s x h. ap link_id h.1) (OtherLink id content)
+    (λ mode s h. absurd (cc (h.1)), (λ mode s h. absurd (cc (h.1)), tt))
+    (λ mode s h. absurd (cc (h.1)), (λ mode s h. absurd (cc (h.1)), (λ mode s h. absurd (cc (h.1)), (λ mode s h. absurd (cc (h.1)), (λ mode s h. absurd (cc (h.1)), tt)))))
 
-pub inits_short : (xs : List InitFunction) (old new : List ℕ) → AppendsMinimal (prefixed (6 ∷ []) (size_prefixed (vec init_function))) (map (λ f. f) xs) old new → AppendsMinimal link (InitFunctions xs) old new
-inits_short xs old new a = unknown_appended link_tags full_link_tags other_link built_id built_ids (InitFunctions xs) refl (prefixed (6 ∷ []) (size_prefixed (vec init_function))) (map (λ f. f) xs) a
+-- The bytes that a call appends for a subsection are its minimal encoding, and a subsection that
+-- has an encoding has one with its content.
+pub others_short : (id : ℕ) (content old new : List ℕ) → AppendsMinimal both_grammars (prefixed (id ∷ []) (size_prefixed any_bytes)) content old new → AppendsMinimal both_grammars link (OtherLink id content) old new
+others_short id content old new a = known_short (OtherLink id content) (other_link id) (other_known id content) (content_appended (OtherLink id) (λ x z k. cc k) (id ∷ []) (size_prefixed any_bytes) content a)
 
-pub comdats_short : (xs : List Comdat) (old new : List ℕ) → AppendsMinimal (prefixed (7 ∷ []) (size_prefixed (vec comdat))) xs old new → AppendsMinimal link (Comdats xs) old new
-comdats_short xs old new a = unknown_appended link_tags full_link_tags other_link built_id built_ids (Comdats xs) refl (prefixed (7 ∷ []) (size_prefixed (vec comdat))) xs a
+pub others_encoded : (id : ℕ) (content : List ℕ) → HasEncoding both_grammars link (OtherLink id content) → HasEncoding both_grammars (prefixed (id ∷ []) (size_prefixed any_bytes)) content
+others_encoded id content h = content_of (OtherLink id) (λ x z k. cc k) (id ∷ []) (size_prefixed any_bytes) content (known_content (OtherLink id content) (other_link id) (other_known id content) h)
 
-pub symbols_short : (xs : List Symbol) (old new : List ℕ) → AppendsMinimal (prefixed (8 ∷ []) (size_prefixed (vec symbol))) xs old new → AppendsMinimal link (Symbols xs) old new
+pub segments_short : (xs : List SegmentInfo) (old new : List ℕ) → AppendsMinimal both_grammars (prefixed (5 ∷ []) (size_prefixed (vec segment))) xs old new → AppendsMinimal both_grammars link (Segments xs) old new
+segments_short xs old new a = known_short (Segments xs) (mapped Segments (size_prefixed (vec segment))) (in_standard link_tags full_link_tags other_link link_id built_ids full_ids (λ b mode s x h. ap link_id h.1) (Segments xs) (mapped Segments (size_prefixed (vec segment))) refl refl) (content_appended Segments (λ x z k. cc k) (5 ∷ []) (size_prefixed (vec segment)) xs a)
+
+pub segments_encoded : (xs : List SegmentInfo) → HasEncoding both_grammars link (Segments xs) → HasEncoding both_grammars (prefixed (5 ∷ []) (size_prefixed (vec segment))) xs
+segments_encoded xs h = content_of Segments (λ x z k. cc k) (5 ∷ []) (size_prefixed (vec segment)) xs (known_content (Segments xs) (mapped Segments (size_prefixed (vec segment))) (in_standard link_tags full_link_tags other_link link_id built_ids full_ids (λ b mode s x h. ap link_id h.1) (Segments xs) (mapped Segments (size_prefixed (vec segment))) refl refl) h)
+
+pub inits_short : (xs : List InitFunction) (old new : List ℕ) → AppendsMinimal both_grammars (prefixed (6 ∷ []) (size_prefixed (vec init_function))) (map (λ f. f) xs) old new → AppendsMinimal both_grammars link (InitFunctions xs) old new
+inits_short xs old new a = known_short (InitFunctions xs) (mapped InitFunctions (size_prefixed (vec init_function))) (in_standard link_tags full_link_tags other_link link_id built_ids full_ids (λ b mode s x h. ap link_id h.1) (InitFunctions xs) (mapped InitFunctions (size_prefixed (vec init_function))) refl refl) (content_appended InitFunctions (λ x z k. cc k) (6 ∷ []) (size_prefixed (vec init_function)) xs (subst (λ z. AppendsMinimal both_grammars (prefixed (6 ∷ []) (size_prefixed (vec init_function))) z old new) (map-id xs) a))
+
+pub inits_encoded : (xs : List InitFunction) → HasEncoding both_grammars link (InitFunctions xs) → HasEncoding both_grammars (prefixed (6 ∷ []) (size_prefixed (vec init_function))) (map (λ f. f) xs)
+inits_encoded xs h =
+    subst (λ z. HasEncoding both_grammars (prefixed (6 ∷ []) (size_prefixed (vec init_function))) z) (sym (map-id xs))
+    (content_of InitFunctions (λ x z k. cc k) (6 ∷ []) (size_prefixed (vec init_function)) xs (known_content (InitFunctions xs) (mapped InitFunctions (size_prefixed (vec init_function))) (in_standard link_tags full_link_tags other_link link_id built_ids full_ids (λ b mode s x h. ap link_id h.1) (InitFunctions xs) (mapped InitFunctions (size_prefixed (vec init_function))) refl refl) h))
+
+pub comdats_short : (xs : List Comdat) (old new : List ℕ) → AppendsMinimal both_grammars (prefixed (7 ∷ []) (size_prefixed (vec comdat))) xs old new → AppendsMinimal both_grammars link (Comdats xs) old new
+comdats_short xs old new a = known_short (Comdats xs) (mapped Comdats (size_prefixed (vec comdat))) (in_standard link_tags full_link_tags other_link link_id built_ids full_ids (λ b mode s x h. ap link_id h.1) (Comdats xs) (mapped Comdats (size_prefixed (vec comdat))) refl refl) (content_appended Comdats (λ x z k. cc k) (7 ∷ []) (size_prefixed (vec comdat)) xs a)
+
+pub comdats_encoded : (xs : List Comdat) → HasEncoding both_grammars link (Comdats xs) → HasEncoding both_grammars (prefixed (7 ∷ []) (size_prefixed (vec comdat))) xs
+comdats_encoded xs h = content_of Comdats (λ x z k. cc k) (7 ∷ []) (size_prefixed (vec comdat)) xs (known_content (Comdats xs) (mapped Comdats (size_prefixed (vec comdat))) (in_standard link_tags full_link_tags other_link link_id built_ids full_ids (λ b mode s x h. ap link_id h.1) (Comdats xs) (mapped Comdats (size_prefixed (vec comdat))) refl refl) h)
+
+pub arch_short : (n : List ℕ) (old new : List ℕ) → AppendsMinimal both_grammars (prefixed (9 ∷ []) (size_prefixed name)) n old new → AppendsMinimal both_grammars link (Target n) old new
+arch_short n old new a = known_short (Target n) (mapped Target (size_prefixed name)) (in_each link_tags full_link_tags other_link link_id built_ids full_ids (λ b mode s x h. ap link_id h.1) (Target n) (mapped Target (size_prefixed name)) refl refl) (content_appended Target (λ x z k. cc k) (9 ∷ []) (size_prefixed name) n a)
+
+pub arch_encoded : (n : List ℕ) → HasEncoding both_grammars link (Target n) → HasEncoding both_grammars (prefixed (9 ∷ []) (size_prefixed name)) n
+arch_encoded n h = content_of Target (λ x z k. cc k) (9 ∷ []) (size_prefixed name) n (known_content (Target n) (mapped Target (size_prefixed name)) (in_each link_tags full_link_tags other_link link_id built_ids full_ids (λ b mode s x h. ap link_id h.1) (Target n) (mapped Target (size_prefixed name)) refl refl) h)
+
+-- The symbols of a table in the grammar.
+tables_in : (w : Grammar) (s : List ℕ) (xs : List Symbol) → after_tag link_tags full_link_tags other_link w 8 (padded_of w) s (Symbols xs) → mapped Symbols (size_prefixed (vec symbol)) (padded_of w) s (Symbols xs)
+tables_in builders s xs h = (h.0, h.1, tables_included built_symbol symbol padded (λ t x k. k) s h.0 h.2)
+tables_in admitted s xs h = (h.0, h.1, tables_included full_symbol symbol standard (λ t x k. k) s h.0 h.2)
+
+tables_of : (w : Grammar) (s : List ℕ) (xs : List Symbol) → mapped Symbols (size_prefixed (vec symbol)) (minimal_of w) s (Symbols xs) → after_tag link_tags full_link_tags other_link w 8 (minimal_of w) s (Symbols xs)
+tables_of builders s xs h = (h.0, h.1, tables_included symbol built_symbol minimal (λ t x k. k) s h.0 h.2)
+tables_of admitted s xs h = (h.0, h.1, tables_included symbol full_symbol standard_minimal (λ t x k. k) s h.0 h.2)
+
+pub symbols_short : (xs : List Symbol) (old new : List ℕ) → AppendsMinimal both_grammars (prefixed (8 ∷ []) (size_prefixed (vec symbol))) xs old new → AppendsMinimal both_grammars link (Symbols xs) old new
 symbols_short xs old new a =
-    tag_appended link_tags full_link_tags other_link built_id built_ids (Symbols xs)
-    (content_appended Symbols (λ x z k. cc k) 8 (size_prefixed (vec symbol)) (size_prefixed (vec built_symbol)) xs (tables_included built_symbol symbol padded (λ s x k. k)) (tables_included symbol built_symbol minimal (λ s x k. k)) a)
+    tag_appended link_tags full_link_tags other_link link_id built_ids full_ids (λ b mode s x h. ap link_id h.1) (Symbols xs) (mapped Symbols (size_prefixed (vec symbol))) (λ w s k. tables_in w s xs k) (λ w u s k g. tables_of w s xs g)
+    (content_appended Symbols (λ x z k. cc k) (8 ∷ []) (size_prefixed (vec symbol)) xs a)
 
-pub arch_short : (n old new : List ℕ) → AppendsMinimal (prefixed (9 ∷ []) (size_prefixed name)) n old new → AppendsMinimal link (Target n) old new
-arch_short n old new a = tag_appended link_tags full_link_tags other_link built_id built_ids (Target n) (content_appended Target (λ x z k. cc k) 9 (size_prefixed name) (size_prefixed name) n (λ s x k. k) (λ s x k. k) a)
+pub symbols_encoded : (xs : List Symbol) → HasEncoding both_grammars link (Symbols xs) → HasEncoding both_grammars (prefixed (8 ∷ []) (size_prefixed (vec symbol))) xs
+symbols_encoded xs h = content_of Symbols (λ x z k. cc k) (8 ∷ []) (size_prefixed (vec symbol)) xs (tag_encoded link_tags full_link_tags other_link link_id built_ids full_ids (λ b mode s x h. ap link_id h.1) (Symbols xs) (mapped Symbols (size_prefixed (vec symbol))) (λ w s k. tables_in w s xs k) h)
 
-pub others_short : (id : ℕ) (content old new : List ℕ) → AppendsMinimal (prefixed (id ∷ []) (size_prefixed any_bytes)) content old new → AppendsMinimal link (OtherLink id content) old new
-others_short id content old new a = unknown_appended link_tags full_link_tags other_link built_id built_ids (OtherLink id content) refl (prefixed (id ∷ []) (size_prefixed any_bytes)) content a
+pub ruleset short_steps = (segments_short, inits_short, comdats_short, symbols_short, arch_short, others_short, others_encoded, segments_encoded, inits_encoded, comdats_encoded, symbols_encoded, arch_encoded)
 
-pub links_appended : (xs : List LinkItem) (old front middle new : List ℕ) → HasEncodableSize linking_name → front ≡ old ++ size_prefixed_encoding linking_name → middle ≡ front ++ unsigned_encoding 2 → AppendsMinimal (members link) xs middle new → AppendsMinimal linking_payload xs old new
-links_appended xs old front middle new encodable e f a =
+pub links_appended : (xs : List LinkItem) (old front middle new : List ℕ) → front ≡ old ++ size_prefixed_encoding linking_name → middle ≡ front ++ unsigned_encoding 2 → AppendsMinimal both_grammars (members link) xs middle new → AppendsMinimal both_grammars linking_payload xs old new
+links_appended xs old front middle new e f a =
     let just_version = just_appended u32 version front middle (u32_appended version front middle f) in
-    named_appended linking_name (entries (just version u32) false link) xs encodable e (tagged_appended (just version u32) (λ u. listing false link) (λ s z h. refl) just_version a)
+    named_appended linking_name (entries (just version u32) false link) xs e (tagged_appended (just version u32) (λ u. listing false link) (λ mode s z h. refl) just_version a)
 
 -- ---- contents of a subsection that has an encoding
 
 module _ {X : Type 0} (F : Format X) (id : ℕ) (xs : List X) where
-  pub vector_encoded : HasEncoding (prefixed (id ∷ []) (size_prefixed (vec F))) xs → HasEncoding (vec F) xs
+  pub vector_encoded : {k : Grammars} → HasEncoding k (prefixed (id ∷ []) (size_prefixed (vec F))) xs → HasEncoding k (vec F) xs
   vector_encoded h = content_encoded (vec F) xs (prefixed_encoded (id ∷ []) (size_prefixed (vec F)) xs h)
 
-  pub vector_encodable : (start : ℕ) (old new : List ℕ) → Unambiguous F → start ≡ length old → AppendsMinimal (vec F) xs old new → HasEncoding (prefixed (id ∷ []) (size_prefixed (vec F))) xs → HasEncodableSize (drop start new)
-  vector_encodable start old new k e a h = behind_encodable (vec F) xs start old new (vec_unambiguous k).encodings e a (prefixed_encoded (id ∷ []) (size_prefixed (vec F)) xs h)
+  pub vector_encodable : {k : Grammars} (start : ℕ) (old new : List ℕ) → Unambiguous F → start ≡ length old → AppendsMinimal k (vec F) xs old new → HasEncoding k (prefixed (id ∷ []) (size_prefixed (vec F))) xs → HasEncodableSize (drop start new)
+  vector_encodable start old new one e a h = behind_encodable (vec F) xs start old new (vec_unambiguous one).encodings e a (prefixed_encoded (id ∷ []) (size_prefixed (vec F)) xs h)
 
-pub other_encoded : (id : ℕ) (content : List ℕ) → HasEncoding (prefixed (id ∷ []) (size_prefixed any_bytes)) content → HasEncoding (size_prefixed any_bytes) content
+pub other_encoded : (id : ℕ) (content : List ℕ) → HasEncoding both_grammars (prefixed (id ∷ []) (size_prefixed any_bytes)) content → HasEncoding both_grammars (size_prefixed any_bytes) content
 other_encoded id content h = prefixed_encoded (id ∷ []) (size_prefixed any_bytes) content h
 
-pub target_encoded : (n : List ℕ) → HasEncoding (prefixed (9 ∷ []) (size_prefixed name)) n → HasEncoding (size_prefixed name) n
+pub target_encoded : (n : List ℕ) → HasEncoding both_grammars (prefixed (9 ∷ []) (size_prefixed name)) n → HasEncoding both_grammars (size_prefixed name) n
 target_encoded n h = prefixed_encoded (9 ∷ []) (size_prefixed name) n h
 
--- A subsection that has an encoding has one with its content. The builders' grammar has no encoding
--- of the other subsections.
-pub segments_encoded : (xs : List SegmentInfo) → HasEncoding link (Segments xs) → ⊥
-segments_encoded xs h = unknown_encoded link_tags full_link_tags other_link built_id built_ids (Segments xs) refl h
-
-pub inits_encoded : (xs : List InitFunction) → HasEncoding link (InitFunctions xs) → ⊥
-inits_encoded xs h = unknown_encoded link_tags full_link_tags other_link built_id built_ids (InitFunctions xs) refl h
-
-pub comdats_encoded : (xs : List Comdat) → HasEncoding link (Comdats xs) → ⊥
-comdats_encoded xs h = unknown_encoded link_tags full_link_tags other_link built_id built_ids (Comdats xs) refl h
-
-pub others_encoded : (id : ℕ) (content : List ℕ) → HasEncoding link (OtherLink id content) → ⊥
-others_encoded id content h = unknown_encoded link_tags full_link_tags other_link built_id built_ids (OtherLink id content) refl h
-
-pub symbols_encoded : (xs : List Symbol) → HasEncoding link (Symbols xs) → HasEncoding (prefixed (8 ∷ []) (size_prefixed (vec symbol))) xs
-symbols_encoded xs h =
-    content_of Symbols (λ x z k. cc k) 8 (size_prefixed (vec symbol)) (size_prefixed (vec built_symbol)) xs (tables_included built_symbol symbol padded (λ s x k. k)) (known_encoded link_tags full_link_tags other_link built_id built_ids (Symbols xs) h)
-
-pub arch_encoded : (n : List ℕ) → HasEncoding link (Target n) → HasEncoding (prefixed (9 ∷ []) (size_prefixed name)) n
-arch_encoded n h = content_of Target (λ x z k. cc k) 9 (size_prefixed name) (size_prefixed name) n (λ s x k. k) (known_encoded link_tags full_link_tags other_link built_id built_ids (Target n) h)
-
-pub ruleset short_steps = (segments_short, inits_short, comdats_short, symbols_short, arch_short, others_short, others_encoded, segments_encoded, inits_encoded, comdats_encoded, symbols_encoded, arch_encoded)
-
-pub links_encoded : (xs : List LinkItem) → HasEncoding linking_payload xs → HasEncoding (members link) xs
-links_encoded xs h = tagged_encoded (just version u32) (λ u. listing false link) tt xs (λ s z h. refl) (named_encoded linking_name (entries (just version u32) false link) xs h)
+pub links_encoded : (xs : List LinkItem) → HasEncoding both_grammars linking_payload xs → HasEncoding both_grammars (members link) xs
+links_encoded xs h = tagged_encoded (just version u32) (λ u. listing false link) tt xs (λ mode s z h. refl) (named_encoded linking_name (entries (just version u32) false link) xs h)

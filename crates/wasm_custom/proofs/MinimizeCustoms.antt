@@ -1,15 +1,13 @@
 -- This file proves that custom sections but for linking are minimized item by item.
 use Rattle.wasm_base.proofs.Words.{◌≡◌, ℕ, ◌<◌, List, [], ◌∷◌, ◌++◌, refl, sym, subst, Bool, Grammar, padded_of, Format, byte, u32, name, just, fixed, pair, prefixed, such, tagged, vec, Decodes, Rejects, byte_unambiguous, tagged_rejects, size_prefixed_encoding}
-use Rattle.wasm_base.specs.Minimal.{Minimizes, MinimizesWhole, EncodesMinimally, minimal_twins}
-use Rattle.wasm_base.proofs.GrammarLaws.{minimal_in, name_canonical}
+use Rattle.wasm_base.specs.Minimal.{Minimizes, MinimizesWhole}
+use Rattle.wasm_base.proofs.GrammarLaws.{name_canonical}
 use Rattle.wasm_base.proofs.MinimizeLaws.{appended_then, tagged_minimizes}
-use Rattle.wasm_custom.specs.{named_payload, listing, entries, NameKind, name_kind_of, after_id, subsection, value, value_encoding, IsRelocationsName, relocation, relocations_payload}
+use Rattle.wasm_custom.specs.{named_payload, listing, entries, NameKind, name_kind_of, after_id, subsection, IsRelocationsName, relocation, relocations_payload}
 use Rattle.wasm_custom.specs.Names.{kind_as}
 use Rattle.wasm_custom.specs.declared.names.NameKind.{NameKind as ReadKind}
-use Rattle.wasm_custom.proofs.CoreStackLaws.{value_encodes, value_is}
 use Rattle.wasm_custom.proofs.DecodeMarked.{marked_decodes}
 use Rattle.wasm_custom.proofs.DecodeNamed.{items_fill, named_fills}
-use Rattle.wasm_custom.proofs.SharedFormats.{value_same}
 
 -- ---- payloads
 
@@ -70,9 +68,6 @@ marked_minimizes w mark b F bytes rest last old middle new h e a m = record {
 
 pub hint_value_minimizes : (w : Grammar) (v : ℕ) (bytes rest old new : List ℕ) → Decodes (such (λ b. b < 128) byte) (padded_of w) bytes v rest → new ≡ old ++ v ∷ [] → Minimizes w (such (λ b. b < 128) byte) bytes rest old new
 hint_value_minimizes w v bytes rest old new h e = record { value = v; decoded = h; encoding = v ∷ []; encodes = (refl, h.encodes.1); appended = e }
-
-pub value_canonical : EncodesMinimally value (λ v. v) value_encoding
-value_canonical = record { minimal_in = λ w s x h. minimal_in w {F = value} x (value_encoding x) (value_same.shared minimal_twins) (value_encodes x (value_is (padded_of w) s x h)) }
 
 -- ---- subsections of names
 

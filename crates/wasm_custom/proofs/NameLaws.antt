@@ -4,8 +4,9 @@ use Rattle.wasm_base.proofs.Words.{Grammar, padded_of, name, pair, fixed, Format
 use Rattle.wasm_base.proofs.Words.{size_prefixed_encoding, HasEncodableSize, vec_encoding, IsEncodableVec, name_unambiguous, DeterminesTag, mapped_unambiguous, mapped_whole, pair_unambiguous}
 use Rattle.wasm_base.proofs.Words.{vec_unambiguous, size_prefixed_unambiguous, whole_from_unique, byte_unambiguous, any_bytes_whole, tagged_unambiguous, fixed_unambiguous, u32_unambiguous}
 use Rattle.wasm_base.proofs.Words.{tagged_encodes, u32_encodes, name_encodes, vec_encodes, size_prefixed_in, size_prefixed_encodes, ascii, pair_encodes, tagged_begins, RejectsWhole, tagged_decodes}
-use Rattle.wasm_base.proofs.Words.{tagged_none, tagged_rejects, filled_decodes, filled_none, filled_rejects, AppendsMinimal, HasEncoding, tagged_encoded, mapped_encoded, content_encoded}
+use Rattle.wasm_base.proofs.Words.{tagged_none, tagged_rejects, filled_decodes, filled_none, filled_rejects, AppendsMinimal, both_grammars, HasEncoding, tagged_encoded, mapped_encoded, content_encoded}
 use Rattle.wasm_base.proofs.Words.{behind_encodable, encoding_appended, tagged_appended, mapped_appended, size_prefixed_appended, SectionLaws}
+use Rattle.wasm_base.specs.Numbers.{minimal_of}
 use Rattle.wasm_custom.specs.{subsection_encoding, CustomLayoutLaws, Naming, Inside, naming_encoding, inside_encoding, IsNaming, IsInside, naming, name_map, indirect_map, NameItem, Module, Map}
 use Rattle.wasm_custom.specs.{Indirect, Other, NameKind, of_module, of_map, of_indirect, of_other, is_one_of, map_ids, indirect_ids, name_kind_of, after_id, subsection, name_encoding, IsName}
 use Rattle.wasm_custom.specs.{name_name, name_items, inside, id_of, held_by, name_payload, kind_as}
@@ -212,31 +213,28 @@ pub ruleset name_steps = (names_fill, names_none, no_names)
 
 -- ---- the content of a subsection
 
-pub module_appended : (n old new : List ℕ) → AppendsMinimal name n old new → AppendsMinimal (inside of_module 0) (Module n) old new
+pub module_appended : (n old new : List ℕ) → AppendsMinimal both_grammars name n old new → AppendsMinimal both_grammars (inside of_module 0) (Module n) old new
 module_appended n old new a = mapped_appended Module name n old new (λ z k. cc k) a
 
-pub map_appended : (id : ℕ) (names : List Naming) (old new : List ℕ) → AppendsMinimal name_map names old new → AppendsMinimal (inside of_map id) (Map id names) old new
+pub map_appended : (id : ℕ) (names : List Naming) (old new : List ℕ) → AppendsMinimal both_grammars name_map names old new → AppendsMinimal both_grammars (inside of_map id) (Map id names) old new
 map_appended id names old new a = mapped_appended (Map id) name_map names old new (λ z k. cc k) a
 
-pub indirect_appended : (id : ℕ) (maps : List Inside) (old new : List ℕ) → AppendsMinimal indirect_map maps old new → AppendsMinimal (inside of_indirect id) (Indirect id maps) old new
+pub indirect_appended : (id : ℕ) (maps : List Inside) (old new : List ℕ) → AppendsMinimal both_grammars indirect_map maps old new → AppendsMinimal both_grammars (inside of_indirect id) (Indirect id maps) old new
 indirect_appended id maps old new a = mapped_appended (Indirect id) indirect_map maps old new (λ z k. cc k) a
 
-pub other_appended : (id : ℕ) (bytes old new : List ℕ) → new ≡ old ++ bytes → AppendsMinimal (inside of_other id) (Other id bytes) old new
-other_appended id bytes old new e = mapped_appended (Other id) any_bytes bytes old new (λ z k. cc k) (encoding_appended any_bytes bytes bytes old new (λ s h. refl) e)
+pub other_appended : (id : ℕ) (bytes old new : List ℕ) → new ≡ old ++ bytes → AppendsMinimal both_grammars (inside of_other id) (Other id bytes) old new
+other_appended id bytes old new e = mapped_appended (Other id) any_bytes bytes old new (λ z k. cc k) (encoding_appended any_bytes bytes bytes old new (λ w q s h. refl) e)
 
 -- ---- subsections
 
-held_determines : (k : NameKind) (id : ℕ) (s : List ℕ) (x : NameItem) → after_id k id padded s x → held_by x ≡ k
-held_determines of_module id s x h = sym (ap held_by h.1)
-held_determines of_map id s x h = sym (ap held_by h.1)
-held_determines of_indirect id s x h = sym (ap held_by h.1)
-held_determines of_other id s x h = sym (ap held_by h.1)
+held_determines : (k : NameKind) (id : ℕ) (mode : Mode) (s : List ℕ) (x : NameItem) → after_id k id mode s x → held_by x ≡ k
+held_determines of_module id mode s x h = sym (ap held_by h.1)
+held_determines of_map id mode s x h = sym (ap held_by h.1)
+held_determines of_indirect id mode s x h = sym (ap held_by h.1)
+held_determines of_other id mode s x h = sym (ap held_by h.1)
 
-id_determines : (x : NameItem) (s : List ℕ) (id : ℕ) → after_id (name_kind_of id) id padded s x → id ≡ id_of x
-id_determines (Module n) s id h = tells padded id s (Module n) h
-id_determines (Map i names) s id h = tells padded id s (Map i names) h
-id_determines (Indirect i maps) s id h = tells padded id s (Indirect i maps) h
-id_determines (Other i bytes) s id h = tells padded id s (Other i bytes) h
+id_determines : (x : NameItem) (mode : Mode) (s : List ℕ) (id : ℕ) → after_id (name_kind_of id) id mode s x → id ≡ id_of x
+id_determines x mode s id h = tells mode id s x h
 
 -- The image of a size-prefixed value is encoded as the size-prefixed image.
 module _ {X : Type 0} (f : X → NameItem) (F : Format X) {mode : Mode} {s : List ℕ} {x : NameItem} where
@@ -258,46 +256,47 @@ behind_content of_map id h = encodes_image (Map id) name_map h
 behind_content of_indirect id h = encodes_image (Indirect id) indirect_map h
 behind_content of_other id h = encodes_image (Other id) any_bytes h
 
-after_appended : (x : NameItem) (old new : List ℕ) → AppendsMinimal (size_prefixed (inside (held_by x) (id_of x))) x old new → AppendsMinimal (after_id (name_kind_of (id_of x)) (id_of x)) x old new
+after_appended : (x : NameItem) (old new : List ℕ) → AppendsMinimal both_grammars (size_prefixed (inside (held_by x) (id_of x))) x old new → AppendsMinimal both_grammars (after_id (name_kind_of (id_of x)) (id_of x)) x old new
 after_appended x old new a = record {
   encoding = a.encoding;
   appended = a.appended;
-  encodes = λ s h.
+  encodes = λ w q s h.
       let id = id_of x in
-      let is = held_determines (name_kind_of id) id s x h in
-      let given = subst (λ k. after_id k id padded s x) (sym is) h in
-      subst (λ k. after_id k id minimal a.encoding x) is (behind_content (held_by x) id (a.encodes s (sized (held_by x) id given)));
+      let is = held_determines (name_kind_of id) id (padded_of w) s x h in
+      let given = subst (λ k. after_id k id (padded_of w) s x) (sym is) h in
+      subst (λ k. after_id k id (minimal_of w) a.encoding x) is (behind_content (held_by x) id (a.encodes w q s (sized (held_by x) id given)));
 }
 
-pub subsection_appended : (x : NameItem) (start : ℕ) (old front middle new : List ℕ) → front ≡ old ++ id_of x ∷ [] → start ≡ length front → AppendsMinimal (inside (held_by x) (id_of x)) x front middle → HasEncodableSize (drop start middle)
-    → new ≡ take start middle ++ size_prefixed_encoding (drop start middle) → AppendsMinimal subsection x old new
+pub subsection_appended : (x : NameItem) (start : ℕ) (old front middle new : List ℕ) → front ≡ old ++ id_of x ∷ [] → start ≡ length front → AppendsMinimal both_grammars (inside (held_by x) (id_of x)) x front middle → HasEncodableSize (drop start middle)
+    → new ≡ take start middle ++ size_prefixed_encoding (drop start middle) → AppendsMinimal both_grammars subsection x old new
 subsection_appended x start old front middle new e l a encodable is =
-    tagged_appended byte (λ id. after_id (name_kind_of id) id) (λ s z h. id_determines x s z h) (encoding_appended byte (id_of x) (id_of x ∷ []) old front (λ s h. refl) e)
+    tagged_appended byte (λ id. after_id (name_kind_of id) id) (λ mode s z h. id_determines x mode s z h) (encoding_appended byte (id_of x) (id_of x ∷ []) old front (λ w q s h. refl) e)
     (after_appended x front new (size_prefixed_appended (inside (held_by x) (id_of x)) x start front middle new l a encodable is))
 
 -- ---- sections
 
-pub names_appended : (xs : List NameItem) (old middle new : List ℕ) → HasEncodableSize name_name → middle ≡ old ++ size_prefixed_encoding name_name → AppendsMinimal (members subsection) xs middle new → AppendsMinimal name_payload xs old new
-names_appended xs old middle new encodable e a = items_appended name_name false subsection xs encodable e a
+pub names_appended : (xs : List NameItem) (old middle new : List ℕ) → middle ≡ old ++ size_prefixed_encoding name_name → AppendsMinimal both_grammars (members subsection) xs middle new → AppendsMinimal both_grammars name_payload xs old new
+names_appended xs old middle new e a = items_appended name_name false subsection xs e a
 
 -- ---- contents of a subsection that has an encoding
 
-pub module_encoded : (n : List ℕ) → HasEncoding (inside of_module 0) (Module n) → HasEncoding name n
+pub module_encoded : (n : List ℕ) → HasEncoding both_grammars (inside of_module 0) (Module n) → HasEncoding both_grammars name n
 module_encoded n h = mapped_encoded Module name n (λ z k. cc k) h
 
-pub map_encoded : (id : ℕ) (names : List Naming) → HasEncoding (inside of_map id) (Map id names) → HasEncoding name_map names
+pub map_encoded : (id : ℕ) (names : List Naming) → HasEncoding both_grammars (inside of_map id) (Map id names) → HasEncoding both_grammars name_map names
 map_encoded id names h = mapped_encoded (Map id) name_map names (λ z k. cc k) h
 
-pub indirect_encoded : (id : ℕ) (maps : List Inside) → HasEncoding (inside of_indirect id) (Indirect id maps) → HasEncoding indirect_map maps
+pub indirect_encoded : (id : ℕ) (maps : List Inside) → HasEncoding both_grammars (inside of_indirect id) (Indirect id maps) → HasEncoding both_grammars indirect_map maps
 indirect_encoded id maps h = mapped_encoded (Indirect id) indirect_map maps (λ z k. cc k) h
 
-sized_encoded : (x : NameItem) → HasEncoding subsection x → HasEncoding (size_prefixed (inside (held_by x) (id_of x))) x
+sized_encoded : (x : NameItem) → HasEncoding both_grammars subsection x → HasEncoding both_grammars (size_prefixed (inside (held_by x) (id_of x))) x
 sized_encoded x h =
     let id = id_of x in
-    let behind = tagged_encoded byte (λ b. after_id (name_kind_of b) b) id x (λ s z k. id_determines x s z k) h in
-    record { bytes = behind.bytes; decoded = sized (held_by x) id (subst (λ k. after_id k id padded behind.bytes x) (sym (held_determines (name_kind_of id) id behind.bytes x behind.decoded)) behind.decoded) }
+    let behind = tagged_encoded byte (λ b. after_id (name_kind_of b) b) id x (λ mode s z k. id_determines x mode s z k) h in
+    let mode = padded_of behind.grammar in
+    record { grammar = behind.grammar; included = tt; bytes = behind.bytes; decoded = sized (held_by x) id (subst (λ k. after_id k id mode behind.bytes x) (sym (held_determines (name_kind_of id) id mode behind.bytes x behind.decoded)) behind.decoded) }
 
-pub held_encoded : (x : NameItem) → HasEncoding subsection x → HasEncoding (inside (held_by x) (id_of x)) x
+pub held_encoded : (x : NameItem) → HasEncoding both_grammars subsection x → HasEncoding both_grammars (inside (held_by x) (id_of x)) x
 held_encoded x h = content_encoded (inside (held_by x) (id_of x)) x (sized_encoded x h)
 
 inside_encodings : (k : NameKind) (id : ℕ) → HasEncodings (inside k id)
@@ -306,8 +305,8 @@ inside_encodings of_map id = (mapped_unambiguous (Map id) (λ x y e. cc) map_una
 inside_encodings of_indirect id = (mapped_unambiguous (Indirect id) (λ x y e. cc) indirect_unambiguous).encodings
 inside_encodings of_other id = (mapped_whole (Other id) (λ x y e. cc) any_bytes_whole).encodings
 
-pub held_encodable : (x : NameItem) (start : ℕ) (old new : List ℕ) → start ≡ length old → AppendsMinimal (inside (held_by x) (id_of x)) x old new → HasEncoding subsection x → HasEncodableSize (drop start new)
+pub held_encodable : (x : NameItem) (start : ℕ) (old new : List ℕ) → start ≡ length old → AppendsMinimal both_grammars (inside (held_by x) (id_of x)) x old new → HasEncoding both_grammars subsection x → HasEncodableSize (drop start new)
 held_encodable x start old new e a h = behind_encodable (inside (held_by x) (id_of x)) x start old new (inside_encodings (held_by x) (id_of x)) e a (sized_encoded x h)
 
-pub names_encoded : (xs : List NameItem) → HasEncoding name_payload xs → HasEncoding (members subsection) xs
+pub names_encoded : (xs : List NameItem) → HasEncoding both_grammars name_payload xs → HasEncoding both_grammars (members subsection) xs
 names_encoded xs h = items_encoded name_name false subsection xs h

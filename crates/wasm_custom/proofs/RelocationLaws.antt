@@ -1,11 +1,14 @@
 -- This file proves that relocations are unambiguous, and how they are decoded and minimized.
 use Rattle.wasm_base.proofs.Words.{Mode, Format, pos, ◌≡◌, ◌≢◌, ◌==◌, ℕ, ℤ, ◌≤◌, List, [], ◌∷◌, ◌++◌, length, map, true, refl, sym, ap, subst, arith, length-append, map-id, ◌<◌, ◌^◌, if◌then◌else◌}
-use Rattle.wasm_base.proofs.Words.{ItemLaws, DecodesBack, AllZip, name, such, coded, byte, u32, s32, s64, pair, vec, size_prefixed, minimal, padded, joined, Unambiguous, UnambiguousWhole, Decodes}
+use Rattle.wasm_base.proofs.Words.{ItemLaws, DecodesBack, AllZip, name, such, coded, byte, u32, s32, s64, pair, vec, size_prefixed, minimal, joined, Unambiguous, UnambiguousWhole, Decodes}
 use Rattle.wasm_base.proofs.Words.{Rejects, RejectsWhole, unsigned_encoding, signed_encoding, size_prefixed_encoding, longest, coded_unambiguous, mapped_unambiguous, tagged_unambiguous, DeterminesTag}
 use Rattle.wasm_base.proofs.Words.{AllValues, u32_unambiguous, s32_unambiguous, s64_unambiguous, name_unambiguous, such_unambiguous, pair_unambiguous, vec_unambiguous, pair_whole, whole_from_unique}
 use Rattle.wasm_base.proofs.Words.{entries_encodes, size_prefixed_unambiguous, u32_encodes, s32_encodes, s64_encodes, pair_encodes, size_prefixed_encodes, front_name_encodes, decodes_uniquely}
 use Rattle.wasm_base.proofs.Words.{decodes_same, code_decodes, code_none, code_unknown, tagged_decodes, tagged_none, tagged_rejects, mapped_decodes, mapped_rejects, then_decodes, then_rejects_first}
-use Rattle.wasm_base.proofs.Words.{then_rejects_second, such_decodes, such_none, such_rejects, AppendsMinimal, HasEncoding, encoding_appended, pair_appended}
+use Rattle.wasm_base.proofs.Words.{then_rejects_second, such_decodes, such_none, such_rejects, AppendsMinimal, both_grammars, HasEncoding, pair_appended}
+use Rattle.wasm_base.proofs.Words.{canonical_appended, padded_of}
+use Rattle.wasm_base.specs.Minimal.{EncodesMinimally}
+use Rattle.wasm_base.proofs.GrammarLaws.{AreMinimalInBoth, canonical_by, coded_both, mapped_both, pair_both, tagged_both, s32_both, s64_both, u32_both}
 use Rattle.wasm_custom.specs.{begins_with, relocations_prefix, named_encoding, IsEncodableNamed, count_encoding, entries_encoding, relocation_code, kind_of_relocation, relocation_encoding}
 use Rattle.wasm_custom.specs.{IsRelocation, plain_of, addend32_of, addend64_of, after_kind, relocation, relocation_items, IsRelocationsName, relocations_payload, SaysRelocations}
 use Rattle.wasm_custom.specs.declared.relocations.PlainRelocation.{PlainRelocation}
@@ -273,20 +276,28 @@ fields_are (kinds.Addend64 k) mode s r h = let p = h.2.first in let a = h.2.seco
 relocation_is : AllValues IsRelocation relocation
 relocation_is mode s r h = subst IsRelocation h.1 (fields_are h.0.0 mode h.2.back h.0.1 h.2.second)
 
-pub relocation_appended : (r : Relocation) (old new : List ℕ) → new ≡ old ++ relocation_encoding r → AppendsMinimal relocation r old new
-relocation_appended r old new e = encoding_appended relocation r (relocation_encoding r) old new (λ s h. relocation_encodes r (relocation_is padded s r h)) e
+after_kind_both : (k : RelocationKind) → AreMinimalInBoth (after_kind k)
+after_kind_both (kinds.Plain k) = mapped_both (plain_of k) (pair_both u32_both u32_both)
+after_kind_both (kinds.Addend32 k) = mapped_both (addend32_of k) (pair_both (pair_both u32_both u32_both) s32_both)
+after_kind_both (kinds.Addend64 k) = mapped_both (addend64_of k) (pair_both (pair_both u32_both u32_both) s64_both)
 
-name_appended_as : (n old new : List ℕ) → AppendsMinimal name n old new → AppendsMinimal (such IsRelocationsName name) n old new
-name_appended_as n old new a = record { encoding = a.encoding; appended = a.appended; encodes = λ s h. (a.encodes s h.0, h.1) }
+relocation_canonical : EncodesMinimally relocation (λ r. r) relocation_encoding
+relocation_canonical = canonical_by (λ r. r) relocation_encoding IsRelocation relocation_is relocation_encodes (tagged_both (coded_both relocation_code) after_kind_both)
 
-pub section_appended : (n : List ℕ) (section : ℕ) (rs : List Relocation) (old front middle new : List ℕ) → AppendsMinimal name n old front → AppendsMinimal u32 section front middle → AppendsMinimal (vec relocation) (map (λ r. r) rs) middle new
-    → AppendsMinimal relocations_payload (n, (section, rs)) old new
+pub relocation_appended : (r : Relocation) (old new : List ℕ) → new ≡ old ++ relocation_encoding r → AppendsMinimal both_grammars relocation r old new
+relocation_appended r old new e = canonical_appended relocation (λ r. r) relocation_encoding r old new relocation_canonical e
+
+name_appended_as : (n old new : List ℕ) → AppendsMinimal both_grammars name n old new → AppendsMinimal both_grammars (such IsRelocationsName name) n old new
+name_appended_as n old new a = record { encoding = a.encoding; appended = a.appended; encodes = λ w q s h. (a.encodes w q s h.0, h.1) }
+
+pub section_appended : (n : List ℕ) (section : ℕ) (rs : List Relocation) (old front middle new : List ℕ) → AppendsMinimal both_grammars name n old front → AppendsMinimal both_grammars u32 section front middle → AppendsMinimal both_grammars (vec relocation) (map (λ r. r) rs) middle new
+    → AppendsMinimal both_grammars relocations_payload (n, (section, rs)) old new
 section_appended n section rs old front middle new a b c =
     pair_appended (such IsRelocationsName name) (pair u32 (vec relocation)) (name_appended_as n old front a)
-    (pair_appended u32 (vec relocation) b (subst (λ z. AppendsMinimal (vec relocation) z middle new) (map-id rs) c))
+    (pair_appended u32 (vec relocation) b (subst (λ z. AppendsMinimal both_grammars (vec relocation) z middle new) (map-id rs) c))
 
-pub name_encoded : (n : List ℕ) (section : ℕ) (rs : List Relocation) → HasEncoding relocations_payload (n, (section, rs)) → HasEncoding name n
-name_encoded n section rs h = let d = h.decoded in record { bytes = d.front; decoded = d.first.0 }
+pub name_encoded : (n : List ℕ) (section : ℕ) (rs : List Relocation) → HasEncoding both_grammars relocations_payload (n, (section, rs)) → HasEncoding both_grammars name n
+name_encoded n section rs h = let d = h.decoded in record { grammar = h.grammar; included = h.included; bytes = d.front; decoded = d.first.0 }
 
-pub list_encoded : (n : List ℕ) (section : ℕ) (rs : List Relocation) → HasEncoding relocations_payload (n, (section, rs)) → HasEncoding (vec relocation) (map (λ r. r) rs)
-list_encoded n section rs h = let d = h.decoded.second in record { bytes = d.back; decoded = subst (λ z. vec relocation padded d.back z) (sym (map-id rs)) d.second }
+pub list_encoded : (n : List ℕ) (section : ℕ) (rs : List Relocation) → HasEncoding both_grammars relocations_payload (n, (section, rs)) → HasEncoding both_grammars (vec relocation) (map (λ r. r) rs)
+list_encoded n section rs h = let d = h.decoded.second in record { grammar = h.grammar; included = h.included; bytes = d.back; decoded = subst (λ z. vec relocation (padded_of h.grammar) d.back z) (sym (map-id rs)) d.second }

@@ -1,6 +1,6 @@
 -- This file proves that segments are unambiguous, and how they are decoded and minimized.
 use Rattle.wasm_base.proofs.Words.{ℕ, List, ◌++◌, ap, refl, minimal, unsigned_encoding, size_prefixed_encoding, pair_encodes, u32_encodes, name_encodes, u32, name, pair, Mode, Unambiguous, Decodes}
-use Rattle.wasm_base.proofs.Words.{Rejects, AppendsMinimal, HasEncoding, mapped_unambiguous, pair_unambiguous, name_unambiguous, u32_unambiguous, mapped_decodes, mapped_rejects, mapped_appended}
+use Rattle.wasm_base.proofs.Words.{Rejects, AppendsMinimal, both_grammars, HasEncoding, mapped_unambiguous, pair_unambiguous, name_unambiguous, u32_unambiguous, mapped_decodes, mapped_rejects, mapped_appended}
 use Rattle.wasm_base.proofs.Words.{pair_appended, mapped_encoded, left_encoded}
 use Rattle.wasm_custom.specs.Segments.{SegmentInfo, segment_encoding, IsSegment, segment_of, segment}
 
@@ -27,10 +27,10 @@ pub ruleset segment_steps = (segment_decodes, segment_none)
 
 -- ---- the one minimal encoding of decoded segments
 
-pub segment_appended : (n : List ℕ) (alignment flags : ℕ) (old first second new : List ℕ) → AppendsMinimal name n old first → AppendsMinimal u32 alignment first second → AppendsMinimal u32 flags second new
-    → AppendsMinimal segment (record { name = n; alignment = alignment; flags = flags }) old new
+pub segment_appended : (n : List ℕ) (alignment flags : ℕ) (old first second new : List ℕ) → AppendsMinimal both_grammars name n old first → AppendsMinimal both_grammars u32 alignment first second → AppendsMinimal both_grammars u32 flags second new
+    → AppendsMinimal both_grammars segment (record { name = n; alignment = alignment; flags = flags }) old new
 segment_appended n alignment flags old first second new a b c =
     mapped_appended segment_of (pair name (pair u32 u32)) (n, (alignment, flags)) old new (λ z k. ap parts_of k) (pair_appended name (pair u32 u32) a (pair_appended u32 u32 b c))
 
-pub segment_name_encoded : (n : List ℕ) (alignment flags : ℕ) → HasEncoding segment (record { name = n; alignment = alignment; flags = flags }) → HasEncoding name n
+pub segment_name_encoded : (n : List ℕ) (alignment flags : ℕ) → HasEncoding both_grammars segment (record { name = n; alignment = alignment; flags = flags }) → HasEncoding both_grammars name n
 segment_name_encoded n alignment flags h = left_encoded name (pair u32 u32) n (alignment, flags) (mapped_encoded segment_of (pair name (pair u32 u32)) (n, (alignment, flags)) (λ z k. ap parts_of k) h)

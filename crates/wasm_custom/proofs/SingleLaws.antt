@@ -3,6 +3,7 @@ use Rattle.wasm_base.proofs.Words.{◌≡◌, ℕ, List, ◌++◌, length, IsUtf
 use Rattle.wasm_base.proofs.Words.{unsigned_encoding, Unambiguous, UnambiguousWhole, Decodes, Rejects, RejectsWhole, DecodesUniquely, size_prefixed_encoding, HasEncodableSize, name_unambiguous}
 use Rattle.wasm_base.proofs.Words.{any_bytes_whole, ascii, whole_from_unique, size_prefixed_unambiguous, decodes_uniquely, name_encodes, size_prefixed_encodes, after_whole, AppendsMinimal}
 use Rattle.wasm_base.proofs.Words.{HasEncoding}
+use Rattle.wasm_base.proofs.Words.{Grammars}
 use Rattle.wasm_custom.specs.{named_section, named_payload, named_encoding, IsEncodableNamed, source_map_name, debug_file_name, build_id_name, source_map_payload, debug_file_payload, build_id_payload}
 use Rattle.wasm_custom.specs.{source_map_section, debug_file_section, build_id_section, SaysText}
 use Rattle.wasm_custom.proofs.CustomLaws.{named_unambiguous, named_encodes, data_encodable, named_appended, named_encoded, named_encodable}
@@ -46,13 +47,13 @@ pub ruleset single_steps = (single_fills, single_none, single_rejects)
 
 -- ---- the one minimal encoding of a decoded value
 
-pub single_appended : {X : Type 0} (n : List ℕ) (F : Format X) (x : X) (old middle new : List ℕ) → HasEncodableSize n → middle ≡ old ++ size_prefixed_encoding n → AppendsMinimal F x middle new → AppendsMinimal (named_payload n F) x old new
-single_appended n F x old middle new encodable e a = named_appended n F x encodable e a
+pub single_appended : {k : Grammars} {X : Type 0} (n : List ℕ) (F : Format X) (x : X) (old middle new : List ℕ) → middle ≡ old ++ size_prefixed_encoding n → AppendsMinimal k F x middle new → AppendsMinimal k (named_payload n F) x old new
+single_appended n F x old middle new e a = named_appended n F x e a
 
-pub single_encoded : {X : Type 0} (n : List ℕ) (F : Format X) (x : X) → HasEncoding (named_payload n F) x → HasEncoding F x
+pub single_encoded : {k : Grammars} {X : Type 0} (n : List ℕ) (F : Format X) (x : X) → HasEncoding k (named_payload n F) x → HasEncoding k F x
 single_encoded n F x h = named_encoded n F x h
 
-pub single_name_encodable : {X : Type 0} (n : List ℕ) (F : Format X) (x : X) → HasEncoding (named_payload n F) x → HasEncodableSize n
+pub single_name_encodable : {k : Grammars} {X : Type 0} (n : List ℕ) (F : Format X) (x : X) → HasEncoding k (named_payload n F) x → HasEncodableSize n
 single_name_encodable n F x h = named_encodable n F x h
 
 -- ---- source maps, files of debug information, and identities of builds

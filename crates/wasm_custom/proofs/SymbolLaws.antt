@@ -1,18 +1,21 @@
 -- This file proves that symbols are unambiguous, and how they are decoded and minimized.
-use Rattle.wasm_base.proofs.Words.{◌≡◌, ℕ, ◌^◌, ◌<◌, List, [], ◌++◌, Bool, Option, None, refl, ap, subst, ◌∙◌, ◌≢◌, sym, ◌∷◌, true, false, Some, arith, Format, u32, byte, name, pair, tagged, mapped}
-use Rattle.wasm_base.proofs.Words.{optional, is_given, impossible, choice, prefixed, IsEncodableName, minimal, unsigned_encoding, Mode, padded, standard, Grammar, builders, admitted, is_admitted}
+use Rattle.wasm_base.proofs.Words.{◌≡◌, ℕ, ◌^◌, ◌<◌, List, [], ◌++◌, Bool, Option, None, refl, ap, subst, ◌∙◌, ◌≢◌, ◌∷◌, true, false, Some, arith, Format, u32, byte, name, pair, tagged, mapped}
+use Rattle.wasm_base.proofs.Words.{optional, is_given, prefixed, IsEncodableName, minimal, unsigned_encoding, Mode, padded, Grammar, builders, admitted, is_admitted}
 use Rattle.wasm_base.proofs.Words.{padded_of, Unambiguous, Decodes, Rejects, size_prefixed_encoding, optional_encoding, name_unambiguous, mapped_unambiguous, pair_unambiguous, byte_unambiguous}
 use Rattle.wasm_base.proofs.Words.{tagged_unambiguous, optional_unambiguous, choice_of, AllValues, AllDetermine, IsIncludedIn, u32_unambiguous, pair_encodes, optional_encodes, tagged_encodes}
 use Rattle.wasm_base.proofs.Words.{u32_encodes, u32_in, name_encodes, then_decodes, then_rejects_first, then_rejects_second, mapped_decodes, mapped_rejects, tagged_decodes, tagged_none}
-use Rattle.wasm_base.proofs.Words.{tagged_rejects, no_choice, AppendsMinimal, HasEncoding, left_encoded, right_encoded, tagged_encoded, prefixed_encoded, mapped_encoded, encoding_appended}
+use Rattle.wasm_base.proofs.Words.{tagged_rejects, no_choice, AppendsMinimal, both_grammars, HasEncoding, left_encoded, right_encoded, tagged_encoded, prefixed_encoded, mapped_encoded}
 use Rattle.wasm_base.proofs.Words.{nothing_appended, pair_appended, tagged_appended, mapped_appended, prefixed_appended}
+use Rattle.wasm_base.proofs.Words.{canonical_appended}
+use Rattle.wasm_base.specs.Minimal.{EncodesMinimally}
+use Rattle.wasm_base.proofs.GrammarLaws.{canonical_by, mapped_both, pair_both, u32_both}
 use Rattle.wasm_custom.specs.{kind_code, Symbol, indexed, of_data, of_section, has_name, has_definition, definition_encoding, symbol_encoding, IsDefinition, IsBuiltKind, IsFullSymbol, IsGivenSymbol}
 use Rattle.wasm_custom.specs.{IsSymbol, IsObjectSymbol, definition, definition_of, indexed_of, data_of, indexed_symbol, data_symbol, section_symbol, symbol_tags, built_symbol, full_symbol_tags}
 use Rattle.wasm_custom.specs.{full_symbol, symbol}
 use Rattle.wasm_custom.specs.declared.symbols.DataSymbolDefinition.{DataSymbolDefinition}
 use Rattle.wasm_custom.specs.declared.symbols.SymbolKind.{SymbolKind}
 use Rattle.wasm_custom.specs.declared.symbols.SymbolKind.TheVariants.{Function, Global, Tag, Table}
-use Rattle.wasm_custom.proofs.WiderLaws.{no_other, both_is, both_is_not, tagged_included, wider_unambiguous, tag_is, tag_is_not, tag_none, tag_rejects, tag_appended, unknown_appended, known_encoded, unknown_encoded}
+use Rattle.wasm_custom.proofs.WiderLaws.{no_other, both_is, both_is_not, tagged_included, wider_unambiguous, tag_is, tag_is_not, tag_none, tag_rejects, IsAfterTag, in_each, in_standard, known_appended, known_encoded}
 
 -- ---- unambiguous
 
@@ -57,16 +60,20 @@ section_unambiguous = tagged_unambiguous flags_of (λ mode flags s x h. ap flags
 built_kinds : AllDetermine code_of symbol_tags
 built_kinds = (λ mode s x h. ap code_of (h.2.second.1 ∙ h.1), (λ mode s x h. ap code_of (h.2.second.1 ∙ h.1), (λ mode s x h. ap code_of (h.2.second.1 ∙ h.1), (λ mode s x h. ap code_of (h.2.second.1 ∙ h.1), tt))))
 
+-- The byte of its kind is determined by a symbol of any kind.
+full_kinds : AllDetermine code_of full_symbol_tags
+full_kinds = (
+  λ mode s x h. ap code_of (h.2.second.1 ∙ h.1),
+  (λ mode s x h. ap code_of (h.2.second.1 ∙ h.1), (λ mode s x h. ap code_of (h.2.second.1 ∙ h.1), (λ mode s x h. ap code_of (h.2.second.1 ∙ h.1), (λ mode s x h. ap code_of (h.2.second.1 ∙ h.1), (λ mode s x h. ap code_of (h.2.second.1 ∙ h.1), tt))))),
+)
+
 pub built_symbol_unambiguous : Unambiguous built_symbol
 built_symbol_unambiguous = choice_of byte code_of symbol_tags byte_unambiguous (indexed_unambiguous Function, (data_unambiguous, (indexed_unambiguous Global, (indexed_unambiguous Table, tt)))) built_kinds
 
 pub full_symbol_unambiguous : Unambiguous full_symbol
 full_symbol_unambiguous =
     choice_of byte code_of full_symbol_tags byte_unambiguous
-    (indexed_unambiguous Function, (data_unambiguous, (indexed_unambiguous Global, (section_unambiguous, (indexed_unambiguous Tag, (indexed_unambiguous Table, tt)))))) (
-      λ mode s x h. ap code_of (h.2.second.1 ∙ h.1),
-      (λ mode s x h. ap code_of (h.2.second.1 ∙ h.1), (λ mode s x h. ap code_of (h.2.second.1 ∙ h.1), (λ mode s x h. ap code_of (h.2.second.1 ∙ h.1), (λ mode s x h. ap code_of (h.2.second.1 ∙ h.1), (λ mode s x h. ap code_of (h.2.second.1 ∙ h.1), tt))))),
-    )
+    (indexed_unambiguous Function, (data_unambiguous, (indexed_unambiguous Global, (section_unambiguous, (indexed_unambiguous Tag, (indexed_unambiguous Table, tt)))))) full_kinds
 
 pub built_is_full : (m : Mode) → IsIncludedIn (built_symbol m) (full_symbol m)
 built_is_full m = tagged_included symbol_tags full_symbol_tags no_other m (λ s x h. h, (λ s x h. h, (λ s x h. h, (λ s x h. h, tt))))
@@ -251,108 +258,128 @@ tag_of_builders w bytes rest b h f e = symbol_unknown w bytes rest b h (omega (a
 -- ---- fields that flags select
 
 module _ {X : Type 0} (F : Format X) (old new : List ℕ) where
-  some_appended : (flag : Bool) (x : X) → AppendsMinimal F x old new → AppendsMinimal (optional flag F) (Some x) old new
+  some_appended : (flag : Bool) (x : X) → AppendsMinimal both_grammars F x old new → AppendsMinimal both_grammars (optional flag F) (Some x) old new
   some_appended true x a = mapped_appended Some F x old new (λ z k. cc k) a
-  some_appended false x a = record { encoding = a.encoding; appended = a.appended; encodes = λ s h. absurd (cc (h.1)) }
+  some_appended false x a = record { encoding = a.encoding; appended = a.appended; encodes = λ w q s h. absurd (cc (h.1)) }
 
-none_appended : {X : Type 0} (F : Format X) (flag : Bool) (old : List ℕ) → AppendsMinimal (optional flag F) None old old
-none_appended F true old = nothing_appended (optional true F) None old (λ s h. absurd (cc (h.1)))
-none_appended F false old = nothing_appended (optional false F) None old (λ s h. (refl, refl))
+none_appended : {X : Type 0} (F : Format X) (flag : Bool) (old : List ℕ) → AppendsMinimal both_grammars (optional flag F) None old old
+none_appended F true old = nothing_appended (optional true F) None old (λ w q s h. absurd (cc (h.1)))
+none_appended F false old = nothing_appended (optional false F) None old (λ w q s h. (refl, refl))
 
-pub name_appended : (flags : ℕ) (n old new : List ℕ) → AppendsMinimal name n old new → AppendsMinimal (optional (has_name flags) name) (Some n) old new
+pub name_appended : (flags : ℕ) (n old new : List ℕ) → AppendsMinimal both_grammars name n old new → AppendsMinimal both_grammars (optional (has_name flags) name) (Some n) old new
 name_appended flags n old new a = some_appended name old new (has_name flags) n a
 
-pub no_name_appended : (flags : ℕ) (old : List ℕ) → AppendsMinimal (optional (has_name flags) name) None old old
+pub no_name_appended : (flags : ℕ) (old : List ℕ) → AppendsMinimal both_grammars (optional (has_name flags) name) None old old
 no_name_appended flags old = none_appended name (has_name flags) old
 
 definition_is : AllValues IsDefinition definition
 definition_is mode s x h = subst IsDefinition h.1 (record { index = h.2.first.range; offset = h.2.second.first.range; size = h.2.second.second.range })
 
-pub definition_appended : (flags : ℕ) (d : DataSymbolDefinition) (old new : List ℕ) → new ≡ old ++ definition_encoding d → AppendsMinimal (optional (has_definition flags) definition) (Some d) old new
-definition_appended flags d old new e = some_appended definition old new (has_definition flags) d (encoding_appended definition d (definition_encoding d) old new (λ s h. definition_encodes d (definition_is padded s d h)) e)
+definition_canonical : EncodesMinimally definition (λ d. d) definition_encoding
+definition_canonical = canonical_by (λ d. d) definition_encoding IsDefinition definition_is definition_encodes (mapped_both definition_of (pair_both u32_both (pair_both u32_both u32_both)))
 
-pub no_definition_appended : (flags : ℕ) (old : List ℕ) → AppendsMinimal (optional (has_definition flags) definition) None old old
+pub definition_appended : (flags : ℕ) (d : DataSymbolDefinition) (old new : List ℕ) → new ≡ old ++ definition_encoding d → AppendsMinimal both_grammars (optional (has_definition flags) definition) (Some d) old new
+definition_appended flags d old new e = some_appended definition old new (has_definition flags) d (canonical_appended definition (λ d. d) definition_encoding d old new definition_canonical e)
+
+pub no_definition_appended : (flags : ℕ) (old : List ℕ) → AppendsMinimal both_grammars (optional (has_definition flags) definition) None old old
 no_definition_appended flags old = none_appended definition (has_definition flags) old
 
 -- ---- symbols
 
-behind : (kind : SymbolKind) (flags index : ℕ) (n : Option (List ℕ)) (old first second new : List ℕ) → AppendsMinimal u32 flags old first → AppendsMinimal u32 index first second → AppendsMinimal (optional (has_name flags) name) n second new
-    → AppendsMinimal (indexed_symbol kind) (indexed kind flags index n) old new
+behind : (kind : SymbolKind) (flags index : ℕ) (n : Option (List ℕ)) (old first second new : List ℕ) → AppendsMinimal both_grammars u32 flags old first → AppendsMinimal both_grammars u32 index first second → AppendsMinimal both_grammars (optional (has_name flags) name) n second new
+    → AppendsMinimal both_grammars (indexed_symbol kind) (indexed kind flags index n) old new
 behind kind flags index n old first second new a b c =
     let parts = pair_appended u32 (optional (has_name flags) name) b c in
-    tagged_appended u32 (λ f. mapped (indexed_of kind f) (pair u32 (optional (has_name f) name))) (λ s f h. ap flags_of h.1) a
+    tagged_appended u32 (λ f. mapped (indexed_of kind f) (pair u32 (optional (has_name f) name))) (λ mode s f h. ap flags_of h.1) a
     (mapped_appended (indexed_of kind flags) (pair u32 (optional (has_name flags) name)) (index, n) first new (λ z k. ap indexed_parts k) parts)
 
-pub indexed_appended : (kind : SymbolKind) (flags index : ℕ) (n : Option (List ℕ)) (old front first second new : List ℕ) → front ≡ old ++ kind_code kind ∷ [] → AppendsMinimal u32 flags front first → AppendsMinimal u32 index first second
-    → AppendsMinimal (optional (has_name flags) name) n second new → AppendsMinimal (prefixed (kind_code kind ∷ []) (indexed_symbol kind)) (indexed kind flags index n) old new
+pub indexed_appended : (kind : SymbolKind) (flags index : ℕ) (n : Option (List ℕ)) (old front first second new : List ℕ) → front ≡ old ++ kind_code kind ∷ [] → AppendsMinimal both_grammars u32 flags front first → AppendsMinimal both_grammars u32 index first second
+    → AppendsMinimal both_grammars (optional (has_name flags) name) n second new → AppendsMinimal both_grammars (prefixed (kind_code kind ∷ []) (indexed_symbol kind)) (indexed kind flags index n) old new
 indexed_appended kind flags index n old front first second new e a b c = prefixed_appended (kind_code kind ∷ []) (indexed_symbol kind) (indexed kind flags index n) old front new e (behind kind flags index n front first second new a b c)
 
-pub data_appended : (flags : ℕ) (n : List ℕ) (d : Option DataSymbolDefinition) (old front first second new : List ℕ) → front ≡ old ++ 0x01 ∷ [] → AppendsMinimal u32 flags front first → AppendsMinimal name n first second
-    → AppendsMinimal (optional (has_definition flags) definition) d second new → AppendsMinimal (prefixed (0x01 ∷ []) data_symbol) (of_data flags n d) old new
+pub data_appended : (flags : ℕ) (n : List ℕ) (d : Option DataSymbolDefinition) (old front first second new : List ℕ) → front ≡ old ++ 0x01 ∷ [] → AppendsMinimal both_grammars u32 flags front first → AppendsMinimal both_grammars name n first second
+    → AppendsMinimal both_grammars (optional (has_definition flags) definition) d second new → AppendsMinimal both_grammars (prefixed (0x01 ∷ []) data_symbol) (of_data flags n d) old new
 data_appended flags n d old front first second new e a b c =
     let parts = pair_appended name (optional (has_definition flags) definition) b c in
     prefixed_appended (0x01 ∷ []) data_symbol (of_data flags n d) old front new e
-    (tagged_appended u32 given (λ s f h. ap flags_of h.1) a
+    (tagged_appended u32 given (λ mode s f h. ap flags_of h.1) a
     (mapped_appended (data_of flags) (pair name (optional (has_definition flags) definition)) (n, d) first new (λ z k. ap data_parts k) parts))
 
-pub section_appended : (flags index : ℕ) (old front middle new : List ℕ) → front ≡ old ++ 0x03 ∷ [] → AppendsMinimal u32 flags front middle → AppendsMinimal u32 index middle new → AppendsMinimal (prefixed (0x03 ∷ []) section_symbol) (of_section flags index) old new
+pub section_appended : (flags index : ℕ) (old front middle new : List ℕ) → front ≡ old ++ 0x03 ∷ [] → AppendsMinimal both_grammars u32 flags front middle → AppendsMinimal both_grammars u32 index middle new → AppendsMinimal both_grammars (prefixed (0x03 ∷ []) section_symbol) (of_section flags index) old new
 section_appended flags index old front middle new e a b =
     prefixed_appended (0x03 ∷ []) section_symbol (of_section flags index) old front new e
-    (tagged_appended u32 indexed_section (λ s f h. ap flags_of h.1) a (mapped_appended (of_section flags) u32 index middle new (λ z k. ap section_index k) b))
+    (tagged_appended u32 indexed_section (λ mode s f h. ap flags_of h.1) a (mapped_appended (of_section flags) u32 index middle new (λ z k. ap section_index k) b))
+
+-- In each grammar that has an encoding of the symbol, `F` is the format after the byte of its kind.
+abbrev IsKnown : Symbol → Format Symbol → Type 1
+IsKnown x F = IsAfterTag symbol_tags full_symbol_tags no_other code_of built_kinds full_kinds (λ b mode s x h. absurd h) x F
+
+module _ (x : Symbol) (F : Format Symbol) (known : IsKnown x F) where
+  known_short : {old new : List ℕ} → AppendsMinimal both_grammars (prefixed (code_of x ∷ []) F) x old new → AppendsMinimal both_grammars symbol x old new
+  known_short a = known_appended symbol_tags full_symbol_tags no_other code_of built_kinds full_kinds (λ b mode s x h. absurd h) x F known a
+
+  known_content : HasEncoding both_grammars symbol x → HasEncoding both_grammars (prefixed (code_of x ∷ []) F) x
+  known_content h = known_encoded symbol_tags full_symbol_tags no_other code_of built_kinds full_kinds (λ b mode s x h. absurd h) x F known h
+
+indexed_known : (kind : SymbolKind) (flags index : ℕ) (n : Option (List ℕ)) → IsKnown (indexed kind flags index n) (indexed_symbol kind)
+indexed_known Function flags index n = in_each symbol_tags full_symbol_tags no_other code_of built_kinds full_kinds (λ b mode s x h. absurd h) (indexed Function flags index n) (indexed_symbol Function) refl refl
+indexed_known Global flags index n = in_each symbol_tags full_symbol_tags no_other code_of built_kinds full_kinds (λ b mode s x h. absurd h) (indexed Global flags index n) (indexed_symbol Global) refl refl
+indexed_known Tag flags index n = in_standard symbol_tags full_symbol_tags no_other code_of built_kinds full_kinds (λ b mode s x h. absurd h) (indexed Tag flags index n) (indexed_symbol Tag) refl refl
+indexed_known Table flags index n = in_each symbol_tags full_symbol_tags no_other code_of built_kinds full_kinds (λ b mode s x h. absurd h) (indexed Table flags index n) (indexed_symbol Table) refl refl
+
+data_known : (flags : ℕ) (n : List ℕ) (d : Option DataSymbolDefinition) → IsKnown (of_data flags n d) data_symbol
+data_known flags n d = in_each symbol_tags full_symbol_tags no_other code_of built_kinds full_kinds (λ b mode s x h. absurd h) (of_data flags n d) data_symbol refl refl
+
+section_known : (flags index : ℕ) → IsKnown (of_section flags index) section_symbol
+section_known flags index = in_standard symbol_tags full_symbol_tags no_other code_of built_kinds full_kinds (λ b mode s x h. absurd h) (of_section flags index) section_symbol refl refl
 
 -- The bytes that a call appends for a symbol of a kind are the minimal encoding of the symbol.
-pub indexed_short : (kind : SymbolKind) (flags index : ℕ) (n : Option (List ℕ)) (old new : List ℕ) → AppendsMinimal (prefixed (kind_code kind ∷ []) (indexed_symbol kind)) (indexed kind flags index n) old new → AppendsMinimal symbol (indexed kind flags index n) old new
-indexed_short Function flags index n old new a = tag_appended symbol_tags full_symbol_tags no_other code_of built_kinds (indexed Function flags index n) a
-indexed_short Global flags index n old new a = tag_appended symbol_tags full_symbol_tags no_other code_of built_kinds (indexed Global flags index n) a
-indexed_short Tag flags index n old new a = unknown_appended symbol_tags full_symbol_tags no_other code_of built_kinds (indexed Tag flags index n) refl (prefixed (0x04 ∷ []) (indexed_symbol Tag)) (indexed Tag flags index n) a
-indexed_short Table flags index n old new a = tag_appended symbol_tags full_symbol_tags no_other code_of built_kinds (indexed Table flags index n) a
+pub indexed_short : (kind : SymbolKind) (flags index : ℕ) (n : Option (List ℕ)) (old new : List ℕ) → AppendsMinimal both_grammars (prefixed (kind_code kind ∷ []) (indexed_symbol kind)) (indexed kind flags index n) old new → AppendsMinimal both_grammars symbol (indexed kind flags index n) old new
+indexed_short kind flags index n old new a = known_short (indexed kind flags index n) (indexed_symbol kind) (indexed_known kind flags index n) a
 
-pub data_short : (flags : ℕ) (n : List ℕ) (d : Option DataSymbolDefinition) (old new : List ℕ) → AppendsMinimal (prefixed (0x01 ∷ []) data_symbol) (of_data flags n d) old new → AppendsMinimal symbol (of_data flags n d) old new
-data_short flags n d old new a = tag_appended symbol_tags full_symbol_tags no_other code_of built_kinds (of_data flags n d) a
+pub data_short : (flags : ℕ) (n : List ℕ) (d : Option DataSymbolDefinition) (old new : List ℕ) → AppendsMinimal both_grammars (prefixed (0x01 ∷ []) data_symbol) (of_data flags n d) old new → AppendsMinimal both_grammars symbol (of_data flags n d) old new
+data_short flags n d old new a = known_short (of_data flags n d) data_symbol (data_known flags n d) a
 
-pub section_short : (flags index : ℕ) (old new : List ℕ) → AppendsMinimal (prefixed (0x03 ∷ []) section_symbol) (of_section flags index) old new → AppendsMinimal symbol (of_section flags index) old new
-section_short flags index old new a = unknown_appended symbol_tags full_symbol_tags no_other code_of built_kinds (of_section flags index) refl (prefixed (0x03 ∷ []) section_symbol) (of_section flags index) a
+pub section_short : (flags index : ℕ) (old new : List ℕ) → AppendsMinimal both_grammars (prefixed (0x03 ∷ []) section_symbol) (of_section flags index) old new → AppendsMinimal both_grammars symbol (of_section flags index) old new
+section_short flags index old new a = known_short (of_section flags index) section_symbol (section_known flags index) a
 
 -- ---- fields of a symbol that has an encoding
 
-some_encoded : {X : Type 0} (F : Format X) (flag : Bool) (x : X) → HasEncoding (optional flag F) (Some x) → HasEncoding F x
+some_encoded : {X : Type 0} (F : Format X) (flag : Bool) (x : X) → HasEncoding both_grammars (optional flag F) (Some x) → HasEncoding both_grammars F x
 some_encoded F true x h = mapped_encoded Some F x (λ z k. cc k) h
 some_encoded F false x h = absurd (cc (h.decoded.1))
 
-pub name_encoded : (flags : ℕ) (n : List ℕ) → HasEncoding (optional (has_name flags) name) (Some n) → HasEncoding name n
+pub name_encoded : (flags : ℕ) (n : List ℕ) → HasEncoding both_grammars (optional (has_name flags) name) (Some n) → HasEncoding both_grammars name n
 name_encoded flags n h = some_encoded name (has_name flags) n h
 
-behind_encoded : (kind : SymbolKind) (flags index : ℕ) (n : Option (List ℕ)) → HasEncoding (indexed_symbol kind) (indexed kind flags index n) → HasEncoding (optional (has_name flags) name) n
+behind_encoded : (kind : SymbolKind) (flags index : ℕ) (n : Option (List ℕ)) → HasEncoding both_grammars (indexed_symbol kind) (indexed kind flags index n) → HasEncoding both_grammars (optional (has_name flags) name) n
 behind_encoded kind flags index n h =
     right_encoded u32 (optional (has_name flags) name) index n
     (mapped_encoded (indexed_of kind flags) (pair u32 (optional (has_name flags) name)) (index, n) (λ z k. ap indexed_parts k)
-    (tagged_encoded u32 (λ f. mapped (indexed_of kind f) (pair u32 (optional (has_name f) name))) flags (indexed kind flags index n) (λ s f k. ap flags_of k.1) h))
+    (tagged_encoded u32 (λ f. mapped (indexed_of kind f) (pair u32 (optional (has_name f) name))) flags (indexed kind flags index n) (λ mode s f k. ap flags_of k.1) h))
 
-pub indexed_encoded : (kind : SymbolKind) (flags index : ℕ) (n : Option (List ℕ)) → HasEncoding (prefixed (kind_code kind ∷ []) (indexed_symbol kind)) (indexed kind flags index n) → HasEncoding (optional (has_name flags) name) n
+pub indexed_encoded : (kind : SymbolKind) (flags index : ℕ) (n : Option (List ℕ)) → HasEncoding both_grammars (prefixed (kind_code kind ∷ []) (indexed_symbol kind)) (indexed kind flags index n) → HasEncoding both_grammars (optional (has_name flags) name) n
 indexed_encoded kind flags index n h = behind_encoded kind flags index n (prefixed_encoded (kind_code kind ∷ []) (indexed_symbol kind) (indexed kind flags index n) h)
 
-data_parts_encoded : (flags : ℕ) (n : List ℕ) (d : Option DataSymbolDefinition) → HasEncoding (prefixed (0x01 ∷ []) data_symbol) (of_data flags n d) → HasEncoding (pair name (optional (has_definition flags) definition)) (n, d)
+data_parts_encoded : (flags : ℕ) (n : List ℕ) (d : Option DataSymbolDefinition) → HasEncoding both_grammars (prefixed (0x01 ∷ []) data_symbol) (of_data flags n d) → HasEncoding both_grammars (pair name (optional (has_definition flags) definition)) (n, d)
 data_parts_encoded flags n d h =
     mapped_encoded (data_of flags) (pair name (optional (has_definition flags) definition)) (n, d) (λ z k. ap data_parts k)
-    (tagged_encoded u32 given flags (of_data flags n d) (λ s f k. ap flags_of k.1) (prefixed_encoded (0x01 ∷ []) data_symbol (of_data flags n d) h))
+    (tagged_encoded u32 given flags (of_data flags n d) (λ mode s f k. ap flags_of k.1) (prefixed_encoded (0x01 ∷ []) data_symbol (of_data flags n d) h))
 
-pub number_encoded : (n : ℕ) → n < 2 ^ 32 → HasEncoding u32 n
-number_encoded n h = record { bytes = unsigned_encoding n; decoded = u32_in padded n h }
+pub number_encoded : (n : ℕ) → n < 2 ^ 32 → HasEncoding both_grammars u32 n
+number_encoded n h = record { grammar = builders; included = tt; bytes = unsigned_encoding n; decoded = u32_in padded n h }
 
 -- A symbol that has an encoding has one of its kind.
-pub indexed_kind_encoded : (kind : SymbolKind) (flags index : ℕ) (n : Option (List ℕ)) → HasEncoding symbol (indexed kind flags index n) → HasEncoding (prefixed (kind_code kind ∷ []) (indexed_symbol kind)) (indexed kind flags index n)
-indexed_kind_encoded Function flags index n h = known_encoded symbol_tags full_symbol_tags no_other code_of built_kinds (indexed Function flags index n) h
-indexed_kind_encoded Global flags index n h = known_encoded symbol_tags full_symbol_tags no_other code_of built_kinds (indexed Global flags index n) h
-indexed_kind_encoded Tag flags index n h = absurd (unknown_encoded symbol_tags full_symbol_tags no_other code_of built_kinds (indexed Tag flags index n) refl h)
-indexed_kind_encoded Table flags index n h = known_encoded symbol_tags full_symbol_tags no_other code_of built_kinds (indexed Table flags index n) h
+pub indexed_kind_encoded : (kind : SymbolKind) (flags index : ℕ) (n : Option (List ℕ)) → HasEncoding both_grammars symbol (indexed kind flags index n) → HasEncoding both_grammars (prefixed (kind_code kind ∷ []) (indexed_symbol kind)) (indexed kind flags index n)
+indexed_kind_encoded kind flags index n h = known_content (indexed kind flags index n) (indexed_symbol kind) (indexed_known kind flags index n) h
 
-pub data_kind_encoded : (flags : ℕ) (n : List ℕ) (d : Option DataSymbolDefinition) → HasEncoding symbol (of_data flags n d) → HasEncoding (prefixed (0x01 ∷ []) data_symbol) (of_data flags n d)
-data_kind_encoded flags n d h = known_encoded symbol_tags full_symbol_tags no_other code_of built_kinds (of_data flags n d) h
+pub data_kind_encoded : (flags : ℕ) (n : List ℕ) (d : Option DataSymbolDefinition) → HasEncoding both_grammars symbol (of_data flags n d) → HasEncoding both_grammars (prefixed (0x01 ∷ []) data_symbol) (of_data flags n d)
+data_kind_encoded flags n d h = known_content (of_data flags n d) data_symbol (data_known flags n d) h
 
 pub ruleset short_steps = (indexed_short, data_short, section_short, indexed_kind_encoded, data_kind_encoded)
 
-pub data_name_encoded : (flags : ℕ) (n : List ℕ) (d : Option DataSymbolDefinition) → HasEncoding (prefixed (0x01 ∷ []) data_symbol) (of_data flags n d) → HasEncoding name n
+pub data_name_encoded : (flags : ℕ) (n : List ℕ) (d : Option DataSymbolDefinition) → HasEncoding both_grammars (prefixed (0x01 ∷ []) data_symbol) (of_data flags n d) → HasEncoding both_grammars name n
 data_name_encoded flags n d h = left_encoded name (optional (has_definition flags) definition) n d (data_parts_encoded flags n d h)
 
-pub data_definition_encoded : (flags : ℕ) (n : List ℕ) (d : Option DataSymbolDefinition) → HasEncoding (prefixed (0x01 ∷ []) data_symbol) (of_data flags n d) → HasEncoding (optional (has_definition flags) definition) d
+pub data_definition_encoded : (flags : ℕ) (n : List ℕ) (d : Option DataSymbolDefinition) → HasEncoding both_grammars (prefixed (0x01 ∷ []) data_symbol) (of_data flags n d) → HasEncoding both_grammars (optional (has_definition flags) definition) d
 data_definition_encoded flags n d h = right_encoded name (optional (has_definition flags) definition) n d (data_parts_encoded flags n d h)

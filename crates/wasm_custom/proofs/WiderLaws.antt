@@ -2,10 +2,10 @@
 -- the builders'.
 use Rattle.wasm_base.proofs.Words.{◌≡◌, ℕ, List, [], ◌∷◌, ◌++◌, Bool, true, false, eqb, eqb-true, refl, sym, ap, subst, ◌∙◌, Format, byte, impossible, mapped, tagged, choice, when, members, vec}
 use Rattle.wasm_base.proofs.Words.{size_prefixed, prefixed, by_mode, Mode, Grammar, minimal, padded, standard_minimal, standard, builders, admitted, padded_of, IsIncludedIn, BeginsWith, Unambiguous}
-use Rattle.wasm_base.proofs.Words.{Decodes, Rejects, AppendsMinimal, HasEncoding, byte_unambiguous, by_mode_unambiguous, tagged_decodes, tagged_none, tagged_rejects, AllDetermine, choice_determines, tagged_unambiguous}
+use Rattle.wasm_base.proofs.Words.{Decodes, Rejects, AppendsMinimal, both_grammars, HasEncoding, byte_unambiguous, by_mode_unambiguous, tagged_decodes, tagged_none, tagged_rejects, AllDetermine, DeterminesTag, choice_determines, tagged_unambiguous}
 use Rattle.wasm_base.proofs.Words.{choice_unambiguous, choice_other, IsOther, tagged_encodes, is_admitted, minimal_of}
 use Rattle.wasm_base.specs.Minimal.{Minimizes}
-use Rattle.wasm_base.proofs.FormatLaws.{AllUnambiguous}
+use Rattle.wasm_base.proofs.FormatLaws.{AllUnambiguous, Determines}
 use Rattle.wasm_base.proofs.MinimizeLaws.{minimized_as, appended_then}
 
 -- ---- encodings of one format that another one has too
@@ -83,6 +83,45 @@ pub within_wider : {X : Type 0} (F G : Format X) (w : Grammar) → IsIncludedIn 
 within_wider F G builders s x h = h
 within_wider F G admitted s x h = h
 
+-- ---- a value after its tag
+
+module _ {X : Type 0} (tag : X → ℕ) (G : ℕ → Format X) where
+  -- An encoding begins with the tag of its value.
+  begins_with_tag : DeterminesTag G tag → (mode : Mode) (s : List ℕ) (x : X) → tagged byte G mode s x → prefixed (tag x ∷ []) (G (tag x)) mode s x
+  begins_with_tag tells mode s x h =
+      let back : G h.0.0 mode h.2.back x = subst (λ y. G h.0.0 mode h.2.back y) h.1 h.2.second in
+      let same : h.0.0 ≡ tag x = tells mode h.0.0 h.2.back x back in (
+        (tt, x),
+        refl,
+        record {
+          front = tag x ∷ [];
+          back = h.2.back;
+          joined = h.2.joined ∙ ap (λ z. z ++ h.2.back) (h.2.first ∙ ap (λ b. b ∷ []) same);
+          first = (refl, refl);
+          second = subst (λ b. G b mode h.2.back x) same back;
+        },
+      )
+
+  with_tag : (mode : Mode) (s : List ℕ) (x : X) → prefixed (tag x ∷ []) (G (tag x)) mode s x → tagged byte G mode s x
+  with_tag mode s x k = ((tag x, x), refl, record { front = tag x ∷ []; back = k.2.back; joined = k.2.joined ∙ ap (λ z. z ++ k.2.back) k.2.first.0; first = refl; second = subst (λ y. G (tag x) mode k.2.back y) k.1 k.2.second })
+
+-- Another format after the same bytes.
+behind_prefix : {mode : Mode} {X : Type 0} (head : List ℕ) (F G : Format X) (x : X) → ((s : List ℕ) → F mode s x → G mode s x) → {s : List ℕ} → prefixed head F mode s x → prefixed head G mode s x
+behind_prefix {mode = mode} head F G x f k = ((tt, x), refl, record { front = k.2.front; back = k.2.back; joined = k.2.joined; first = k.2.first; second = f k.2.back (subst (λ y. F mode k.2.back y) k.1 k.2.second) })
+
+-- No format of the list encodes the value.
+abbrev pub AllLack : {X : Type 0} → X → List (ℕ × Format X) → Type 0
+AllLack x [] = Unit {0}
+AllLack x (c ∷ cs) = ((mode : Mode) (s : List ℕ) → c.1 mode s x → ⊥) × AllLack x cs
+
+choice_lacks : {X : Type 0} (cs : List (ℕ × Format X)) (other : ℕ → Format X) (b : ℕ) (mode : Mode) (s : List ℕ) (x : X) → AllLack x cs → choice cs other b mode s x → choice cs other b ≡ other b
+choice_lacks [] other b mode s x all h = refl
+choice_lacks {X} (c ∷ cs) other b mode s x all h = go (choice_lacks cs other b mode s x all.1) (eqb b c.0) h
+  where
+    go : (choice cs other b mode s x → choice cs other b ≡ other b) → (test : Bool) → when test c.1 (choice cs other b) mode s x → when test c.1 (choice cs other b) ≡ other b
+    go more true k = absurd (all.0 mode s k)
+    go more false k = more k
+
 -- ---- formats by a tag, of which the standard's grammar has more
 
 module _ {X : Type 0} (cs ds : List (ℕ × Format X)) (other : ℕ → Format X) where
@@ -150,40 +189,78 @@ module _ {X : Type 0} (cs ds : List (ℕ × Format X)) (other : ℕ → Format X
     other_minimizes w {bytes = bytes} {last = last} {old = old} {middle = middle} {new = new} f h a m =
         minimized_as w by_tag m.value bytes last old new (b ∷ m.encoding) (other_is w f h m.decoded) (other_encodes w m.encoding m.value f m.encodes) (appended_then (b ∷ []) m.encoding old middle new a m.appended)
 
-  -- ---- the one minimal encoding of decoded values, in the builders' grammar
+  -- ---- the one minimal encoding of a decoded value
 
-  module _ (tag : X → ℕ) (tells : AllDetermine tag cs) (x : X) where
-    -- An encoding of a value begins with its tag.
-    in_tag : (s : List ℕ) → by_tag padded s x → prefixed (tag x ∷ []) (choice cs (λ c. impossible) (tag x)) padded s x
-    in_tag s h =
-        let back : choice cs (λ c. impossible) h.0.0 padded h.2.back x = subst (λ y. choice cs (λ c. impossible) h.0.0 padded h.2.back y) h.1 h.2.second in
-        let same : h.0.0 ≡ tag x = choice_determines tag cs (λ c. impossible) tells (λ b mode s x h. absurd h) padded h.0.0 h.2.back x back in (
-          (tt, x),
-          refl,
-          record {
-            front = tag x ∷ [];
-            back = h.2.back;
-            joined = h.2.joined ∙ ap (λ z. z ++ h.2.back) (h.2.first ∙ ap (λ b. b ∷ []) same);
-            first = (refl, refl);
-            second = subst (λ b. choice cs (λ c. impossible) b padded h.2.back x) same back;
-          },
-        )
+  module _ (tag : X → ℕ) (tells : AllDetermine tag cs) (tells_more : AllDetermine tag ds) (tells_other : (b : ℕ) → Determines tag b (other b)) (x : X) where
+    -- The format after the tag of the value.
+    abbrev after_its : Grammar → Format X
+    after_its w = after_tag w (tag x)
 
-    pub tag_appended : {old new : List ℕ} → AppendsMinimal (prefixed (tag x ∷ []) (choice cs (λ c. impossible) (tag x))) x old new → AppendsMinimal by_tag x old new
-    tag_appended a = record {
-      encoding = a.encoding;
-      appended = a.appended;
-      encodes = λ s h.
-          let k = a.encodes s (in_tag s h) in
-          ((tag x, x), refl, record { front = tag x ∷ []; back = k.2.back; joined = k.2.joined ∙ ap (λ z. z ++ k.2.back) k.2.first.0; first = refl; second = subst (λ y. choice cs (λ c. impossible) (tag x) minimal k.2.back y) k.1 k.2.second });
-    }
+    -- An encoding of the value begins with its tag.
+    in_tag : (w : Grammar) (s : List ℕ) → by_tag (padded_of w) s x → prefixed (tag x ∷ []) (after_its w) (padded_of w) s x
+    in_tag builders s h = begins_with_tag tag (choice cs (λ c. impossible)) (choice_determines tag cs (λ c. impossible) tells (λ b mode s x h. absurd h)) padded s x h
+    in_tag admitted s h = begins_with_tag tag (choice ds other) (choice_determines tag ds other tells_more tells_other) standard s x h
 
-    pub known_encoded : HasEncoding by_tag x → HasEncoding (prefixed (tag x ∷ []) (choice cs (λ c. impossible) (tag x))) x
-    known_encoded h = record { bytes = h.bytes; decoded = in_tag h.bytes h.decoded }
+    at_tag : (w : Grammar) (s : List ℕ) → prefixed (tag x ∷ []) (after_its w) (minimal_of w) s x → by_tag (minimal_of w) s x
+    at_tag builders s h = with_tag tag (choice cs (λ c. impossible)) minimal s x h
+    at_tag admitted s h = with_tag tag (choice ds other) standard_minimal s x h
 
-    -- A value whose tag the grammar lacks has no encoding.
-    pub unknown_encoded : choice cs (λ c. impossible) (tag x) ≡ impossible → HasEncoding by_tag x → ⊥
-    unknown_encoded e h = let k = in_tag h.bytes h.decoded in subst (λ F. F padded k.2.back k.0.1) e k.2.second
+    -- A format that has the encodings of the value after its tag.
+    module _ (F : Format X) (within : (w : Grammar) (s : List ℕ) → after_its w (padded_of w) s x → F (padded_of w) s x) where
+      in_content : (w : Grammar) (s : List ℕ) → by_tag (padded_of w) s x → prefixed (tag x ∷ []) F (padded_of w) s x
+      in_content w s h = behind_prefix (tag x ∷ []) (after_its w) F x (within w) (in_tag w s h)
 
-    pub unknown_appended : choice cs (λ c. impossible) (tag x) ≡ impossible → {Y : Type 0} (F : Format Y) (y : Y) {old new : List ℕ} → AppendsMinimal F y old new → AppendsMinimal by_tag x old new
-    unknown_appended e F y a = record { encoding = a.encoding; appended = a.appended; encodes = λ s h. absurd (unknown_encoded e (record { bytes = s; decoded = h })) }
+      pub tag_encoded : HasEncoding both_grammars by_tag x → HasEncoding both_grammars (prefixed (tag x ∷ []) F) x
+      tag_encoded h = record { grammar = h.grammar; included = tt; bytes = h.bytes; decoded = in_content h.grammar h.bytes h.decoded }
+
+      pub tag_appended : ((w : Grammar) (u s : List ℕ) → after_its w (padded_of w) u x → F (minimal_of w) s x → after_its w (minimal_of w) s x) → {old new : List ℕ} → AppendsMinimal both_grammars (prefixed (tag x ∷ []) F) x old new → AppendsMinimal both_grammars by_tag x old new
+      tag_appended short a = record {
+        encoding = a.encoding;
+        appended = a.appended;
+        encodes = λ w q s h.
+            let d = in_tag w s h in
+            let padded_content = subst (λ y. after_its w (padded_of w) d.2.back y) d.1 d.2.second in
+            at_tag w a.encoding (behind_prefix (tag x ∷ []) F (after_its w) x (λ u k. short w d.2.back u padded_content k) (a.encodes w q s (in_content w s h)));
+      }
+
+    -- In each grammar that has an encoding of the value, `F` is the format after its tag.
+    abbrev pub IsAfterTag : Format X → Type 1
+    IsAfterTag F = (w : Grammar) (s : List ℕ) → after_its w (padded_of w) s x → after_its w ≡ F
+
+    pub known_encoded : (F : Format X) → IsAfterTag F → HasEncoding both_grammars by_tag x → HasEncoding both_grammars (prefixed (tag x ∷ []) F) x
+    known_encoded F known h = tag_encoded F (λ w s k. subst (λ G. G (padded_of w) s x) (known w s k) k) h
+
+    pub known_appended : (F : Format X) → IsAfterTag F → {old new : List ℕ} → AppendsMinimal both_grammars (prefixed (tag x ∷ []) F) x old new → AppendsMinimal both_grammars by_tag x old new
+    known_appended F known a = tag_appended F (λ w s k. subst (λ G. G (padded_of w) s x) (known w s k) k) (λ w u s k g. subst (λ G. G (minimal_of w) s x) (sym (known w u k)) g) a
+
+    pub in_each : (F : Format X) → choice cs (λ c. impossible) (tag x) ≡ F → choice ds other (tag x) ≡ F → IsAfterTag F
+    in_each F e f builders s h = e
+    in_each F e f admitted s h = f
+
+    pub in_standard : (F : Format X) → choice cs (λ c. impossible) (tag x) ≡ impossible → choice ds other (tag x) ≡ F → IsAfterTag F
+    in_standard F e f builders s h = absurd (subst (λ G. G padded s x) e h)
+    in_standard F e f admitted s h = f
+
+    -- No format of the lists has the value.
+    pub in_others : AllLack x cs → AllLack x ds → IsAfterTag (other (tag x))
+    in_others lack more builders s h = absurd (subst (λ G. G padded s x) (choice_lacks cs (λ c. impossible) (tag x) padded s x lack h) h)
+    in_others lack more admitted s h = choice_lacks ds other (tag x) standard s x more h
+
+-- A value after fixed bytes, and its image by an injective function.
+module _ {X Y : Type 0} (f : X → Y) (apart : (x z : X) → f z ≡ f x → z ≡ x) (head : List ℕ) (F : Format X) (x : X) where
+  of_image : (mode : Mode) (s : List ℕ) → prefixed head (mapped f F) mode s (f x) → prefixed head F mode s x
+  of_image mode s h =
+      let y : mapped f F mode h.2.back (f x) = subst (λ y. mapped f F mode h.2.back y) h.1 h.2.second in
+      ((tt, x), refl, record { front = h.2.front; back = h.2.back; joined = h.2.joined; first = h.2.first; second = subst (λ z. F mode h.2.back z) (apart x y.0 y.1) y.2 })
+
+  pub content_appended : {old new : List ℕ} → AppendsMinimal both_grammars (prefixed head F) x old new → AppendsMinimal both_grammars (prefixed head (mapped f F)) (f x) old new
+  content_appended a = record {
+    encoding = a.encoding;
+    appended = a.appended;
+    encodes = λ w q s h.
+        let k = a.encodes w q s (of_image (padded_of w) s h) in
+        ((tt, f x), refl, record { front = k.2.front; back = k.2.back; joined = k.2.joined; first = k.2.first; second = (k.0.1, ap f k.1, k.2.second) });
+  }
+
+  pub content_of : HasEncoding both_grammars (prefixed head (mapped f F)) (f x) → HasEncoding both_grammars (prefixed head F) x
+  content_of h = record { grammar = h.grammar; included = tt; bytes = h.bytes; decoded = of_image (padded_of h.grammar) h.bytes h.decoded }

@@ -1,5 +1,5 @@
 // Checks that payloads of custom sections decode. No item is kept.
-ghost use Rattle.std.specs.Prelude.{◌≢◌, List, ℕ, IfErr, OnOk};
+ghost use Rattle.std.specs.Prelude.{◌≡◌, ◌≢◌, List, ℕ, IfErr, OnOk};
 ghost use Rattle.wasm_base.specs.Continuing.{RejectsWhole};
 ghost use Rattle.wasm_base.specs.Numbers.{padded_of};
 ghost use Rattle.wasm_base.specs.declared.fault.ReadFault.TheVariants.{Memory};
@@ -37,6 +37,7 @@ fn check_counted<'a, P: Skip<'a, A, G>, A: Allocator + Copy, G: Grammar>(
 ) -> Result<(), DecodeError>
     ensures found { OnOk result ((xs : List P.Value) × counted_payload name.now P.format (padded_of G.grammar) bytes.now xs) }
     ensures none { IfErr result (λ e. e.cause ≢ Memory → RejectsWhole (counted_payload name.now P.format) (padded_of G.grammar) bytes.now) }
+    ensures no_memory { IfErr result (λ e. e.cause ≡ Memory → P.may_allocate) }
 {
     let rest = after_name::<A, G>(name, bytes, alloc)?;
     check_whole::<'a, Vec<P>, A, G>(rest, alloc)?;
@@ -51,13 +52,14 @@ fn check_counted<'a, P: Skip<'a, A, G>, A: Allocator + Copy, G: Grammar>(
 ///
 /// # Errors
 ///
-/// Any error but `Memory` means that the bytes are not such a payload.
+/// An error means that the bytes are not such a payload.
 pub fn check_names<'a, A: Allocator + Copy, G: Grammar>(
     bytes: &'a [u8],
     alloc: A,
 ) -> Result<(), DecodeError>
     ensures found { OnOk result ((x : List NameModel) × name_payload (padded_of G.grammar) bytes.now x) }
     ensures none { IfErr result (λ e. e.cause ≢ Memory → RejectsWhole name_payload (padded_of G.grammar) bytes.now) }
+    ensures no_memory { IfErr result (λ e. e.cause ≢ Memory) }
 {
     let rest = after_name::<A, G>("name", bytes, alloc)?;
     check_to_end::<'a, NameItem<'a, A>, A, G>(rest, alloc)?;
@@ -72,7 +74,7 @@ pub fn check_names<'a, A: Allocator + Copy, G: Grammar>(
 ///
 /// # Errors
 ///
-/// Any error but `Memory` means that the bytes are not such a payload.
+/// An error means that the bytes are not such a payload.
 #[tactic(auto, using(crate::proofs::LinkLaws::section_steps))]
 pub fn check_links<'a, A: Allocator + Copy, G: Grammar>(
     bytes: &'a [u8],
@@ -80,6 +82,7 @@ pub fn check_links<'a, A: Allocator + Copy, G: Grammar>(
 ) -> Result<(), DecodeError>
     ensures found { OnOk result ((x : List LinkModel) × linking_payload (padded_of G.grammar) bytes.now x) }
     ensures none { IfErr result (λ e. e.cause ≢ Memory → RejectsWhole linking_payload (padded_of G.grammar) bytes.now) }
+    ensures no_memory { IfErr result (λ e. e.cause ≢ Memory) }
 {
     let rest = after_name::<A, G>("linking", bytes, alloc)?;
     let rest = after_version::<A, G>(rest, alloc)?;
@@ -96,13 +99,14 @@ pub fn check_links<'a, A: Allocator + Copy, G: Grammar>(
 ///
 /// # Errors
 ///
-/// Any error but `Memory` means that the bytes are not such a payload.
+/// An error means that the bytes are not such a payload.
 pub fn check_dylink<'a, A: Allocator + Copy, G: Grammar>(
     bytes: &'a [u8],
     alloc: A,
 ) -> Result<(), DecodeError>
     ensures found { OnOk result ((x : List DylinkModel) × dylink_payload (padded_of G.grammar) bytes.now x) }
     ensures none { IfErr result (λ e. e.cause ≢ Memory → RejectsWhole dylink_payload (padded_of G.grammar) bytes.now) }
+    ensures no_memory { IfErr result (λ e. e.cause ≢ Memory) }
 {
     let rest = after_name::<A, G>("dylink.0", bytes, alloc)?;
     check_to_end::<'a, DylinkItem<'a, A>, A, G>(rest, alloc)?;
@@ -118,13 +122,14 @@ pub fn check_dylink<'a, A: Allocator + Copy, G: Grammar>(
 ///
 /// # Errors
 ///
-/// Any error but `Memory` means that the bytes are not such a payload.
+/// An error means that the bytes are not such a payload.
 pub fn check_producers<'a, A: Allocator + Copy, G: Grammar>(
     bytes: &'a [u8],
     alloc: A,
 ) -> Result<(), DecodeError>
     ensures found { OnOk result ((x : List Field) × producers_payload (padded_of G.grammar) bytes.now x) }
     ensures none { IfErr result (λ e. e.cause ≢ Memory → RejectsWhole producers_payload (padded_of G.grammar) bytes.now) }
+    ensures no_memory { IfErr result (λ e. e.cause ≢ Memory) }
 {
     check_counted::<(Dropped<&'a str>, Vec<Dropped<(&'a str, &'a str)>>), A, G>(
         "producers",
@@ -142,13 +147,14 @@ pub fn check_producers<'a, A: Allocator + Copy, G: Grammar>(
 ///
 /// # Errors
 ///
-/// Any error but `Memory` means that the bytes are not such a payload.
+/// An error means that the bytes are not such a payload.
 pub fn check_features<'a, A: Allocator + Copy, G: Grammar>(
     bytes: &'a [u8],
     alloc: A,
 ) -> Result<(), DecodeError>
     ensures found { OnOk result ((x : List Feature) × features_payload (padded_of G.grammar) bytes.now x) }
     ensures none { IfErr result (λ e. e.cause ≢ Memory → RejectsWhole features_payload (padded_of G.grammar) bytes.now) }
+    ensures no_memory { IfErr result (λ e. e.cause ≢ Memory) }
 {
     check_counted::<Dropped<(FeaturePrefix, &'a str)>, A, G>("target_features", bytes, alloc)
 }
@@ -162,13 +168,14 @@ pub fn check_features<'a, A: Allocator + Copy, G: Grammar>(
 ///
 /// # Errors
 ///
-/// Any error but `Memory` means that the bytes are not such a payload.
+/// An error means that the bytes are not such a payload.
 pub fn check_hints<'a, A: Allocator + Copy, G: Grammar>(
     bytes: &'a [u8],
     alloc: A,
 ) -> Result<(), DecodeError>
     ensures found { OnOk result ((x : List Hints) × hints_payload (padded_of G.grammar) bytes.now x) }
     ensures none { IfErr result (λ e. e.cause ≢ Memory → RejectsWhole hints_payload (padded_of G.grammar) bytes.now) }
+    ensures no_memory { IfErr result (λ e. e.cause ≢ Memory) }
 {
     check_counted::<(Dropped<u32>, Vec<Dropped<BranchHint>>), A, G>(
         "metadata.code.branch_hint",
@@ -186,7 +193,7 @@ pub fn check_hints<'a, A: Allocator + Copy, G: Grammar>(
 ///
 /// # Errors
 ///
-/// Any error but `Memory` means that the bytes are not such a payload.
+/// An error means that the bytes are not such a payload.
 #[tactic(auto, using(crate::proofs::RelocationLaws::section_steps))]
 pub fn check_relocations<'a, A: Allocator + Copy, G: Grammar>(
     bytes: &'a [u8],
@@ -194,6 +201,7 @@ pub fn check_relocations<'a, A: Allocator + Copy, G: Grammar>(
 ) -> Result<(), DecodeError>
     ensures found { OnOk result ((x : Relocations) × relocations_payload (padded_of G.grammar) bytes.now x) }
     ensures none { IfErr result (λ e. e.cause ≢ Memory → RejectsWhole relocations_payload (padded_of G.grammar) bytes.now) }
+    ensures no_memory { IfErr result (λ e. e.cause ≢ Memory) }
 {
     let (name, rest) = <&'a str as Readable<'a, A, G>>::read(bytes, alloc)?;
     if !name.as_bytes().starts_with(b"reloc.") {
@@ -212,13 +220,14 @@ pub fn check_relocations<'a, A: Allocator + Copy, G: Grammar>(
 ///
 /// # Errors
 ///
-/// Any error but `Memory` means that the bytes are not such a payload.
+/// An error means that the bytes are not such a payload.
 pub fn check_modules<'a, A: Allocator + Copy, G: Grammar>(
     bytes: &'a [u8],
     alloc: A,
 ) -> Result<(), DecodeError>
     ensures found { OnOk result ((x : List (List ℕ)) × modules_payload (padded_of G.grammar) bytes.now x) }
     ensures none { IfErr result (λ e. e.cause ≢ Memory → RejectsWhole modules_payload (padded_of G.grammar) bytes.now) }
+    ensures no_memory { IfErr result (λ e. e.cause ≢ Memory) }
 {
     check_counted::<Dropped<MarkedName<'a>>, A, G>("coremodules", bytes, alloc)
 }
@@ -232,13 +241,14 @@ pub fn check_modules<'a, A: Allocator + Copy, G: Grammar>(
 ///
 /// # Errors
 ///
-/// Any error but `Memory` means that the bytes are not such a payload.
+/// An error means that the bytes are not such a payload.
 pub fn check_instances<'a, A: Allocator + Copy, G: Grammar>(
     bytes: &'a [u8],
     alloc: A,
 ) -> Result<(), DecodeError>
     ensures found { OnOk result ((x : List Instance) × instances_payload (padded_of G.grammar) bytes.now x) }
     ensures none { IfErr result (λ e. e.cause ≢ Memory → RejectsWhole instances_payload (padded_of G.grammar) bytes.now) }
+    ensures no_memory { IfErr result (λ e. e.cause ≢ Memory) }
 {
     check_counted::<CoreInstance<A>, A, G>("coreinstances", bytes, alloc)
 }
@@ -252,13 +262,14 @@ pub fn check_instances<'a, A: Allocator + Copy, G: Grammar>(
 ///
 /// # Errors
 ///
-/// Any error but `Memory` means that the bytes are not such a payload.
+/// An error means that the bytes are not such a payload.
 pub fn check_stack<'a, A: Allocator + Copy, G: Grammar>(
     bytes: &'a [u8],
     alloc: A,
 ) -> Result<(), DecodeError>
     ensures found { OnOk result ((x : List ℕ × List StackFrame) × stack_payload (padded_of G.grammar) bytes.now x) }
     ensures none { IfErr result (λ e. e.cause ≢ Memory → RejectsWhole stack_payload (padded_of G.grammar) bytes.now) }
+    ensures no_memory { IfErr result (λ e. e.cause ≢ Memory) }
 {
     let rest = after_name::<A, G>("corestack", bytes, alloc)?;
     check_whole::<'a, (Dropped<MarkedName<'a>>, Vec<CoreFrame<A>>), A, G>(rest, alloc)?;

@@ -7,6 +7,7 @@ ghost use Rattle.wasm_base.specs.Numbers.{unsigned_encoding};
 ghost use Rattle.wasm_custom.specs.Comdats.{comdat_symbol_encoding, IsComdatSymbol, comdat_symbol, Comdat as ComdatModel, comdat_encoding, IsComdat, comdat, comdat_view};
 ghost use Rattle.wasm_custom.specs.Lists.{list_encoding};
 ghost use Rattle.wasm_custom.specs.declared.comdats.ComdatSymbol.{ComdatSymbol as ComdatSymbolModel};
+ghost use Rattle.wasm_base.specs.Minimal.{both_grammars};
 
 use crate::lists::{CountedList, ListKind};
 use std::alloc::{Allocator, Global};
@@ -109,6 +110,8 @@ impl Layout for ComdatSymbol {
 }
 
 impl<'a, A: Allocator + Copy, G: Grammar> Readable<'a, A, G> for ComdatSymbol {
+    ghost may_allocate = { ⊥ };
+
     #[tactic(auto, using(crate::proofs::ComdatLaws::comdat_symbol_steps))]
     fn read(bytes: &'a [u8], alloc: A) -> Result<(ComdatSymbol, &'a [u8]), DecodeError> {
         let ((kind, index), rest) = <(u8, u32) as Readable<'a, A, G>>::read(bytes, alloc)?;
@@ -117,6 +120,8 @@ impl<'a, A: Allocator + Copy, G: Grammar> Readable<'a, A, G> for ComdatSymbol {
 }
 
 impl Shorten for ComdatSymbol {
+    ghost grammars = { both_grammars };
+
     #[tactic(auto, using(crate::proofs::ComdatLaws::comdat_symbol_appended))]
     fn write_minimal<B: Allocator>(&self, sink: &mut Vec<u8, B>) -> Result<()> {
         self.kind.encode(sink)?;
@@ -165,6 +170,8 @@ impl<'a, A: Allocator + Copy + 'a, G: Grammar> Readable<'a, A, G> for Comdat<'a,
 }
 
 impl<'a, A: Allocator> Shorten for Comdat<'a, A> {
+    ghost grammars = { both_grammars };
+
     #[tactic(auto, using(crate::proofs::ComdatLaws::comdat_appended, crate::proofs::ComdatLaws::comdat_name_encoded, crate::proofs::ComdatLaws::comdat_symbols_encoded))]
     fn write_minimal<B: Allocator>(&self, sink: &mut Vec<u8, B>) -> Result<()> {
         self.name.write_minimal(sink)?;

@@ -13,7 +13,7 @@ ghost use Rattle.wasm_custom.specs.Adding.{AddsTwoLists};
 ghost use Rattle.wasm_custom.specs.CoreDumps.{instance_items, module_items, marked_encoding, core_name, core_section, SaysProcess, marked_name, modules_name, Instance, instance, instances_name, instance_view, core_payload, modules_payload, instances_payload};
 ghost use Rattle.wasm_custom.specs.Customs.{named_encoding, IsEncodableNamed};
 ghost use Rattle.wasm_custom.specs.Entries.{entries_encoding};
-ghost use Rattle.wasm_base.specs.Minimal.{AppendsMinimal, IsFrontOf, HasEncoding};
+ghost use Rattle.wasm_base.specs.Minimal.{AppendsMinimal, IsFrontOf, HasEncoding, both_grammars};
 ghost use Rattle.wasm_base.specs.declared.fault.ReadFault.TheVariants.{Memory};
 
 use crate::counted::{DecodesItems, ItemsAs, append_counted, read_counted};
@@ -269,7 +269,7 @@ impl<A: Allocator> CoreDumpInstancesSection<A> {
 ///
 /// # Errors
 ///
-/// Any error but `Memory` means that the bytes are not such a payload.
+/// An error means that the bytes are not such a payload.
 #[tactic(auto, using(crate::proofs::CoreDumpLaws::process_steps))]
 pub fn read_process<'a, A: Allocator + Copy, G: Grammar>(
     bytes: &'a [u8],
@@ -277,6 +277,7 @@ pub fn read_process<'a, A: Allocator + Copy, G: Grammar>(
 ) -> Result<&'a str, DecodeError>
     ensures found { IfOk result (λ x. core_payload (padded_of G.grammar) bytes.now x.now) }
     ensures none { IfErr result (λ e. e.cause ≢ Memory → RejectsWhole core_payload (padded_of G.grammar) bytes.now) }
+    ensures no_memory { IfErr result (λ e. e.cause ≢ Memory) }
 {
     let rest = after_name::<A, G>("core", bytes, alloc)?;
     let MarkedName(name) = read_whole::<'a, MarkedName<'a>, A, G>(rest, alloc)?;
@@ -405,9 +406,9 @@ pub fn read_instances<'a, A: Allocator + Copy, G: Grammar>(
 /// Appends the byte 00 and a name.
 #[tactic(auto, using(crate::proofs::CoreDumpLaws::marked_appended, crate::proofs::CoreDumpLaws::marked_encoded))]
 pub(crate) fn append_marked<B: Allocator>(name: &str, sink: &mut Vec<u8, B>) -> Result<()>
-    ensures ok { OnOk result (AppendsMinimal marked_name name.now sink.old.items sink.new.items) }
+    ensures ok { OnOk result (AppendsMinimal both_grammars marked_name name.now sink.old.items sink.new.items) }
     ensures front { IsFrontOf sink.old.items sink.new.items }
-    ensures too_long { HasEncoding marked_name name.now → result ≢ Err TooLong }
+    ensures too_long { HasEncoding both_grammars marked_name name.now → result ≢ Err TooLong }
 {
     0x00u8.encode(sink)?;
     name.write_minimal(sink)
@@ -417,9 +418,9 @@ pub(crate) fn append_marked<B: Allocator>(name: &str, sink: &mut Vec<u8, B>) -> 
 /// old bytes.
 #[tactic(auto, using(crate::proofs::CoreDumpLaws::process_appended, crate::proofs::CoreDumpLaws::process_encoded))]
 fn write_process<B: Allocator>(name: &str, sink: &mut Vec<u8, B>) -> Result<()>
-    ensures ok { OnOk result (AppendsMinimal core_payload name.now sink.old.items sink.new.items) }
+    ensures ok { OnOk result (AppendsMinimal both_grammars core_payload name.now sink.old.items sink.new.items) }
     ensures front { IsFrontOf sink.old.items sink.new.items }
-    ensures too_long { HasEncoding core_payload name.now → result ≢ Err TooLong }
+    ensures too_long { HasEncoding both_grammars core_payload name.now → result ≢ Err TooLong }
 {
     "core".encode(sink)?;
     append_marked(name, sink)
@@ -428,9 +429,9 @@ fn write_process<B: Allocator>(name: &str, sink: &mut Vec<u8, B>) -> Result<()>
 /// Appends the minimal encoding of the payload of the section of this process. On an error, the
 /// sink is unchanged.
 pub fn append_process<B: Allocator>(name: &str, sink: &mut Vec<u8, B>) -> Result<()>
-    ensures ok { OnOk result (AppendsMinimal core_payload name.now sink.old.items sink.new.items) }
+    ensures ok { OnOk result (AppendsMinimal both_grammars core_payload name.now sink.old.items sink.new.items) }
     ensures err { OnErr result (sink.new.items ≡ sink.old.items) }
-    ensures too_long { HasEncoding core_payload name.now → result ≢ Err TooLong }
+    ensures too_long { HasEncoding both_grammars core_payload name.now → result ≢ Err TooLong }
 {
     let start = sink.len();
     let written = write_process(name, sink);
@@ -443,9 +444,9 @@ pub fn append_process<B: Allocator>(name: &str, sink: &mut Vec<u8, B>) -> Result
 /// Appends the minimal encoding of the payload of a section of these modules. On an error, the sink
 /// is unchanged.
 pub fn append_modules<B: Allocator>(names: &[&str], sink: &mut Vec<u8, B>) -> Result<()>
-    ensures ok { OnOk result (AppendsMinimal modules_payload (map (λ n. n.now) names.now) sink.old.items sink.new.items) }
+    ensures ok { OnOk result (AppendsMinimal both_grammars modules_payload (map (λ n. n.now) names.now) sink.old.items sink.new.items) }
     ensures err { OnErr result (sink.new.items ≡ sink.old.items) }
-    ensures too_long { HasEncoding modules_payload (map (λ n. n.now) names.now) → result ≢ Err TooLong }
+    ensures too_long { HasEncoding both_grammars modules_payload (map (λ n. n.now) names.now) → result ≢ Err TooLong }
 {
     append_counted::<ModuleItems, &str, _>(names, sink)
 }
@@ -456,9 +457,9 @@ pub fn append_instances<A: Allocator, B: Allocator>(
     instances: &[(u32, Vec<u32, A>, Vec<u32, A>)],
     sink: &mut Vec<u8, B>,
 ) -> Result<()>
-    ensures ok { OnOk result (AppendsMinimal instances_payload (map instance_view instances.now) sink.old.items sink.new.items) }
+    ensures ok { OnOk result (AppendsMinimal both_grammars instances_payload (map instance_view instances.now) sink.old.items sink.new.items) }
     ensures err { OnErr result (sink.new.items ≡ sink.old.items) }
-    ensures too_long { HasEncoding instances_payload (map instance_view instances.now) → result ≢ Err TooLong }
+    ensures too_long { HasEncoding both_grammars instances_payload (map instance_view instances.now) → result ≢ Err TooLong }
 {
     append_counted::<InstanceItems, (u32, Vec<u32, A>, Vec<u32, A>), _>(instances, sink)
 }

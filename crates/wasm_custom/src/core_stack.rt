@@ -13,7 +13,7 @@ ghost use Rattle.wasm_custom.specs.CoreStacks.{stack_name, stack_section, SaysSt
 ghost use Rattle.wasm_custom.specs.CoreValues.{value_encoding};
 ghost use Rattle.wasm_custom.specs.Customs.{named_encoding, IsEncodableNamed};
 ghost use Rattle.wasm_custom.specs.Entries.{entries_encoding};
-ghost use Rattle.wasm_base.specs.Minimal.{AppendsMinimal, IsFrontOf, HasEncoding};
+ghost use Rattle.wasm_base.specs.Minimal.{AppendsMinimal, IsFrontOf, HasEncoding, both_grammars};
 ghost use Rattle.wasm_base.specs.declared.fault.ReadFault.TheVariants.{Memory};
 
 use crate::core_dumps::append_marked;
@@ -223,6 +223,8 @@ pub fn read_stack<'a, A: Allocator + Copy, G: Grammar>(
 }
 
 impl<A: Allocator> Shorten for CoreFrame<A> {
+    ghost grammars = { both_grammars };
+
     #[tactic(auto, using(crate::proofs::CoreStackLaws::frame_appended, crate::proofs::CoreStackLaws::locals_encodable, crate::proofs::CoreStackLaws::stack_encodable))]
     fn write_minimal<B: Allocator>(&self, sink: &mut Vec<u8, B>) -> Result<()> {
         0x00u8.encode(sink)?;
@@ -242,9 +244,9 @@ fn write_stack<A: Allocator, B: Allocator>(
     frames: &Vec<CoreFrame<A>, A>,
     sink: &mut Vec<u8, B>,
 ) -> Result<()>
-    ensures ok { OnOk result (AppendsMinimal stack_payload (thread.now, map stack_frame_view frames.now.items) sink.old.items sink.new.items) }
+    ensures ok { OnOk result (AppendsMinimal both_grammars stack_payload (thread.now, map stack_frame_view frames.now.items) sink.old.items sink.new.items) }
     ensures front { IsFrontOf sink.old.items sink.new.items }
-    ensures too_long { HasEncoding stack_payload (thread.now, map stack_frame_view frames.now.items) → result ≢ Err TooLong }
+    ensures too_long { HasEncoding both_grammars stack_payload (thread.now, map stack_frame_view frames.now.items) → result ≢ Err TooLong }
 {
     "corestack".encode(sink)?;
     append_marked(thread, sink)?;
@@ -258,9 +260,9 @@ pub fn append_stack<A: Allocator, B: Allocator>(
     frames: &Vec<CoreFrame<A>, A>,
     sink: &mut Vec<u8, B>,
 ) -> Result<()>
-    ensures ok { OnOk result (AppendsMinimal stack_payload (thread.now, map stack_frame_view frames.now.items) sink.old.items sink.new.items) }
+    ensures ok { OnOk result (AppendsMinimal both_grammars stack_payload (thread.now, map stack_frame_view frames.now.items) sink.old.items sink.new.items) }
     ensures err { OnErr result (sink.new.items ≡ sink.old.items) }
-    ensures too_long { HasEncoding stack_payload (thread.now, map stack_frame_view frames.now.items) → result ≢ Err TooLong }
+    ensures too_long { HasEncoding both_grammars stack_payload (thread.now, map stack_frame_view frames.now.items) → result ≢ Err TooLong }
 {
     let start = sink.len();
     let written = write_stack(thread, frames, sink);

@@ -46,6 +46,8 @@ impl Layout for CoreDumpValue {
 }
 
 impl<'a, A: Allocator + Copy, G: Grammar> Readable<'a, A, G> for CoreDumpValue {
+    ghost may_allocate = { ⊥ };
+
     #[tactic(auto, using(crate::proofs::CoreStackLaws::value_steps))]
     fn read(bytes: &'a [u8], alloc: A) -> Result<(CoreDumpValue, &'a [u8]), DecodeError> {
         let (tag, rest) = <u8 as Readable<'a, A, G>>::read(bytes, alloc)?;

@@ -6,7 +6,7 @@ ghost use Rattle.wasm_base.specs.Numbers.{Mode, padded_of};
 ghost use Rattle.wasm_base.specs.Decoding.{Unambiguous, Decodes, Rejects};
 ghost use Rattle.wasm_custom.specs.Entries.{counted_payload};
 ghost use Rattle.wasm_base.specs.declared.refused.Refused.TheVariants.{TooLong};
-ghost use Rattle.wasm_base.specs.Minimal.{AppendsMinimal, IsFrontOf, HasEncoding};
+ghost use Rattle.wasm_base.specs.Minimal.{AppendsMinimal, IsFrontOf, HasEncoding, both_grammars};
 ghost use Rattle.wasm_base.specs.declared.fault.ReadFault.TheVariants.{Memory};
 
 use crate::entries::CustomKind;
@@ -32,9 +32,9 @@ pub(crate) trait ItemsAs<T>: CustomKind {
     /// Appends the minimal encoding of the item, if any bytes decode to it. After an error, part of
     /// the encoding may follow the old bytes.
     fn append_item<B: Allocator>(item: &T, sink: &mut Vec<u8, B>) -> Result<()>
-        ensures ok { OnOk result (AppendsMinimal format (view item.now) sink.old.items sink.new.items) }
+        ensures ok { OnOk result (AppendsMinimal both_grammars format (view item.now) sink.old.items sink.new.items) }
         ensures front { IsFrontOf sink.old.items sink.new.items }
-        ensures too_long { HasEncoding format (view item.now) → result ≢ Err TooLong };
+        ensures too_long { HasEncoding both_grammars format (view item.now) → result ≢ Err TooLong };
 }
 
 /// A kind whose items decode to a `T`.
@@ -90,9 +90,9 @@ pub(crate) fn read_counted<
 /// Appends a count and the items.
 #[tactic(auto, using(wasm_base::proofs::MinimalEncodings::no_members_appended))]
 fn append_items<K: ItemsAs<T>, T, B: Allocator>(items: &[T], sink: &mut Vec<u8, B>) -> Result<()>
-    ensures ok { OnOk result (AppendsMinimal (vec K.format) (map K.view items.now) sink.old.items sink.new.items) }
+    ensures ok { OnOk result (AppendsMinimal both_grammars (vec K.format) (map K.view items.now) sink.old.items sink.new.items) }
     ensures front { IsFrontOf sink.old.items sink.new.items }
-    ensures too_long { HasEncoding (vec K.format) (map K.view items.now) → result ≢ Err TooLong }
+    ensures too_long { HasEncoding both_grammars (vec K.format) (map K.view items.now) → result ≢ Err TooLong }
 {
     items.len().encode(sink)?;
     for item in items {
@@ -105,9 +105,9 @@ fn append_items<K: ItemsAs<T>, T, B: Allocator>(items: &[T], sink: &mut Vec<u8, 
 /// old bytes.
 #[tactic(auto, using(crate::proofs::EntriesLaws::counted_encoded, crate::proofs::EntriesLaws::counted_name_encodable))]
 fn write_counted<K: ItemsAs<T>, T, B: Allocator>(items: &[T], sink: &mut Vec<u8, B>) -> Result<()>
-    ensures ok { OnOk result (AppendsMinimal (counted_payload K.name K.format) (map K.view items.now) sink.old.items sink.new.items) }
+    ensures ok { OnOk result (AppendsMinimal both_grammars (counted_payload K.name K.format) (map K.view items.now) sink.old.items sink.new.items) }
     ensures front { IsFrontOf sink.old.items sink.new.items }
-    ensures too_long { HasEncoding (counted_payload K.name K.format) (map K.view items.now) → result ≢ Err TooLong }
+    ensures too_long { HasEncoding both_grammars (counted_payload K.name K.format) (map K.view items.now) → result ≢ Err TooLong }
 {
     K::name().encode(sink)?;
     append_items::<K, T, _>(items, sink)
@@ -119,9 +119,9 @@ pub(crate) fn append_counted<K: ItemsAs<T>, T, B: Allocator>(
     items: &[T],
     sink: &mut Vec<u8, B>,
 ) -> Result<()>
-    ensures ok { OnOk result (AppendsMinimal (counted_payload K.name K.format) (map K.view items.now) sink.old.items sink.new.items) }
+    ensures ok { OnOk result (AppendsMinimal both_grammars (counted_payload K.name K.format) (map K.view items.now) sink.old.items sink.new.items) }
     ensures err { OnErr result (sink.new.items ≡ sink.old.items) }
-    ensures too_long { HasEncoding (counted_payload K.name K.format) (map K.view items.now) → result ≢ Err TooLong }
+    ensures too_long { HasEncoding both_grammars (counted_payload K.name K.format) (map K.view items.now) → result ≢ Err TooLong }
 {
     let start = sink.len();
     let written = write_counted::<K, T, _>(items, sink);

@@ -4,7 +4,7 @@ ghost use Rattle.std.specs.Prelude.{◌≡◌, ◌≢◌, IfOk, IfErr, Err, OnOk
 ghost use Rattle.wasm_base.specs.Calls.{DecodesBack};
 ghost use Rattle.wasm_base.specs.Continuing.{RejectsWhole};
 ghost use Rattle.wasm_base.specs.Encodings.{size_prefixed_encoding};
-ghost use Rattle.wasm_base.specs.Minimal.{AppendsMinimal, HasEncoding};
+ghost use Rattle.wasm_base.specs.Minimal.{AppendsMinimal, HasEncoding, both_grammars};
 ghost use Rattle.wasm_base.specs.Numbers.{padded_of};
 ghost use Rattle.wasm_base.specs.declared.fault.ReadFault.TheVariants.{Memory};
 ghost use Rattle.wasm_base.specs.declared.refused.Refused.TheVariants.{TooLong};
@@ -67,13 +67,14 @@ impl Section for SourceMappingUrl<'_> {
 ///
 /// # Errors
 ///
-/// Any error but `Memory` means that the bytes are not such a payload.
+/// An error means that the bytes are not such a payload.
 pub fn read_source_map<'a, A: Allocator + Copy, G: Grammar>(
     bytes: &'a [u8],
     alloc: A,
 ) -> Result<&'a str, DecodeError>
     ensures found { IfOk result (λ x. source_map_payload (padded_of G.grammar) bytes.now x.now) }
     ensures none { IfErr result (λ e. e.cause ≢ Memory → RejectsWhole source_map_payload (padded_of G.grammar) bytes.now) }
+    ensures no_memory { IfErr result (λ e. e.cause ≢ Memory) }
 {
     read_single::<&'a str, A, G>("sourceMappingURL", bytes, alloc)
 }
@@ -81,9 +82,9 @@ pub fn read_source_map<'a, A: Allocator + Copy, G: Grammar>(
 /// Appends the minimal encoding of the payload of the section of this source map. On an error, the
 /// sink is unchanged.
 pub fn append_source_map<B: Allocator>(url: &str, sink: &mut Vec<u8, B>) -> Result<()>
-    ensures ok { OnOk result (AppendsMinimal source_map_payload url.now sink.old.items sink.new.items) }
+    ensures ok { OnOk result (AppendsMinimal both_grammars source_map_payload url.now sink.old.items sink.new.items) }
     ensures err { OnErr result (sink.new.items ≡ sink.old.items) }
-    ensures too_long { HasEncoding source_map_payload url.now → result ≢ Err TooLong }
+    ensures too_long { HasEncoding both_grammars source_map_payload url.now → result ≢ Err TooLong }
 {
     append_single("sourceMappingURL", &url, sink)
 }
@@ -141,13 +142,14 @@ impl Section for ExternalDebugInfo<'_> {
 ///
 /// # Errors
 ///
-/// Any error but `Memory` means that the bytes are not such a payload.
+/// An error means that the bytes are not such a payload.
 pub fn read_debug_file<'a, A: Allocator + Copy, G: Grammar>(
     bytes: &'a [u8],
     alloc: A,
 ) -> Result<&'a str, DecodeError>
     ensures found { IfOk result (λ x. debug_file_payload (padded_of G.grammar) bytes.now x.now) }
     ensures none { IfErr result (λ e. e.cause ≢ Memory → RejectsWhole debug_file_payload (padded_of G.grammar) bytes.now) }
+    ensures no_memory { IfErr result (λ e. e.cause ≢ Memory) }
 {
     read_single::<&'a str, A, G>("external_debug_info", bytes, alloc)
 }
@@ -155,9 +157,9 @@ pub fn read_debug_file<'a, A: Allocator + Copy, G: Grammar>(
 /// Appends the minimal encoding of the payload of the section of this file of debug information. On
 /// an error, the sink is unchanged.
 pub fn append_debug_file<B: Allocator>(path: &str, sink: &mut Vec<u8, B>) -> Result<()>
-    ensures ok { OnOk result (AppendsMinimal debug_file_payload path.now sink.old.items sink.new.items) }
+    ensures ok { OnOk result (AppendsMinimal both_grammars debug_file_payload path.now sink.old.items sink.new.items) }
     ensures err { OnErr result (sink.new.items ≡ sink.old.items) }
-    ensures too_long { HasEncoding debug_file_payload path.now → result ≢ Err TooLong }
+    ensures too_long { HasEncoding both_grammars debug_file_payload path.now → result ≢ Err TooLong }
 {
     append_single("external_debug_info", &path, sink)
 }
@@ -215,13 +217,14 @@ impl Section for BuildId<'_> {
 ///
 /// # Errors
 ///
-/// Any error but `Memory` means that the bytes are not such a payload.
+/// An error means that the bytes are not such a payload.
 pub fn read_build_id<'a, A: Allocator + Copy, G: Grammar>(
     bytes: &'a [u8],
     alloc: A,
 ) -> Result<&'a [u8], DecodeError>
     ensures found { IfOk result (λ x. build_id_payload (padded_of G.grammar) bytes.now x.now) }
     ensures none { IfErr result (λ e. e.cause ≢ Memory → RejectsWhole build_id_payload (padded_of G.grammar) bytes.now) }
+    ensures no_memory { IfErr result (λ e. e.cause ≢ Memory) }
 {
     read_single::<&'a [u8], A, G>("build_id", bytes, alloc)
 }
@@ -229,9 +232,9 @@ pub fn read_build_id<'a, A: Allocator + Copy, G: Grammar>(
 /// Appends the minimal encoding of the payload of the section of these bytes. On an error, the sink
 /// is unchanged.
 pub fn append_build_id<B: Allocator>(bytes: &[u8], sink: &mut Vec<u8, B>) -> Result<()>
-    ensures ok { OnOk result (AppendsMinimal build_id_payload bytes.now sink.old.items sink.new.items) }
+    ensures ok { OnOk result (AppendsMinimal both_grammars build_id_payload bytes.now sink.old.items sink.new.items) }
     ensures err { OnErr result (sink.new.items ≡ sink.old.items) }
-    ensures too_long { HasEncoding build_id_payload bytes.now → result ≢ Err TooLong }
+    ensures too_long { HasEncoding both_grammars build_id_payload bytes.now → result ≢ Err TooLong }
 {
     append_single("build_id", &bytes, sink)
 }

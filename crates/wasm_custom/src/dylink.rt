@@ -11,7 +11,7 @@ ghost use Rattle.wasm_custom.specs.Customs.{subsection_encoding};
 ghost use Rattle.wasm_custom.specs.Dylink.{needs, needs_encoding, DylinkItem as ItemModel, dylink_item, dylink_items, dylink_name, dylink_view, dylink_payload};
 ghost use Rattle.wasm_custom.specs.Lists.{list_encoding};
 ghost use Rattle.wasm_base.specs.declared.refused.Refused.TheVariants.{TooLong};
-ghost use Rattle.wasm_base.specs.Minimal.{AppendsMinimal, IsFrontOf, HasEncoding};
+ghost use Rattle.wasm_base.specs.Minimal.{AppendsMinimal, IsFrontOf, HasEncoding, both_grammars};
 ghost use Rattle.wasm_base.specs.declared.fault.ReadFault.TheVariants.{Memory};
 
 use crate::dylink_symbols::{
@@ -216,15 +216,17 @@ pub fn read_dylink<'a, A: Allocator + Copy + 'a, G: Grammar>(
 /// Appends the subsection of the memory and the table.
 #[tactic(auto, using(crate::proofs::DylinkLaws::memory_appended, crate::proofs::DylinkLaws::memory_content))]
 fn append_memory<B: Allocator>(memory: DylinkMemory, sink: &mut Vec<u8, B>) -> Result<()>
-    ensures ok { OnOk result (AppendsMinimal (prefixed (1 ∷ []) (size_prefixed needs)) memory sink.old.items sink.new.items) }
+    ensures ok { OnOk result (AppendsMinimal both_grammars (prefixed (1 ∷ []) (size_prefixed needs)) memory sink.old.items sink.new.items) }
     ensures front { IsFrontOf sink.old.items sink.new.items }
-    ensures too_long { HasEncoding (prefixed (1 ∷ []) (size_prefixed needs)) memory → result ≢ Err TooLong }
+    ensures too_long { HasEncoding both_grammars (prefixed (1 ∷ []) (size_prefixed needs)) memory → result ≢ Err TooLong }
 {
     1u8.encode(sink)?;
     SizePrefixed(memory).write_minimal(sink)
 }
 
 impl<'a, A: Allocator> Shorten for DylinkItem<'a, A> {
+    ghost grammars = { both_grammars };
+
     #[tactic(auto, using(crate::proofs::DylinkLaws::short_steps))]
     fn write_minimal<B: Allocator>(&self, sink: &mut Vec<u8, B>) -> Result<()> {
         match self {
@@ -245,9 +247,9 @@ fn write_dylink<A: Allocator, B: Allocator>(
     items: &[DylinkItem<'_, A>],
     sink: &mut Vec<u8, B>,
 ) -> Result<()>
-    ensures ok { OnOk result (AppendsMinimal dylink_payload (map dylink_view items.now) sink.old.items sink.new.items) }
+    ensures ok { OnOk result (AppendsMinimal both_grammars dylink_payload (map dylink_view items.now) sink.old.items sink.new.items) }
     ensures front { IsFrontOf sink.old.items sink.new.items }
-    ensures too_long { HasEncoding dylink_payload (map dylink_view items.now) → result ≢ Err TooLong }
+    ensures too_long { HasEncoding both_grammars dylink_payload (map dylink_view items.now) → result ≢ Err TooLong }
 {
     "dylink.0".encode(sink)?;
     append_all(items, sink)
@@ -259,9 +261,9 @@ pub fn append_dylink<A: Allocator, B: Allocator>(
     items: &[DylinkItem<'_, A>],
     sink: &mut Vec<u8, B>,
 ) -> Result<()>
-    ensures ok { OnOk result (AppendsMinimal dylink_payload (map dylink_view items.now) sink.old.items sink.new.items) }
+    ensures ok { OnOk result (AppendsMinimal both_grammars dylink_payload (map dylink_view items.now) sink.old.items sink.new.items) }
     ensures err { OnErr result (sink.new.items ≡ sink.old.items) }
-    ensures too_long { HasEncoding dylink_payload (map dylink_view items.now) → result ≢ Err TooLong }
+    ensures too_long { HasEncoding both_grammars dylink_payload (map dylink_view items.now) → result ≢ Err TooLong }
 {
     let start = sink.len();
     let written = write_dylink(items, sink);

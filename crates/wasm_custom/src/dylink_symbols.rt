@@ -9,6 +9,7 @@ ghost use Rattle.wasm_base.specs.Numbers.{unsigned_encoding};
 ghost use Rattle.std.specs.Prelude.{ℕ, List};
 ghost use Rattle.wasm_custom.specs.Dylink.{needs, needs_encoding, DylinkExport as ExportModel, export_flags, export_flags_encoding, IsDylinkExport, export_flags_view, DylinkImport as ImportModel, import_flags, import_flags_encoding, IsDylinkImport, import_flags_view};
 ghost use Rattle.wasm_custom.specs.declared.dylink_symbols.DylinkMemory.{DylinkMemory as MemoryModel};
+ghost use Rattle.wasm_base.specs.Minimal.{both_grammars};
 
 use crate::lists::{CountedList, ListKind};
 use crate::subsections::Content;
@@ -63,6 +64,8 @@ impl Layout for DylinkMemory {
 }
 
 impl<'a, A: Allocator + Copy, G: Grammar> Readable<'a, A, G> for DylinkMemory {
+    ghost may_allocate = { ⊥ };
+
     #[tactic(auto, using(crate::proofs::DylinkLaws::needs_steps))]
     fn read(bytes: &'a [u8], alloc: A) -> Result<(DylinkMemory, &'a [u8]), DecodeError> {
         let (((memory_size, memory_alignment), (table_size, table_alignment)), rest) = <(
@@ -80,6 +83,8 @@ impl<'a, A: Allocator + Copy, G: Grammar> Readable<'a, A, G> for DylinkMemory {
 }
 
 impl Shorten for DylinkMemory {
+    ghost grammars = { both_grammars };
+
     #[tactic(auto, using(crate::proofs::DylinkLaws::needs_appended))]
     fn write_minimal<B: Allocator>(&self, sink: &mut Vec<u8, B>) -> Result<()> {
         self.memory_size.write_minimal(sink)?;
@@ -205,6 +210,8 @@ impl<'a> Layout for DylinkExport<'a> {
 }
 
 impl<'a, A: Allocator + Copy, G: Grammar> Readable<'a, A, G> for DylinkExport<'a> {
+    ghost may_allocate = { ⊥ };
+
     #[tactic(auto, using(crate::proofs::DylinkLaws::export_flags_steps))]
     fn read(bytes: &'a [u8], alloc: A) -> Result<(DylinkExport<'a>, &'a [u8]), DecodeError> {
         let ((name, flags), rest) = <(&'a str, u32) as Readable<'a, A, G>>::read(bytes, alloc)?;
@@ -213,6 +220,8 @@ impl<'a, A: Allocator + Copy, G: Grammar> Readable<'a, A, G> for DylinkExport<'a
 }
 
 impl<'a> Shorten for DylinkExport<'a> {
+    ghost grammars = { both_grammars };
+
     #[tactic(auto, using(crate::proofs::DylinkLaws::export_flags_appended, crate::proofs::DylinkLaws::export_name_encoded))]
     fn write_minimal<B: Allocator>(&self, sink: &mut Vec<u8, B>) -> Result<()> {
         self.name.write_minimal(sink)?;
@@ -276,6 +285,8 @@ impl<'a> Layout for DylinkImport<'a> {
 }
 
 impl<'a, A: Allocator + Copy, G: Grammar> Readable<'a, A, G> for DylinkImport<'a> {
+    ghost may_allocate = { ⊥ };
+
     #[tactic(auto, using(crate::proofs::DylinkLaws::import_flags_steps))]
     fn read(bytes: &'a [u8], alloc: A) -> Result<(DylinkImport<'a>, &'a [u8]), DecodeError> {
         let ((module_name, (name, flags)), rest) = <(&'a str, (&'a str, u32)) as Readable<
@@ -293,6 +304,8 @@ impl<'a, A: Allocator + Copy, G: Grammar> Readable<'a, A, G> for DylinkImport<'a
 }
 
 impl<'a> Shorten for DylinkImport<'a> {
+    ghost grammars = { both_grammars };
+
     #[tactic(auto, using(crate::proofs::DylinkLaws::import_flags_appended, crate::proofs::DylinkLaws::import_module_encoded, crate::proofs::DylinkLaws::import_name_encoded))]
     fn write_minimal<B: Allocator>(&self, sink: &mut Vec<u8, B>) -> Result<()> {
         self.module_name.write_minimal(sink)?;

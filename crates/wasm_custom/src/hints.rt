@@ -9,7 +9,7 @@ ghost use Rattle.wasm_custom.specs.Adding.{AddsList};
 ghost use Rattle.wasm_custom.specs.Hints.{hint_items, hint_encoding, Hints, hints, hints_name, hint, hints_view, hints_payload};
 ghost use Rattle.wasm_custom.specs.declared.hints.BranchHint.{BranchHint as HintModel};
 ghost use Rattle.wasm_base.specs.declared.refused.Refused.TheVariants.{TooLong};
-ghost use Rattle.wasm_base.specs.Minimal.{AppendsMinimal, HasEncoding};
+ghost use Rattle.wasm_base.specs.Minimal.{AppendsMinimal, HasEncoding, both_grammars};
 ghost use Rattle.wasm_base.specs.declared.fault.ReadFault.TheVariants.{Memory};
 
 use crate::counted::{DecodesItems, ItemsAs, append_counted, read_counted};
@@ -128,6 +128,8 @@ impl Layout for HintValue {
 }
 
 impl<'a, A: Allocator + Copy, G: Grammar> Readable<'a, A, G> for HintValue {
+    ghost may_allocate = { ⊥ };
+
     #[tactic(auto, using(crate::proofs::HintLaws::hint_value_steps))]
     fn read(bytes: &'a [u8], alloc: A) -> Result<(HintValue, &'a [u8]), DecodeError> {
         let (value, rest) = <u8 as Readable<'a, A, G>>::read(bytes, alloc)?;
@@ -150,6 +152,8 @@ impl Layout for BranchHint {
 }
 
 impl<'a, A: Allocator + Copy, G: Grammar> Readable<'a, A, G> for BranchHint {
+    ghost may_allocate = { ⊥ };
+
     #[tactic(auto, using(crate::proofs::HintLaws::hint_steps))]
     fn read(bytes: &'a [u8], alloc: A) -> Result<(BranchHint, &'a [u8]), DecodeError> {
         let (branch_func_offset, rest) = <u32 as Readable<'a, A, G>>::read(bytes, alloc)?;
@@ -215,9 +219,9 @@ pub fn append_hints<A: Allocator, B: Allocator>(
     functions: &[(u32, Vec<BranchHint, A>)],
     sink: &mut Vec<u8, B>,
 ) -> Result<()>
-    ensures ok { OnOk result (AppendsMinimal hints_payload (map hints_view functions.now) sink.old.items sink.new.items) }
+    ensures ok { OnOk result (AppendsMinimal both_grammars hints_payload (map hints_view functions.now) sink.old.items sink.new.items) }
     ensures err { OnErr result (sink.new.items ≡ sink.old.items) }
-    ensures too_long { HasEncoding hints_payload (map hints_view functions.now) → result ≢ Err TooLong }
+    ensures too_long { HasEncoding both_grammars hints_payload (map hints_view functions.now) → result ≢ Err TooLong }
 {
     append_counted::<HintItems, (u32, Vec<BranchHint, A>), _>(functions, sink)
 }

@@ -4,6 +4,7 @@ ghost use Rattle.wasm_base.specs.Calls.{Adds};
 ghost use Rattle.wasm_base.specs.Numbers.{unsigned_encoding};
 ghost use Rattle.wasm_custom.specs.InitFunctions.{init_encoding, IsInit, init_function};
 ghost use Rattle.wasm_custom.specs.declared.init_functions.InitFunction.{InitFunction as InitModel};
+ghost use Rattle.wasm_base.specs.Minimal.{both_grammars};
 
 use crate::lists::{CountedList, ListKind};
 use std::alloc::{Allocator, Global};
@@ -66,6 +67,8 @@ impl Layout for InitFunction {
 }
 
 impl<'a, A: Allocator + Copy, G: Grammar> Readable<'a, A, G> for InitFunction {
+    ghost may_allocate = { ⊥ };
+
     #[tactic(auto, using(crate::proofs::InitLaws::init_steps))]
     fn read(bytes: &'a [u8], alloc: A) -> Result<(InitFunction, &'a [u8]), DecodeError> {
         let ((priority, symbol), rest) = <(u32, u32) as Readable<'a, A, G>>::read(bytes, alloc)?;
@@ -74,6 +77,8 @@ impl<'a, A: Allocator + Copy, G: Grammar> Readable<'a, A, G> for InitFunction {
 }
 
 impl Shorten for InitFunction {
+    ghost grammars = { both_grammars };
+
     #[tactic(auto, using(crate::proofs::InitLaws::init_appended))]
     fn write_minimal<B: Allocator>(&self, sink: &mut Vec<u8, B>) -> Result<()> {
         self.priority.write_minimal(sink)?;

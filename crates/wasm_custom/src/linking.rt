@@ -10,7 +10,7 @@ ghost use Rattle.wasm_custom.specs.Customs.{subsection_encoding};
 ghost use Rattle.wasm_custom.specs.Linking.{link_items, LinkItem as LinkModel, link, linking_name, version, link_view, linking_payload};
 ghost use Rattle.wasm_custom.specs.Lists.{list_encoding};
 ghost use Rattle.wasm_base.specs.declared.refused.Refused.TheVariants.{TooLong};
-ghost use Rattle.wasm_base.specs.Minimal.{AppendsMinimal, IsFrontOf, HasEncoding};
+ghost use Rattle.wasm_base.specs.Minimal.{AppendsMinimal, IsFrontOf, HasEncoding, both_grammars};
 ghost use Rattle.wasm_base.specs.declared.fault.ReadFault.TheVariants.{Memory};
 
 use crate::comdats::Comdat;
@@ -195,6 +195,7 @@ pub(crate) fn after_version<'a, A: Allocator + Copy, G: Grammar>(
 ) -> Result<&'a [u8], DecodeError>
     ensures found { IfOk result (λ rest. Decodes (just version u32_format) (padded_of G.grammar) bytes.now tt rest.now) }
     ensures none { IfErr result (λ e. e.cause ≢ Memory → Rejects (just version u32_format) (padded_of G.grammar) bytes.now) }
+    ensures no_memory { IfErr result (λ e. e.cause ≢ Memory) }
 {
     let (known, rest) = <u32 as Readable<'a, A, G>>::read(bytes, alloc)?;
     if known == VERSION {
@@ -230,9 +231,9 @@ pub(crate) fn append_vector<T: Shorten, A: Allocator, B: Allocator>(
     items: &Vec<T, A>,
     sink: &mut Vec<u8, B>,
 ) -> Result<()>
-    ensures ok { OnOk result (AppendsMinimal (prefixed (id ∷ []) (size_prefixed (vec T.format))) (map T.view items.now.items) sink.old.items sink.new.items) }
+    ensures ok { OnOk result (AppendsMinimal T.grammars (prefixed (id ∷ []) (size_prefixed (vec T.format))) (map T.view items.now.items) sink.old.items sink.new.items) }
     ensures front { IsFrontOf sink.old.items sink.new.items }
-    ensures too_long { HasEncoding (prefixed (id ∷ []) (size_prefixed (vec T.format))) (map T.view items.now.items) → result ≢ Err TooLong }
+    ensures too_long { HasEncoding T.grammars (prefixed (id ∷ []) (size_prefixed (vec T.format))) (map T.view items.now.items) → result ≢ Err TooLong }
 {
     T::laws();
     id.encode(sink)?;
@@ -248,9 +249,9 @@ pub(crate) fn append_other<B: Allocator>(
     content: &[u8],
     sink: &mut Vec<u8, B>,
 ) -> Result<()>
-    ensures ok { OnOk result (AppendsMinimal (prefixed (id ∷ []) (size_prefixed any_bytes)) content.now sink.old.items sink.new.items) }
+    ensures ok { OnOk result (AppendsMinimal both_grammars (prefixed (id ∷ []) (size_prefixed any_bytes)) content.now sink.old.items sink.new.items) }
     ensures front { IsFrontOf sink.old.items sink.new.items }
-    ensures too_long { HasEncoding (prefixed (id ∷ []) (size_prefixed any_bytes)) content.now → result ≢ Err TooLong }
+    ensures too_long { HasEncoding both_grammars (prefixed (id ∷ []) (size_prefixed any_bytes)) content.now → result ≢ Err TooLong }
 {
     id.encode(sink)?;
     content.write_minimal(sink)
@@ -259,15 +260,17 @@ pub(crate) fn append_other<B: Allocator>(
 /// Appends the subsection of an architecture.
 #[tactic(auto, using(crate::proofs::LinkLaws::target_appended, crate::proofs::LinkLaws::target_encoded))]
 fn append_target<B: Allocator>(name: &str, sink: &mut Vec<u8, B>) -> Result<()>
-    ensures ok { OnOk result (AppendsMinimal (prefixed (9 ∷ []) (size_prefixed name_format)) name.now sink.old.items sink.new.items) }
+    ensures ok { OnOk result (AppendsMinimal both_grammars (prefixed (9 ∷ []) (size_prefixed name_format)) name.now sink.old.items sink.new.items) }
     ensures front { IsFrontOf sink.old.items sink.new.items }
-    ensures too_long { HasEncoding (prefixed (9 ∷ []) (size_prefixed name_format)) name.now → result ≢ Err TooLong }
+    ensures too_long { HasEncoding both_grammars (prefixed (9 ∷ []) (size_prefixed name_format)) name.now → result ≢ Err TooLong }
 {
     9u8.encode(sink)?;
     SizePrefixed(name).write_minimal(sink)
 }
 
 impl<'a, A: Allocator> Shorten for LinkItem<'a, A> {
+    ghost grammars = { both_grammars };
+
     #[tactic(auto, using(crate::proofs::LinkLaws::short_steps))]
     fn write_minimal<B: Allocator>(&self, sink: &mut Vec<u8, B>) -> Result<()> {
         match self {
@@ -288,9 +291,9 @@ fn write_links<A: Allocator, B: Allocator>(
     items: &[LinkItem<'_, A>],
     sink: &mut Vec<u8, B>,
 ) -> Result<()>
-    ensures ok { OnOk result (AppendsMinimal linking_payload (map link_view items.now) sink.old.items sink.new.items) }
+    ensures ok { OnOk result (AppendsMinimal both_grammars linking_payload (map link_view items.now) sink.old.items sink.new.items) }
     ensures front { IsFrontOf sink.old.items sink.new.items }
-    ensures too_long { HasEncoding linking_payload (map link_view items.now) → result ≢ Err TooLong }
+    ensures too_long { HasEncoding both_grammars linking_payload (map link_view items.now) → result ≢ Err TooLong }
 {
     "linking".encode(sink)?;
     VERSION.encode(sink)?;
@@ -303,9 +306,9 @@ pub fn append_links<A: Allocator, B: Allocator>(
     items: &[LinkItem<'_, A>],
     sink: &mut Vec<u8, B>,
 ) -> Result<()>
-    ensures ok { OnOk result (AppendsMinimal linking_payload (map link_view items.now) sink.old.items sink.new.items) }
+    ensures ok { OnOk result (AppendsMinimal both_grammars linking_payload (map link_view items.now) sink.old.items sink.new.items) }
     ensures err { OnErr result (sink.new.items ≡ sink.old.items) }
-    ensures too_long { HasEncoding linking_payload (map link_view items.now) → result ≢ Err TooLong }
+    ensures too_long { HasEncoding both_grammars linking_payload (map link_view items.now) → result ≢ Err TooLong }
 {
     let start = sink.len();
     let written = write_links(items, sink);

@@ -1,5 +1,5 @@
 // Values after a fixed byte.
-ghost use Rattle.std.specs.Prelude.{◌≢◌, ◌∷◌, [], List, ℕ, IfOk, IfErr};
+ghost use Rattle.std.specs.Prelude.{◌≡◌, ◌≢◌, ◌∷◌, [], List, ℕ, IfOk, IfErr};
 ghost use Rattle.wasm_base.specs.Formats.{prefixed};
 ghost use Rattle.wasm_base.specs.Numbers.{padded_of};
 ghost use Rattle.wasm_base.specs.Decoding.{Unambiguous, Decodes, Rejects};
@@ -19,6 +19,7 @@ pub(crate) fn read_marked<'a, T: Readable<'a, A, G>, A: Allocator + Copy, G: Gra
 ) -> Result<(T, &'a [u8]), DecodeError>
     ensures found { IfOk result (λ x. Decodes (prefixed (mark ∷ []) T.format) (padded_of G.grammar) bytes.now (T.view x.0) x.1.now) }
     ensures none { IfErr result (λ e. e.cause ≢ Memory → Rejects (prefixed (mark ∷ []) T.format) (padded_of G.grammar) bytes.now) }
+    ensures no_memory { IfErr result (λ e. e.cause ≡ Memory → T.may_allocate) }
 {
     let (first, rest) = <u8 as Readable<'a, A, G>>::read(bytes, alloc)?;
     if first != mark {
@@ -37,6 +38,7 @@ pub(crate) fn skip_marked<'a, P: Skip<'a, A, G>, A: Allocator + Copy, G: Grammar
 ) -> Result<&'a [u8], DecodeError>
     ensures found { IfOk result (λ rest. (x : P.Value) × Decodes (prefixed (mark ∷ []) P.format) (padded_of G.grammar) bytes.now x rest.now) }
     ensures none { IfErr result (λ e. e.cause ≢ Memory → Rejects (prefixed (mark ∷ []) P.format) (padded_of G.grammar) bytes.now) }
+    ensures no_memory { IfErr result (λ e. e.cause ≡ Memory → P.may_allocate) }
 {
     let (first, after) = <u8 as Readable<'a, A, G>>::read(bytes, alloc)?;
     if first != mark {
@@ -85,6 +87,8 @@ impl<'a> Layout for MarkedName<'a> {
 }
 
 impl<'a, A: Allocator + Copy, G: Grammar> Readable<'a, A, G> for MarkedName<'a> {
+    ghost may_allocate = { ⊥ };
+
     fn read(bytes: &'a [u8], alloc: A) -> Result<(MarkedName<'a>, &'a [u8]), DecodeError> {
         let (name, rest) = read_marked::<'a, &'a str, A, G>(0x00, bytes, alloc)?;
         Ok((MarkedName(name), rest))

@@ -92,7 +92,7 @@ pub fn minimize_instances<'a, A: Allocator + Copy, G: Grammar, B: Allocator>(
 }
 
 impl Canonical for CoreDumpValue {
-    #[tactic(auto, using(crate::proofs::MinimizeCustoms::value_canonical))]
+    #[tactic(auto, using(crate::proofs::CoreStackLaws::value_canonical))]
     fn canonical() {}
 }
 

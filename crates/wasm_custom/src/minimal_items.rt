@@ -67,7 +67,6 @@ pub fn minimize_producers<'a, A: Allocator + Copy, G: Grammar, B: Allocator>(
 }
 
 impl Shared for FeaturePrefix {
-    #[tactic(auto, using(crate::proofs::SharedFormats::prefix_same))]
     fn shared() {}
 }
 
@@ -157,7 +156,6 @@ pub fn minimize_hints<'a, A: Allocator + Copy, G: Grammar, B: Allocator>(
 }
 
 impl Shared for Relocation {
-    #[tactic(auto, using(crate::proofs::SharedFormats::relocation_same))]
     fn shared() {}
 }
 

@@ -50,7 +50,6 @@ impl<G: Grammar> Minimize<G> for InitFunction {
 }
 
 impl Shared for ComdatSymbol {
-    #[tactic(auto, using(crate::proofs::SharedFormats::comdat_symbol_same))]
     fn shared() {}
 }
 

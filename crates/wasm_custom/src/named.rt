@@ -36,6 +36,7 @@ pub(crate) fn after_name<'a, A: Allocator + Copy, G: Grammar>(
 ) -> Result<&'a [u8], DecodeError>
     ensures found { IfOk result (λ rest. Decodes (just name.now name_format) (padded_of G.grammar) bytes.now tt rest.now) }
     ensures none { IfErr result (λ e. e.cause ≢ Memory → Rejects (just name.now name_format) (padded_of G.grammar) bytes.now) }
+    ensures no_memory { IfErr result (λ e. e.cause ≢ Memory) }
 {
     let (known, rest) = <&'a str as Readable<'a, A, G>>::read(bytes, alloc)?;
     if known == name {

@@ -12,7 +12,7 @@ ghost use Rattle.wasm_custom.specs.Customs.{subsection_encoding};
 ghost use Rattle.wasm_custom.specs.Lists.{list_encoding};
 ghost use Rattle.wasm_custom.specs.Names.{name_items, Naming, naming_encoding, IsNaming, Inside, inside_encoding, IsInside, NameItem as NameModel, subsection, name_name, name_kind_of as kind_of_id, kind_as, inside, held_by, id_of, name_item_view, name_payload};
 ghost use Rattle.wasm_base.specs.declared.refused.Refused.TheVariants.{TooLong};
-ghost use Rattle.wasm_base.specs.Minimal.{AppendsMinimal, IsFrontOf, HasEncoding};
+ghost use Rattle.wasm_base.specs.Minimal.{AppendsMinimal, IsFrontOf, HasEncoding, both_grammars};
 ghost use Rattle.wasm_base.specs.declared.fault.ReadFault.TheVariants.{Memory};
 
 use crate::custom_section::CustomSection;
@@ -451,9 +451,9 @@ impl<'a, A: Allocator> NameItem<'a, A> {
     /// Appends the content of the subsection, without its size prefix.
     #[tactic(auto, using(crate::proofs::NameLaws::module_appended, crate::proofs::NameLaws::map_appended, crate::proofs::NameLaws::indirect_appended, crate::proofs::NameLaws::other_appended, crate::proofs::NameLaws::module_encoded, crate::proofs::NameLaws::map_encoded, crate::proofs::NameLaws::indirect_encoded))]
     fn append_content<B: Allocator>(&self, sink: &mut Vec<u8, B>) -> Result<()>
-        ensures ok { OnOk result (AppendsMinimal (inside (held_by (name_item_view self.now)) (id_of (name_item_view self.now))) (name_item_view self.now) sink.old.items sink.new.items) }
+        ensures ok { OnOk result (AppendsMinimal both_grammars (inside (held_by (name_item_view self.now)) (id_of (name_item_view self.now))) (name_item_view self.now) sink.old.items sink.new.items) }
         ensures front { IsFrontOf sink.old.items sink.new.items }
-        ensures too_long { HasEncoding (inside (held_by (name_item_view self.now)) (id_of (name_item_view self.now))) (name_item_view self.now) → result ≢ Err TooLong }
+        ensures too_long { HasEncoding both_grammars (inside (held_by (name_item_view self.now)) (id_of (name_item_view self.now))) (name_item_view self.now) → result ≢ Err TooLong }
     {
         match self {
             NameItem::Module(name) => name.write_minimal(sink),
@@ -468,6 +468,8 @@ impl<'a, A: Allocator> NameItem<'a, A> {
 }
 
 impl<'a, A: Allocator> Shorten for NameItem<'a, A> {
+    ghost grammars = { both_grammars };
+
     #[tactic(auto, using(crate::proofs::NameLaws::subsection_appended, crate::proofs::NameLaws::held_encoded, crate::proofs::NameLaws::held_encodable))]
     fn write_minimal<B: Allocator>(&self, sink: &mut Vec<u8, B>) -> Result<()> {
         self.id().encode(sink)?;
@@ -484,9 +486,9 @@ fn write_names<A: Allocator, B: Allocator>(
     items: &[NameItem<'_, A>],
     sink: &mut Vec<u8, B>,
 ) -> Result<()>
-    ensures ok { OnOk result (AppendsMinimal name_payload (map name_item_view items.now) sink.old.items sink.new.items) }
+    ensures ok { OnOk result (AppendsMinimal both_grammars name_payload (map name_item_view items.now) sink.old.items sink.new.items) }
     ensures front { IsFrontOf sink.old.items sink.new.items }
-    ensures too_long { HasEncoding name_payload (map name_item_view items.now) → result ≢ Err TooLong }
+    ensures too_long { HasEncoding both_grammars name_payload (map name_item_view items.now) → result ≢ Err TooLong }
 {
     "name".encode(sink)?;
     append_all(items, sink)
@@ -498,9 +500,9 @@ pub fn append_names<A: Allocator, B: Allocator>(
     items: &[NameItem<'_, A>],
     sink: &mut Vec<u8, B>,
 ) -> Result<()>
-    ensures ok { OnOk result (AppendsMinimal name_payload (map name_item_view items.now) sink.old.items sink.new.items) }
+    ensures ok { OnOk result (AppendsMinimal both_grammars name_payload (map name_item_view items.now) sink.old.items sink.new.items) }
     ensures err { OnErr result (sink.new.items ≡ sink.old.items) }
-    ensures too_long { HasEncoding name_payload (map name_item_view items.now) → result ≢ Err TooLong }
+    ensures too_long { HasEncoding both_grammars name_payload (map name_item_view items.now) → result ≢ Err TooLong }
 {
     let start = sink.len();
     let written = write_names(items, sink);

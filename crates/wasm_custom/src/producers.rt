@@ -9,7 +9,7 @@ ghost use Rattle.wasm_base.specs.Encodings.{size_prefixed_encoding, HasEncodable
 ghost use Rattle.wasm_custom.specs.Lists.{list_encoding};
 ghost use Rattle.wasm_custom.specs.Producers.{field_items, Producer, producer_encoding, IsProducer, Field, field, producers_name, field_view, producers_payload};
 ghost use Rattle.wasm_base.specs.declared.refused.Refused.TheVariants.{TooLong};
-ghost use Rattle.wasm_base.specs.Minimal.{AppendsMinimal, HasEncoding};
+ghost use Rattle.wasm_base.specs.Minimal.{AppendsMinimal, HasEncoding, both_grammars};
 ghost use Rattle.wasm_base.specs.declared.fault.ReadFault.TheVariants.{Memory};
 
 use crate::counted::{DecodesItems, ItemsAs, append_counted, read_counted};
@@ -164,9 +164,9 @@ pub fn append_producers<'a, A: Allocator, B: Allocator>(
     fields: &Vec<(&'a str, Vec<(&'a str, &'a str), A>), A>,
     sink: &mut Vec<u8, B>,
 ) -> Result<()>
-    ensures ok { OnOk result (AppendsMinimal producers_payload (map field_view fields.now.items) sink.old.items sink.new.items) }
+    ensures ok { OnOk result (AppendsMinimal both_grammars producers_payload (map field_view fields.now.items) sink.old.items sink.new.items) }
     ensures err { OnErr result (sink.new.items ≡ sink.old.items) }
-    ensures too_long { HasEncoding producers_payload (map field_view fields.now.items) → result ≢ Err TooLong }
+    ensures too_long { HasEncoding both_grammars producers_payload (map field_view fields.now.items) → result ≢ Err TooLong }
 {
     append_counted::<ProducerItems, (&'a str, Vec<(&'a str, &'a str), A>), _>(fields, sink)
 }

@@ -4,7 +4,7 @@ ghost use Rattle.wasm_base.specs.Calls.{Adds, DecodesBack};
 ghost use Rattle.wasm_base.specs.Continuing.{RejectsWhole};
 ghost use Rattle.wasm_base.specs.Cow.{items_of, utf8_of};
 ghost use Rattle.wasm_base.specs.Formats.{coded, size_prefixed};
-ghost use Rattle.wasm_base.specs.Minimal.{AppendsMinimal, IsFrontOf, HasEncoding};
+ghost use Rattle.wasm_base.specs.Minimal.{AppendsMinimal, IsFrontOf, HasEncoding, both_grammars};
 ghost use Rattle.wasm_base.specs.Numbers.{unsigned_encoding, padded_of};
 ghost use Rattle.wasm_base.specs.declared.fault.ReadFault.TheVariants.{Memory};
 ghost use Rattle.wasm_base.specs.declared.refused.Refused.TheVariants.{TooLong};
@@ -348,6 +348,8 @@ impl Layout for RelocationKind {
 }
 
 impl<'a, A: Allocator + Copy, G: Grammar> Readable<'a, A, G> for RelocationKind {
+    ghost may_allocate = { ⊥ };
+
     #[tactic(auto, using(crate::proofs::RelocationLaws::kind_steps))]
     fn read(bytes: &'a [u8], alloc: A) -> Result<(RelocationKind, &'a [u8]), DecodeError> {
         let (code, rest) = <u8 as Readable<'a, A, G>>::read(bytes, alloc)?;
@@ -397,6 +399,8 @@ impl Layout for Relocation {
 }
 
 impl<'a, A: Allocator + Copy, G: Grammar> Readable<'a, A, G> for Relocation {
+    ghost may_allocate = { ⊥ };
+
     #[tactic(auto, using(crate::proofs::RelocationLaws::relocation_steps))]
     fn read(bytes: &'a [u8], alloc: A) -> Result<(Relocation, &'a [u8]), DecodeError> {
         let (kind, rest) = <RelocationKind as Readable<'a, A, G>>::read(bytes, alloc)?;
@@ -435,6 +439,8 @@ impl<'a, A: Allocator + Copy, G: Grammar> Readable<'a, A, G> for Relocation {
 }
 
 impl Shorten for Relocation {
+    ghost grammars = { both_grammars };
+
     #[tactic(auto, using(crate::proofs::RelocationLaws::relocation_appended))]
     fn write_minimal<B: Allocator>(&self, sink: &mut Vec<u8, B>) -> Result<()> {
         self.encode(sink)
@@ -473,9 +479,9 @@ fn write_relocations<A: Allocator, B: Allocator>(
     relocations: &Vec<Relocation, A>,
     sink: &mut Vec<u8, B>,
 ) -> Result<()>
-    ensures ok { OnOk result (AppendsMinimal relocations_payload (name.now, (section, relocations.now.items)) sink.old.items sink.new.items) }
+    ensures ok { OnOk result (AppendsMinimal both_grammars relocations_payload (name.now, (section, relocations.now.items)) sink.old.items sink.new.items) }
     ensures front { IsFrontOf sink.old.items sink.new.items }
-    ensures too_long { HasEncoding relocations_payload (name.now, (section, relocations.now.items)) → result ≢ Err TooLong }
+    ensures too_long { HasEncoding both_grammars relocations_payload (name.now, (section, relocations.now.items)) → result ≢ Err TooLong }
 {
     name.write_minimal(sink)?;
     section.write_minimal(sink)?;
@@ -490,9 +496,9 @@ pub fn append_relocations<A: Allocator, B: Allocator>(
     relocations: &Vec<Relocation, A>,
     sink: &mut Vec<u8, B>,
 ) -> Result<()>
-    ensures ok { OnOk result (AppendsMinimal relocations_payload (name.now, (section, relocations.now.items)) sink.old.items sink.new.items) }
+    ensures ok { OnOk result (AppendsMinimal both_grammars relocations_payload (name.now, (section, relocations.now.items)) sink.old.items sink.new.items) }
     ensures err { OnErr result (sink.new.items ≡ sink.old.items) }
-    ensures too_long { HasEncoding relocations_payload (name.now, (section, relocations.now.items)) → result ≢ Err TooLong }
+    ensures too_long { HasEncoding both_grammars relocations_payload (name.now, (section, relocations.now.items)) → result ≢ Err TooLong }
 {
     let start = sink.len();
     let written = write_relocations(name, section, relocations, sink);

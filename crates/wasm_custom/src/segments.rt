@@ -5,6 +5,7 @@ ghost use Rattle.wasm_base.specs.Decoding.{Unambiguous};
 ghost use Rattle.wasm_base.specs.Encodings.{size_prefixed_encoding, HasEncodableSize};
 ghost use Rattle.wasm_base.specs.Numbers.{unsigned_encoding};
 ghost use Rattle.wasm_custom.specs.Segments.{SegmentInfo as SegmentModel, segment_encoding, IsSegment, segment, segment_view};
+ghost use Rattle.wasm_base.specs.Minimal.{both_grammars};
 
 use crate::lists::{CountedList, ListKind};
 use std::alloc::{Allocator, Global};
@@ -70,6 +71,8 @@ impl<'a> Layout for SegmentInfo<'a> {
 }
 
 impl<'a, A: Allocator + Copy, G: Grammar> Readable<'a, A, G> for SegmentInfo<'a> {
+    ghost may_allocate = { ⊥ };
+
     #[tactic(auto, using(crate::proofs::SegmentLaws::segment_steps))]
     fn read(bytes: &'a [u8], alloc: A) -> Result<(SegmentInfo<'a>, &'a [u8]), DecodeError> {
         let ((name, (alignment, flags)), rest) = <(&'a str, (u32, u32)) as Readable<
@@ -87,6 +90,8 @@ impl<'a, A: Allocator + Copy, G: Grammar> Readable<'a, A, G> for SegmentInfo<'a>
 }
 
 impl<'a> Shorten for SegmentInfo<'a> {
+    ghost grammars = { both_grammars };
+
     #[tactic(auto, using(crate::proofs::SegmentLaws::segment_appended, crate::proofs::SegmentLaws::segment_name_encoded))]
     fn write_minimal<B: Allocator>(&self, sink: &mut Vec<u8, B>) -> Result<()> {
         self.name.write_minimal(sink)?;

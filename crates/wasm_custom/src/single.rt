@@ -45,6 +45,7 @@ pub(crate) fn read_single<'a, T: Readable<'a, A, G>, A: Allocator + Copy, G: Gra
 ) -> Result<T, DecodeError>
     ensures found { IfOk result (λ x. named_payload name.now T.format (padded_of G.grammar) bytes.now (T.view x)) }
     ensures none { IfErr result (λ e. e.cause ≢ Memory → RejectsWhole (named_payload name.now T.format) (padded_of G.grammar) bytes.now) }
+    ensures no_memory { IfErr result (λ e. e.cause ≡ Memory → T.may_allocate) }
 {
     let rest = after_name::<A, G>(name, bytes, alloc)?;
     let value = read_whole::<'a, T, A, G>(rest, alloc)?;
@@ -59,9 +60,9 @@ fn write_single<T: Shorten, B: Allocator>(
     value: &T,
     sink: &mut Vec<u8, B>,
 ) -> Result<()>
-    ensures ok { OnOk result (AppendsMinimal (named_payload name.now T.format) (T.view value.now) sink.old.items sink.new.items) }
+    ensures ok { OnOk result (AppendsMinimal T.grammars (named_payload name.now T.format) (T.view value.now) sink.old.items sink.new.items) }
     ensures front { IsFrontOf sink.old.items sink.new.items }
-    ensures too_long { HasEncoding (named_payload name.now T.format) (T.view value.now) → result ≢ Err TooLong }
+    ensures too_long { HasEncoding T.grammars (named_payload name.now T.format) (T.view value.now) → result ≢ Err TooLong }
 {
     name.encode(sink)?;
     value.write_minimal(sink)
@@ -74,9 +75,9 @@ pub(crate) fn append_single<T: Shorten, B: Allocator>(
     value: &T,
     sink: &mut Vec<u8, B>,
 ) -> Result<()>
-    ensures ok { OnOk result (AppendsMinimal (named_payload name.now T.format) (T.view value.now) sink.old.items sink.new.items) }
+    ensures ok { OnOk result (AppendsMinimal T.grammars (named_payload name.now T.format) (T.view value.now) sink.old.items sink.new.items) }
     ensures err { OnErr result (sink.new.items ≡ sink.old.items) }
-    ensures too_long { HasEncoding (named_payload name.now T.format) (T.view value.now) → result ≢ Err TooLong }
+    ensures too_long { HasEncoding T.grammars (named_payload name.now T.format) (T.view value.now) → result ≢ Err TooLong }
 {
     let start = sink.len();
     let written = write_single(name, value, sink);

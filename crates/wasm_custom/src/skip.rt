@@ -1,6 +1,6 @@
 // Items of custom sections that are skipped and not kept. Their lists are named without an
 // allocator, since none is made.
-ghost use Rattle.std.specs.Prelude.{◌≢◌, List, IfOk, IfErr};
+ghost use Rattle.std.specs.Prelude.{◌≡◌, ◌≢◌, List, IfOk, IfErr};
 ghost use Rattle.wasm_base.specs.Formats.{size_prefixed, vec};
 ghost use Rattle.wasm_base.specs.Numbers.{padded_of};
 ghost use Rattle.wasm_base.specs.Decoding.{Decodes, Rejects};
@@ -30,6 +30,7 @@ fn skip_vector<'a, P: Skip<'a, A, G>, A: Allocator + Copy, G: Grammar>(
 ) -> Result<&'a [u8], DecodeError>
     ensures found { IfOk result (λ rest. (xs : List P.Value) × Decodes (size_prefixed (vec P.format)) (padded_of G.grammar) bytes.now xs rest.now) }
     ensures none { IfErr result (λ e. e.cause ≢ Memory → Rejects (size_prefixed (vec P.format)) (padded_of G.grammar) bytes.now) }
+    ensures no_memory { IfErr result (λ e. e.cause ≡ Memory → P.may_allocate) }
 {
     <SizePrefixed<Vec<P>> as Skip<'a, A, G>>::skip(bytes, alloc)
 }
@@ -43,6 +44,7 @@ fn skip_after_id<'a, A: Allocator + Copy, G: Grammar>(
 ) -> Result<&'a [u8], DecodeError>
     ensures found { IfOk result (λ rest. (x : NameModel) × Decodes (after_id (kind_as kind) id) (padded_of G.grammar) bytes.now x rest.now) }
     ensures none { IfErr result (λ e. e.cause ≢ Memory → Rejects (after_id (kind_as kind) id) (padded_of G.grammar) bytes.now) }
+    ensures no_memory { IfErr result (λ e. e.cause ≢ Memory) }
 {
     match kind {
         NameKind::Module => <SizePrefixed<Dropped<&'a str>> as Skip<'a, A, G>>::skip(bytes, alloc),

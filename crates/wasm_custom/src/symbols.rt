@@ -9,7 +9,7 @@ ghost use Rattle.wasm_custom.specs.Symbols.{kind_code, indexed_encoding, of_data
 ghost use Rattle.wasm_custom.specs.declared.symbols.DataSymbolDefinition.{DataSymbolDefinition as DefinitionModel};
 ghost use Rattle.wasm_custom.specs.declared.symbols.SymbolKind.TheVariants as kinds;
 ghost use Rattle.wasm_base.specs.declared.refused.Refused.TheVariants.{TooLong};
-ghost use Rattle.wasm_base.specs.Minimal.{AppendsMinimal, IsFrontOf, HasEncoding};
+ghost use Rattle.wasm_base.specs.Minimal.{AppendsMinimal, IsFrontOf, HasEncoding, both_grammars};
 ghost use Rattle.wasm_base.specs.declared.fault.ReadFault.TheVariants.{Memory};
 
 use crate::lists::{CountedList, ListKind};
@@ -261,6 +261,7 @@ fn read_indexed<'a, A: Allocator + Copy, G: Grammar>(
 ) -> Result<(Symbol<'a>, &'a [u8]), DecodeError>
     ensures found { IfOk result (λ x. Decodes (indexed_symbol kind) (padded_of G.grammar) bytes.now (symbol_view x.0) x.1.now) }
     ensures none { IfErr result (λ e. e.cause ≢ Memory → Rejects (indexed_symbol kind) (padded_of G.grammar) bytes.now) }
+    ensures no_memory { IfErr result (λ e. e.cause ≢ Memory) }
 {
     let (flags, rest) = <u32 as Readable<'a, A, G>>::read(bytes, alloc)?;
     let (index, rest) = <u32 as Readable<'a, A, G>>::read(rest, alloc)?;
@@ -286,6 +287,8 @@ impl Layout for DataSymbolDefinition {
 }
 
 impl<'a, A: Allocator + Copy, G: Grammar> Readable<'a, A, G> for DataSymbolDefinition {
+    ghost may_allocate = { ⊥ };
+
     #[tactic(auto, using(crate::proofs::SymbolLaws::definition_decodes))]
     fn read(bytes: &'a [u8], alloc: A) -> Result<(DataSymbolDefinition, &'a [u8]), DecodeError> {
         let ((index, (offset, size)), rest) = <(u32, (u32, u32)) as Readable<'a, A, G>>::read(
@@ -309,6 +312,7 @@ fn read_definition<'a, A: Allocator + Copy, G: Grammar>(
 ) -> Result<(Option<DataSymbolDefinition>, &'a [u8]), DecodeError>
     ensures found { IfOk result (λ x. Decodes (optional given definition_format) (padded_of G.grammar) bytes.now x.0 x.1.now) }
     ensures none { IfErr result (λ e. e.cause ≢ Memory → Rejects (optional given definition_format) (padded_of G.grammar) bytes.now) }
+    ensures no_memory { IfErr result (λ e. e.cause ≢ Memory) }
 {
     if given {
         let (definition, rest) = <DataSymbolDefinition as Readable<'a, A, G>>::read(bytes, alloc)?;
@@ -326,6 +330,7 @@ fn read_data<'a, A: Allocator + Copy, G: Grammar>(
 ) -> Result<(Symbol<'a>, &'a [u8]), DecodeError>
     ensures found { IfOk result (λ x. Decodes data_symbol (padded_of G.grammar) bytes.now (symbol_view x.0) x.1.now) }
     ensures none { IfErr result (λ e. e.cause ≢ Memory → Rejects data_symbol (padded_of G.grammar) bytes.now) }
+    ensures no_memory { IfErr result (λ e. e.cause ≢ Memory) }
 {
     let (flags, rest) = <u32 as Readable<'a, A, G>>::read(bytes, alloc)?;
     let (name, rest) = <&'a str as Readable<'a, A, G>>::read(rest, alloc)?;
@@ -348,6 +353,7 @@ fn read_section<'a, A: Allocator + Copy, G: Grammar>(
 ) -> Result<(Symbol<'a>, &'a [u8]), DecodeError>
     ensures found { IfOk result (λ x. Decodes section_symbol (padded_of G.grammar) bytes.now (symbol_view x.0) x.1.now) }
     ensures none { IfErr result (λ e. e.cause ≢ Memory → Rejects section_symbol (padded_of G.grammar) bytes.now) }
+    ensures no_memory { IfErr result (λ e. e.cause ≢ Memory) }
 {
     let (flags, rest) = <u32 as Readable<'a, A, G>>::read(bytes, alloc)?;
     let (section, rest) = <u32 as Readable<'a, A, G>>::read(rest, alloc)?;
@@ -368,6 +374,8 @@ impl<'a> Layout for Symbol<'a> {
 }
 
 impl<'a, A: Allocator + Copy, G: Grammar> Readable<'a, A, G> for Symbol<'a> {
+    ghost may_allocate = { ⊥ };
+
     fn read(bytes: &'a [u8], alloc: A) -> Result<(Symbol<'a>, &'a [u8]), DecodeError> {
         let (kind, rest) = <u8 as Readable<'a, A, G>>::read(bytes, alloc)?;
         match kind {
@@ -405,9 +413,9 @@ impl<'a, A: Allocator + Copy, G: Grammar> Readable<'a, A, G> for Symbol<'a> {
 /// Appends the name if the flags say that the encoding has one.
 #[tactic(auto, using(crate::proofs::SymbolLaws::name_appended, crate::proofs::SymbolLaws::no_name_appended, crate::proofs::SymbolLaws::name_encoded))]
 fn append_name<B: Allocator>(flags: u32, name: Option<&str>, sink: &mut Vec<u8, B>) -> Result<()>
-    ensures ok { OnOk result (AppendsMinimal (optional (flags_name flags) name_format) (option_map (λ n. n.now) name.entry) sink.old.items sink.new.items) }
+    ensures ok { OnOk result (AppendsMinimal both_grammars (optional (flags_name flags) name_format) (option_map (λ n. n.now) name.entry) sink.old.items sink.new.items) }
     ensures front { IsFrontOf sink.old.items sink.new.items }
-    ensures too_long { HasEncoding (optional (flags_name flags) name_format) (option_map (λ n. n.now) name.entry) → result ≢ Err TooLong }
+    ensures too_long { HasEncoding both_grammars (optional (flags_name flags) name_format) (option_map (λ n. n.now) name.entry) → result ≢ Err TooLong }
 {
     match name {
         Some(name) => name.write_minimal(sink),
@@ -424,9 +432,9 @@ fn append_indexed<B: Allocator>(
     name: Option<&str>,
     sink: &mut Vec<u8, B>,
 ) -> Result<()>
-    ensures ok { OnOk result (AppendsMinimal (prefixed (kind_code kind ∷ []) (indexed_symbol kind)) (indexed kind flags index (option_map (λ n. n.now) name.entry)) sink.old.items sink.new.items) }
+    ensures ok { OnOk result (AppendsMinimal both_grammars (prefixed (kind_code kind ∷ []) (indexed_symbol kind)) (indexed kind flags index (option_map (λ n. n.now) name.entry)) sink.old.items sink.new.items) }
     ensures front { IsFrontOf sink.old.items sink.new.items }
-    ensures too_long { HasEncoding (prefixed (kind_code kind ∷ []) (indexed_symbol kind)) (indexed kind flags index (option_map (λ n. n.now) name.entry)) → result ≢ Err TooLong }
+    ensures too_long { HasEncoding both_grammars (prefixed (kind_code kind ∷ []) (indexed_symbol kind)) (indexed kind flags index (option_map (λ n. n.now) name.entry)) → result ≢ Err TooLong }
 {
     kind.encode(sink)?;
     flags.write_minimal(sink)?;
@@ -441,9 +449,9 @@ fn append_definition<B: Allocator>(
     definition: Option<DataSymbolDefinition>,
     sink: &mut Vec<u8, B>,
 ) -> Result<()>
-    ensures ok { OnOk result (AppendsMinimal (optional (flags_definition flags) definition_format) definition sink.old.items sink.new.items) }
+    ensures ok { OnOk result (AppendsMinimal both_grammars (optional (flags_definition flags) definition_format) definition sink.old.items sink.new.items) }
     ensures front { IsFrontOf sink.old.items sink.new.items }
-    ensures too_long { HasEncoding (optional (flags_definition flags) definition_format) definition → result ≢ Err TooLong }
+    ensures too_long { HasEncoding both_grammars (optional (flags_definition flags) definition_format) definition → result ≢ Err TooLong }
 {
     match definition {
         Some(definition) => definition.encode(sink),
@@ -459,9 +467,9 @@ fn append_data<B: Allocator>(
     definition: Option<DataSymbolDefinition>,
     sink: &mut Vec<u8, B>,
 ) -> Result<()>
-    ensures ok { OnOk result (AppendsMinimal (prefixed (0x01 ∷ []) data_symbol) (of_data flags name.now definition) sink.old.items sink.new.items) }
+    ensures ok { OnOk result (AppendsMinimal both_grammars (prefixed (0x01 ∷ []) data_symbol) (of_data flags name.now definition) sink.old.items sink.new.items) }
     ensures front { IsFrontOf sink.old.items sink.new.items }
-    ensures too_long { HasEncoding (prefixed (0x01 ∷ []) data_symbol) (of_data flags name.now definition) → result ≢ Err TooLong }
+    ensures too_long { HasEncoding both_grammars (prefixed (0x01 ∷ []) data_symbol) (of_data flags name.now definition) → result ≢ Err TooLong }
 {
     0x01u8.encode(sink)?;
     flags.write_minimal(sink)?;
@@ -472,7 +480,7 @@ fn append_data<B: Allocator>(
 /// Appends a section symbol, whose kind is 03.
 #[tactic(auto, using(crate::proofs::SymbolLaws::section_appended))]
 fn append_section<B: Allocator>(flags: u32, section: u32, sink: &mut Vec<u8, B>) -> Result<()>
-    ensures ok { OnOk result (AppendsMinimal (prefixed (0x03 ∷ []) section_symbol) (of_section flags section) sink.old.items sink.new.items) }
+    ensures ok { OnOk result (AppendsMinimal both_grammars (prefixed (0x03 ∷ []) section_symbol) (of_section flags section) sink.old.items sink.new.items) }
     ensures front { IsFrontOf sink.old.items sink.new.items }
     ensures too_long { result ≢ Err TooLong }
 {
@@ -484,12 +492,11 @@ fn append_section<B: Allocator>(flags: u32, section: u32, sink: &mut Vec<u8, B>)
 impl Symbol<'_> {
     /// Appends the minimal encoding of the symbol, of any kind. After an error, part of it may
     /// follow the old bytes of the sink.
-    #[tactic(auto, using(crate::proofs::SymbolLaws::short_steps, crate::proofs::SharedFormats::full_steps))]
+    #[tactic(auto, using(crate::proofs::SymbolLaws::short_steps))]
     pub(crate) fn append<B: Allocator>(&self, sink: &mut Vec<u8, B>) -> Result<()>
-        ensures ok { OnOk result (AppendsMinimal symbol (symbol_view self.now) sink.old.items sink.new.items) }
-        ensures full { OnOk result (AppendsMinimal full_symbol (symbol_view self.now) sink.old.items sink.new.items) }
+        ensures ok { OnOk result (AppendsMinimal both_grammars symbol (symbol_view self.now) sink.old.items sink.new.items) }
         ensures front { IsFrontOf sink.old.items sink.new.items }
-        ensures too_long { HasEncoding symbol (symbol_view self.now) → result ≢ Err TooLong }
+        ensures too_long { HasEncoding both_grammars symbol (symbol_view self.now) → result ≢ Err TooLong }
     {
         match *self {
             Symbol::Function { flags, index, name } => {
@@ -515,6 +522,8 @@ impl Symbol<'_> {
 }
 
 impl<'a> Shorten for Symbol<'a> {
+    ghost grammars = { both_grammars };
+
     fn write_minimal<B: Allocator>(&self, sink: &mut Vec<u8, B>) -> Result<()> {
         self.append(sink)
     }

@@ -9,7 +9,7 @@ ghost use Rattle.wasm_base.specs.Encodings.{size_prefixed_encoding, HasEncodable
 ghost use Rattle.wasm_custom.specs.TargetFeatures.{prefix_code, Feature, feature, feature_items, features_name, feature_view, features_payload};
 ghost use Rattle.wasm_custom.specs.declared.target_features.FeaturePrefix.{FeaturePrefix as Prefix};
 ghost use Rattle.wasm_base.specs.declared.refused.Refused.TheVariants.{TooLong};
-ghost use Rattle.wasm_base.specs.Minimal.{AppendsMinimal, HasEncoding};
+ghost use Rattle.wasm_base.specs.Minimal.{AppendsMinimal, HasEncoding, both_grammars};
 ghost use Rattle.wasm_base.specs.declared.fault.ReadFault.TheVariants.{Memory};
 
 use crate::counted::{DecodesItems, ItemsAs, append_counted, read_counted};
@@ -111,6 +111,8 @@ impl Layout for FeaturePrefix {
 }
 
 impl<'a, A: Allocator + Copy, G: Grammar> Readable<'a, A, G> for FeaturePrefix {
+    ghost may_allocate = { ⊥ };
+
     #[tactic(auto, using(crate::proofs::FeatureLaws::prefix_steps))]
     fn read(bytes: &'a [u8], alloc: A) -> Result<(FeaturePrefix, &'a [u8]), DecodeError> {
         let (code, rest) = <u8 as Readable<'a, A, G>>::read(bytes, alloc)?;
@@ -124,6 +126,8 @@ impl<'a, A: Allocator + Copy, G: Grammar> Readable<'a, A, G> for FeaturePrefix {
 }
 
 impl Shorten for FeaturePrefix {
+    ghost grammars = { both_grammars };
+
     #[tactic(auto, using(crate::proofs::FeatureLaws::prefix_appended))]
     fn write_minimal<B: Allocator>(&self, sink: &mut Vec<u8, B>) -> Result<()> {
         self.encode(sink)
@@ -182,9 +186,9 @@ pub fn append_features<'a, B: Allocator>(
     features: &[(FeaturePrefix, &'a str)],
     sink: &mut Vec<u8, B>,
 ) -> Result<()>
-    ensures ok { OnOk result (AppendsMinimal features_payload (map feature_view features.now) sink.old.items sink.new.items) }
+    ensures ok { OnOk result (AppendsMinimal both_grammars features_payload (map feature_view features.now) sink.old.items sink.new.items) }
     ensures err { OnErr result (sink.new.items ≡ sink.old.items) }
-    ensures too_long { HasEncoding features_payload (map feature_view features.now) → result ≢ Err TooLong }
+    ensures too_long { HasEncoding both_grammars features_payload (map feature_view features.now) → result ≢ Err TooLong }
 {
     append_counted::<FeatureItems, (FeaturePrefix, &'a str), _>(features, sink)
 }

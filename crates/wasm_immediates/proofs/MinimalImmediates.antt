@@ -1,7 +1,7 @@
 -- This file proves that the encodings of decoded immediates are minimal in both grammars.
 use Rattle.wasm_base.proofs.Words.{Grammar, builders, admitted, minimal, padded_of, ◌≡◌, ℕ, pos, List, [], ◌++◌, Bool, true, false, refl, subst, inl, inr, s33, Decodes, s33_encodes}
 use Rattle.wasm_base.specs.Numbers.{minimal_of, signed_encoding}
-use Rattle.wasm_base.specs.Minimal.{IsShared, minimal_twins, Minimizes, EncodesMinimally}
+use Rattle.wasm_base.specs.Minimal.{Minimizes, EncodesMinimally}
 use Rattle.wasm_base.proofs.GrammarLaws.{AreMinimalInBoth, minimal_in, canonical_by, u32_both, u64_both, s33_both, fixed_both, impossible_both, coded_both, such_both, when_both, mapped_both, pair_both, tagged_both, choices_both, optional_both}
 use Rattle.wasm_base.proofs.MinimizeLaws.{minimized_as}
 use Rattle.wasm_base.proofs.TightTypes.{val_encodes_in}
@@ -67,7 +67,7 @@ block_encodes_in builders (blocks.Result ty) h = block_encodes (blocks.Result ty
 block_encodes_in builders (blocks.FunctionType index) h = block_encodes (blocks.FunctionType index) h
 block_encodes_in admitted blocks.Empty h = inl (refl, refl)
 block_encodes_in admitted (blocks.Result ty) h = inr (inl (ty, refl, val_encodes_in admitted ty h))
-block_encodes_in admitted (blocks.FunctionType index) h = let both : IsShared minimal_twins s33 = s33_both in inr (inr (index, refl, both.same (signed_encoding (pos index)) index (s33_encodes index h)))
+block_encodes_in admitted (blocks.FunctionType index) h = inr (inr (index, refl, s33_both.same (signed_encoding (pos index)) index (s33_encodes index h)))
 
 pub block_minimized : (w : Grammar) (b : BlockType) (bytes rest old new : List ℕ) → Decodes block_type (padded_of w) bytes b rest → new ≡ old ++ block_encoding_in w b → Minimizes w block_type bytes rest old new
 block_minimized w b bytes rest old new h e = minimized_as w block_type b bytes rest old new (block_encoding_in w b) h (block_encodes_in w b (block_is (padded_of w) h.front b h.encodes)) e

@@ -49,6 +49,7 @@ fn read_any_block<'a, A: Allocator + Copy, G: Grammar>(
 ) -> Result<(BlockType, &'a [u8]), DecodeError>
     ensures found { IfOk result (λ x. Decodes block_type (padded_of G.grammar) bytes.now x.0 x.1.now) }
     ensures none { IfErr result (λ e. e.cause ≢ Memory → Rejects block_type (padded_of G.grammar) bytes.now) }
+    ensures no_memory { IfErr result (λ e. e.cause ≢ Memory) }
 {
     let (tag, rest) = <u8 as Readable<'a, A, G>>::read(bytes, alloc)?;
     match tag {
@@ -76,6 +77,8 @@ impl Layout for BlockType {
 }
 
 impl<'a, A: Allocator + Copy, G: Grammar> Readable<'a, A, G> for BlockType {
+    ghost may_allocate = { ⊥ };
+
     #[tactic(auto, using(crate::proofs::DecodeImmediates::block_steps))]
     #[inline]
     fn read(bytes: &'a [u8], alloc: A) -> Result<(BlockType, &'a [u8]), DecodeError> {

@@ -69,6 +69,8 @@ impl Layout for Catch {
 }
 
 impl<'a, A: Allocator + Copy, G: Grammar> Readable<'a, A, G> for Catch {
+    ghost may_allocate = { ⊥ };
+
     #[tactic(auto, using(crate::proofs::DecodeImmediates::catch_steps))]
     fn read(bytes: &'a [u8], alloc: A) -> Result<(Catch, &'a [u8]), DecodeError> {
         let (kind, rest) = <u8 as Readable<'a, A, G>>::read(bytes, alloc)?;
@@ -106,6 +108,8 @@ impl Layout for Handle {
 }
 
 impl<'a, A: Allocator + Copy, G: Grammar> Readable<'a, A, G> for Handle {
+    ghost may_allocate = { ⊥ };
+
     #[tactic(auto, using(crate::proofs::DecodeImmediates::handle_steps))]
     fn read(bytes: &'a [u8], alloc: A) -> Result<(Handle, &'a [u8]), DecodeError> {
         let (kind, rest) = <u8 as Readable<'a, A, G>>::read(bytes, alloc)?;

@@ -89,6 +89,8 @@ impl Layout for Ieee32 {
 }
 
 impl<'a, A: Allocator + Copy, G: Grammar> Readable<'a, A, G> for Ieee32 {
+    ghost may_allocate = { ⊥ };
+
     fn read(bytes: &'a [u8], _alloc: A) -> Result<(Ieee32, &'a [u8]), DecodeError> {
         match bytes.split_first_chunk::<4>() {
             Some((front, rest)) => Ok((Ieee32::new(u32::from_le_bytes(*front)), rest)),
@@ -110,6 +112,8 @@ impl Layout for Ieee64 {
 }
 
 impl<'a, A: Allocator + Copy, G: Grammar> Readable<'a, A, G> for Ieee64 {
+    ghost may_allocate = { ⊥ };
+
     fn read(bytes: &'a [u8], _alloc: A) -> Result<(Ieee64, &'a [u8]), DecodeError> {
         match bytes.split_first_chunk::<8>() {
             Some((front, rest)) => Ok((Ieee64::new(u64::from_le_bytes(*front)), rest)),

@@ -191,6 +191,8 @@ impl Layout for Ordering {
 }
 
 impl<'a, A: Allocator + Copy, G: Grammar> Readable<'a, A, G> for Ordering {
+    ghost may_allocate = { ⊥ };
+
     #[tactic(auto, using(crate::proofs::DecodeImmediates::ordering_steps))]
     fn read(bytes: &'a [u8], alloc: A) -> Result<(Ordering, &'a [u8]), DecodeError> {
         let (byte, rest) = <u8 as Readable<'a, A, G>>::read(bytes, alloc)?;
@@ -214,6 +216,8 @@ impl Layout for MemArgOrdering {
 }
 
 impl<'a, A: Allocator + Copy, G: Grammar> Readable<'a, A, G> for MemArgOrdering {
+    ghost may_allocate = { ⊥ };
+
     #[tactic(auto, using(crate::proofs::DecodeImmediates::mem_ordering_steps))]
     fn read(bytes: &'a [u8], alloc: A) -> Result<(MemArgOrdering, &'a [u8]), DecodeError> {
         let (tag, rest) = <u8 as Readable<'a, A, G>>::read(bytes, alloc)?;
@@ -237,6 +241,7 @@ fn read_target<'a, A: Allocator + Copy, G: Grammar>(
 ) -> Result<(MemArgTarget, &'a [u8]), DecodeError>
     ensures found { IfOk result (λ x. Decodes (target_of G.grammar array other) (padded_of G.grammar) bytes.now x.0 x.1.now) }
     ensures none { IfErr result (λ e. e.cause ≢ Memory → Rejects (target_of G.grammar array other) (padded_of G.grammar) bytes.now) }
+    ensures no_memory { IfErr result (λ e. e.cause ≢ Memory) }
 {
     match (array, other) {
         (false, false) => Ok((MemArgTarget::Memory(0), bytes)),
@@ -264,6 +269,7 @@ fn read_any_memory<'a, A: Allocator + Copy, G: Grammar>(
 ) -> Result<(MemArg, &'a [u8]), DecodeError>
     ensures found { IfOk result (λ x. Decodes mem_arg (padded_of G.grammar) bytes.now x.0 x.1.now) }
     ensures none { IfErr result (λ e. e.cause ≢ Memory → Rejects mem_arg (padded_of G.grammar) bytes.now) }
+    ensures no_memory { IfErr result (λ e. e.cause ≢ Memory) }
 {
     let (flags, rest) = <u32 as Readable<'a, A, G>>::read(bytes, alloc)?;
     if flags >= 0x80 {
@@ -304,6 +310,8 @@ impl Layout for MemArg {
 }
 
 impl<'a, A: Allocator + Copy, G: Grammar> Readable<'a, A, G> for MemArg {
+    ghost may_allocate = { ⊥ };
+
     #[tactic(auto, using(crate::proofs::DecodeImmediates::memory_steps))]
     #[inline]
     fn read(bytes: &'a [u8], alloc: A) -> Result<(MemArg, &'a [u8]), DecodeError> {

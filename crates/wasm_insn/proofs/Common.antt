@@ -1,5 +1,5 @@
 -- This file re-exports what the proofs of this crate's functions use.
-pub use Rattle.wasm_base.proofs.Words.{All, All-more, AppendsMinimal, HasEncoding, List, [], ap, arith, fault_stays, flat_map, front_and_rest, if_ok_more, map, map-append, mapped_decodes, mapped_rejects}
+pub use Rattle.wasm_base.proofs.Words.{All, All-more, AppendsMinimal, builders_alone, HasEncoding, List, [], ap, arith, fault_stays, flat_map, front_and_rest, if_ok_more, map, map-append, mapped_decodes, mapped_rejects}
 pub use Rattle.wasm_base.proofs.Words.{memory_stays, on_ok, padded_of, refl, standard, stays_short, rules, subst, sym, take, take_all, to_z-of_z, w32, w64, ◌++◌, ◌+◌, ◌∙◌, ◌∷◌, ◌≡◌}
 pub use Rattle.std.proofs.Common.{w16}
 pub use Rattle.wasm_insn.proofs.ByteShapes.{byte_place}

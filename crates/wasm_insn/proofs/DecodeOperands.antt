@@ -1,5 +1,5 @@
 -- This file proves how readers decode the operands of an instruction.
-use Rattle.wasm_base.proofs.Words.{Mode, Grammar, ◌≡◌, ◌≢◌, Bool, true, false, ℕ, ℤ, ◌-◌, ◌<◌, List, [], ◌∷◌, ◌++◌, Some, None, map, length, take, drop, refl, sym, ap, subst, ◌∙◌, arith, append-nil, u32, s32, s64, Decodes, Rejects}
+use Rattle.wasm_base.proofs.Words.{Mode, Grammar, ◌≡◌, ◌≢◌, Bool, true, false, ℕ, ℤ, ◌-◌, ◌<◌, List, [], ◌∷◌, ◌++◌, Some, None, map, length, take, drop, refl, sym, ap, subst, ◌∙◌, arith, u32, s32, s64, Decodes, Rejects}
 use Rattle.wasm_base.specs.Numbers.{builders, admitted, padded, standard, padded_of}
 use Rattle.std.proofs.Math.Seq.{take-append_seam, drop-append_seam}
 use Rattle.std.proofs.lemmas.List.{length-append, take-append-drop}

@@ -1,7 +1,7 @@
 -- This file proves that decoded instructions are well-formed and in normal form, so that their
 -- encoding is the minimal one.
 use Rattle.wasm_base.proofs.Words.{zero, suc, length, get_or, arith, ◌≡◌, ℕ, ◌^◌, ◌<◌, List, [], ◌∷◌, ◌++◌, map, Bool, true, false, Option, Some, None, refl, sym, ap, ap₂, subst, ◌∙◌, append_assoc}
-use Rattle.wasm_base.proofs.Words.{flat_map, minimal, padded, u32, mapped, fixed, when, IsEncodableVec, IsVal, val_type, AllValues, AppendsMinimal, HasEncoding, little_endian_below, heap_is}
+use Rattle.wasm_base.proofs.Words.{flat_map, minimal, padded, u32, mapped, fixed, when, IsEncodableVec, IsVal, val_type, AllValues, AppendsMinimal, builders_alone, built_encoding, padded_of, HasEncoding, little_endian_below, heap_is}
 use Rattle.wasm_base.proofs.Words.{val_type_is, vec_is}
 use Rattle.wasm_immediates.proofs.Words.{IsWellFormedCatch, IsWellFormedHandle, catch, handle, memory_is, block_is, catch_is, handle_is}
 use Rattle.wasm_insn.specs.declared.op.Op.{Op}
@@ -80,11 +80,11 @@ arguments_encoding_of (x ∷ xs) = ap (λ z. argument_encoding (argument_view x)
 
 -- The opcode is appended, then the immediates.
 pub instruction_appended : {A : Type 0} (op : Op) (xs : List (Arg A)) (old middle new : List ℕ) → middle ≡ old ++ op_encoding op → new ≡ middle ++ flat_map (λ a. argument_encoding (argument_view a)) xs
-    → AppendsMinimal (instruction table) (plain_of (op, map argument_view xs)) old new
+    → AppendsMinimal builders_alone (instruction table) (plain_of (op, map argument_view xs)) old new
 instruction_appended op xs old middle new e f = record {
   encoding = plain_encoding (plain_of (op, map argument_view xs));
   appended = f ∙ ap (λ z. z ++ flat_map (λ a. argument_encoding (argument_view a)) xs) e ∙ append_assoc old (op_encoding op) (flat_map (λ a. argument_encoding (argument_view a)) xs) ∙ ap (λ z. old ++ (op_encoding op ++ z)) (arguments_encoding_of xs);
-  encodes = λ s h. instruction_encodes (plain_of (op, map argument_view xs)) s h;
+  encodes = built_encoding (instruction table) (plain_of (op, map argument_view xs)) (plain_encoding (plain_of (op, map argument_view xs))) (λ s h. instruction_encodes (plain_of (op, map argument_view xs)) s h);
 }
 
 -- ---- counts of immediates that have an encoding
@@ -92,8 +92,8 @@ instruction_appended op xs old middle new e f = record {
 pub any_members : {T : Type 0} (P : T → Type 0) (xs : List T) → IsEncodableVec P xs → IsEncodableVec (λ x. Unit {0}) xs
 any_members P xs h = record { count = h.count; members = λ k d l. tt }
 
-pub arguments_plain : (i : Plain) → HasEncoding (instruction table) i → AreWellFormed i.arguments
-arguments_plain i h = (instruction_is padded h.bytes i h.decoded).0.arguments
+pub arguments_plain : (i : Plain) → HasEncoding builders_alone (instruction table) i → AreWellFormed i.arguments
+arguments_plain i h = (instruction_is (padded_of h.grammar) h.bytes i h.decoded).0.arguments
 
 pub plain_at : {A : Type 0} (xs : List (Arg A)) (i : ℕ) (x : Arg A) → i < length xs → x ≡ get_or xs i x → AreWellFormed (map argument_view xs) → IsWellFormedArgument (argument_view x)
 plain_at [] i x low is h = absurd (omega (arith, low))

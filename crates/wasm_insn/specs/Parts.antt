@@ -1,11 +1,15 @@
 -- This file defines which immediates follow an opcode, by the shape of the instruction.
-use Rattle.std.specs.Prelude.{List, [], ◌∷◌}
+use Rattle.std.specs.Prelude.{◌≡◌, ◌⊎◌, List, [], ◌∷◌}
 use Rattle.wasm_insn.specs.declared.op.Shape.{Shape}
 -- begin: written by tools/instructions
 use Rattle.wasm_insn.specs.declared.op.Shape.TheVariants.{Nothing, U, Uu, M, Ml, L, B, H, O, Ou, Ouu, C32, C64, F32, F64, V, Ls, Bt, Tt, Ts, K, Uh, Uuh}
 -- end: written by tools/instructions
 use Rattle.wasm_insn.specs.declared.part.Part.{Part}
 use Rattle.wasm_insn.specs.declared.part.Part.TheVariants as parts
+
+-- The immediates of this type are a list. Decoding one requests memory.
+abbrev pub IsList : Part → Type 0
+IsList p = (p ≡ parts.Labels) ⊎ ((p ≡ parts.Catches) ⊎ ((p ≡ parts.Types) ⊎ (p ≡ parts.Handles)))
 
 -- The types of the immediates of a shape, in order.
 abbrev pub parts_of : Shape → List Part

@@ -4,7 +4,7 @@ ghost use Rattle.std.specs.List.{flat_map};
 ghost use Rattle.wasm_base.specs.Numbers.{padded_of};
 ghost use Rattle.wasm_base.specs.Decoding.{Decodes, Rejects};
 ghost use Rattle.wasm_base.specs.declared.refused.Refused.TheVariants.{TooLong};
-ghost use Rattle.wasm_insn.specs.Parts.{parts_of};
+ghost use Rattle.wasm_insn.specs.Parts.{IsList, parts_of};
 ghost use Rattle.wasm_insn.specs.declared.part.Part.TheVariants as parts;
 ghost use Rattle.wasm_insn.specs.Arguments.{argument_encoding, Argument};
 ghost use Rattle.wasm_insn.specs.Plain.{part, arguments, IsWellFormedArgument, AreWellFormed};
@@ -60,6 +60,7 @@ fn read_unsigned<'a, A: Allocator + Copy, G: Grammar>(
 ) -> Result<(Arg<A>, &'a [u8]), DecodeError>
     ensures found { IfOk result (λ x. Decodes (part parts.Unsigned) (padded_of G.grammar) bytes.now (argument_view x.0) x.1.now) }
     ensures none { IfErr result (λ e. e.cause ≢ Memory → Rejects (part parts.Unsigned) (padded_of G.grammar) bytes.now) }
+    ensures no_memory { IfErr result (λ e. e.cause ≢ Memory) }
 {
     let (value, rest) = <u32 as Readable<'a, A, G>>::read(bytes, alloc)?;
     Ok((Arg::U32(value), rest))
@@ -74,6 +75,7 @@ fn read_signed32<'a, A: Allocator + Copy, G: Grammar>(
 ) -> Result<(Arg<A>, &'a [u8]), DecodeError>
     ensures found { IfOk result (λ x. Decodes (part parts.Signed32) (padded_of G.grammar) bytes.now (argument_view x.0) x.1.now) }
     ensures none { IfErr result (λ e. e.cause ≢ Memory → Rejects (part parts.Signed32) (padded_of G.grammar) bytes.now) }
+    ensures no_memory { IfErr result (λ e. e.cause ≢ Memory) }
 {
     let (value, rest) = <i32 as Readable<'a, A, G>>::read(bytes, alloc)?;
     Ok((Arg::S32(value), rest))
@@ -88,6 +90,7 @@ fn read_signed64<'a, A: Allocator + Copy, G: Grammar>(
 ) -> Result<(Arg<A>, &'a [u8]), DecodeError>
     ensures found { IfOk result (λ x. Decodes (part parts.Signed64) (padded_of G.grammar) bytes.now (argument_view x.0) x.1.now) }
     ensures none { IfErr result (λ e. e.cause ≢ Memory → Rejects (part parts.Signed64) (padded_of G.grammar) bytes.now) }
+    ensures no_memory { IfErr result (λ e. e.cause ≢ Memory) }
 {
     let (value, rest) = <i64 as Readable<'a, A, G>>::read(bytes, alloc)?;
     Ok((Arg::S64(value), rest))
@@ -102,6 +105,7 @@ fn read_float32<'a, A: Allocator + Copy, G: Grammar>(
 ) -> Result<(Arg<A>, &'a [u8]), DecodeError>
     ensures found { IfOk result (λ x. Decodes (part parts.Float32) (padded_of G.grammar) bytes.now (argument_view x.0) x.1.now) }
     ensures none { IfErr result (λ e. e.cause ≢ Memory → Rejects (part parts.Float32) (padded_of G.grammar) bytes.now) }
+    ensures no_memory { IfErr result (λ e. e.cause ≢ Memory) }
 {
     let (value, rest) = <Ieee32 as Readable<'a, A, G>>::read(bytes, alloc)?;
     Ok((Arg::F32(value), rest))
@@ -116,6 +120,7 @@ fn read_float64<'a, A: Allocator + Copy, G: Grammar>(
 ) -> Result<(Arg<A>, &'a [u8]), DecodeError>
     ensures found { IfOk result (λ x. Decodes (part parts.Float64) (padded_of G.grammar) bytes.now (argument_view x.0) x.1.now) }
     ensures none { IfErr result (λ e. e.cause ≢ Memory → Rejects (part parts.Float64) (padded_of G.grammar) bytes.now) }
+    ensures no_memory { IfErr result (λ e. e.cause ≢ Memory) }
 {
     let (value, rest) = <Ieee64 as Readable<'a, A, G>>::read(bytes, alloc)?;
     Ok((Arg::F64(value), rest))
@@ -130,6 +135,7 @@ fn read_vector<'a, A: Allocator + Copy, G: Grammar>(
 ) -> Result<(Arg<A>, &'a [u8]), DecodeError>
     ensures found { IfOk result (λ x. Decodes (part parts.Vector) (padded_of G.grammar) bytes.now (argument_view x.0) x.1.now) }
     ensures none { IfErr result (λ e. e.cause ≢ Memory → Rejects (part parts.Vector) (padded_of G.grammar) bytes.now) }
+    ensures no_memory { IfErr result (λ e. e.cause ≢ Memory) }
 {
     let (value, rest) = <i128 as Readable<'a, A, G>>::read(bytes, alloc)?;
     Ok((Arg::V128(value), rest))
@@ -144,6 +150,7 @@ fn read_memory<'a, A: Allocator + Copy, G: Grammar>(
 ) -> Result<(Arg<A>, &'a [u8]), DecodeError>
     ensures found { IfOk result (λ x. Decodes (part parts.Memory) (padded_of G.grammar) bytes.now (argument_view x.0) x.1.now) }
     ensures none { IfErr result (λ e. e.cause ≢ Memory → Rejects (part parts.Memory) (padded_of G.grammar) bytes.now) }
+    ensures no_memory { IfErr result (λ e. e.cause ≢ Memory) }
 {
     let (value, rest) = <MemArg as Readable<'a, A, G>>::read(bytes, alloc)?;
     Ok((Arg::Mem(value), rest))
@@ -157,6 +164,7 @@ fn read_lane<'a, A: Allocator + Copy, G: Grammar>(
 ) -> Result<(Arg<A>, &'a [u8]), DecodeError>
     ensures found { IfOk result (λ x. Decodes (part parts.Lane) (padded_of G.grammar) bytes.now (argument_view x.0) x.1.now) }
     ensures none { IfErr result (λ e. e.cause ≢ Memory → Rejects (part parts.Lane) (padded_of G.grammar) bytes.now) }
+    ensures no_memory { IfErr result (λ e. e.cause ≢ Memory) }
 {
     let (value, rest) = <u8 as Readable<'a, A, G>>::read(bytes, alloc)?;
     Ok((Arg::Lane(value), rest))
@@ -171,6 +179,7 @@ fn read_lanes<'a, A: Allocator + Copy, G: Grammar>(
 ) -> Result<(Arg<A>, &'a [u8]), DecodeError>
     ensures found { IfOk result (λ x. Decodes (part parts.Lanes) (padded_of G.grammar) bytes.now (argument_view x.0) x.1.now) }
     ensures none { IfErr result (λ e. e.cause ≢ Memory → Rejects (part parts.Lanes) (padded_of G.grammar) bytes.now) }
+    ensures no_memory { IfErr result (λ e. e.cause ≢ Memory) }
 {
     let (value, rest) = <[u8; 16] as Readable<'a, A, G>>::read(bytes, alloc)?;
     Ok((Arg::Lanes(value), rest))
@@ -185,6 +194,7 @@ fn read_block<'a, A: Allocator + Copy, G: Grammar>(
 ) -> Result<(Arg<A>, &'a [u8]), DecodeError>
     ensures found { IfOk result (λ x. Decodes (part parts.Block) (padded_of G.grammar) bytes.now (argument_view x.0) x.1.now) }
     ensures none { IfErr result (λ e. e.cause ≢ Memory → Rejects (part parts.Block) (padded_of G.grammar) bytes.now) }
+    ensures no_memory { IfErr result (λ e. e.cause ≢ Memory) }
 {
     let (value, rest) = <BlockType as Readable<'a, A, G>>::read(bytes, alloc)?;
     Ok((Arg::Block(value), rest))
@@ -199,6 +209,7 @@ fn read_heap<'a, A: Allocator + Copy, G: Grammar>(
 ) -> Result<(Arg<A>, &'a [u8]), DecodeError>
     ensures found { IfOk result (λ x. Decodes (part parts.Heap) (padded_of G.grammar) bytes.now (argument_view x.0) x.1.now) }
     ensures none { IfErr result (λ e. e.cause ≢ Memory → Rejects (part parts.Heap) (padded_of G.grammar) bytes.now) }
+    ensures no_memory { IfErr result (λ e. e.cause ≢ Memory) }
 {
     let (value, rest) = <HeapType as Readable<'a, A, G>>::read(bytes, alloc)?;
     Ok((Arg::Heap(value), rest))
@@ -213,6 +224,7 @@ fn read_ordering<'a, A: Allocator + Copy, G: Grammar>(
 ) -> Result<(Arg<A>, &'a [u8]), DecodeError>
     ensures found { IfOk result (λ x. Decodes (part parts.Ordering) (padded_of G.grammar) bytes.now (argument_view x.0) x.1.now) }
     ensures none { IfErr result (λ e. e.cause ≢ Memory → Rejects (part parts.Ordering) (padded_of G.grammar) bytes.now) }
+    ensures no_memory { IfErr result (λ e. e.cause ≢ Memory) }
 {
     let (value, rest) = <Ordering as Readable<'a, A, G>>::read(bytes, alloc)?;
     Ok((Arg::Order(value), rest))
@@ -282,6 +294,7 @@ fn read_flag<'a, A: Allocator + Copy, G: Grammar>(
 ) -> Result<(Arg<A>, &'a [u8]), DecodeError>
     ensures found { IfOk result (λ x. Decodes (part parts.Flag) (padded_of G.grammar) bytes.now (argument_view x.0) x.1.now) }
     ensures none { IfErr result (λ e. e.cause ≢ Memory → Rejects (part parts.Flag) (padded_of G.grammar) bytes.now) }
+    ensures no_memory { IfErr result (λ e. e.cause ≢ Memory) }
 {
     let (value, rest) = <u8 as Readable<'a, A, G>>::read(bytes, alloc)?;
     if value < 4 {
@@ -300,6 +313,7 @@ pub(crate) fn read_part<'a, A: Allocator + Copy, G: Grammar>(
 ) -> Result<(Arg<A>, &'a [u8]), DecodeError>
     ensures found { IfOk result (λ x. Decodes (part wanted) (padded_of G.grammar) bytes.now (argument_view x.0) x.1.now) }
     ensures none { IfErr result (λ e. e.cause ≢ Memory → Rejects (part wanted) (padded_of G.grammar) bytes.now) }
+    ensures no_memory { IfErr result (λ e. e.cause ≡ Memory → IsList wanted) }
 {
     match wanted {
         Part::Unsigned => read_unsigned::<A, G>(bytes, alloc),
@@ -429,6 +443,7 @@ fn skip_part<'a, A: Allocator + Copy, G: Grammar>(
 ) -> Result<&'a [u8], DecodeError>
     ensures found { IfOk result (λ rest. (x : Argument) × Decodes (part wanted) (padded_of G.grammar) bytes.now x rest.now) }
     ensures none { IfErr result (λ e. e.cause ≢ Memory → Rejects (part wanted) (padded_of G.grammar) bytes.now) }
+    ensures no_memory { IfErr result (λ e. e.cause ≢ Memory) }
 {
     match wanted {
         Part::Labels => {
@@ -462,6 +477,7 @@ fn skip_parts<'a, A: Allocator + Copy, G: Grammar>(
 ) -> Result<&'a [u8], DecodeError>
     ensures found { IfOk result (λ rest. (xs : List Argument) × Decodes (arguments wanted.now) (padded_of G.grammar) bytes.now xs rest.now) }
     ensures none { IfErr result (λ e. e.cause ≢ Memory → Rejects (arguments wanted.now) (padded_of G.grammar) bytes.now) }
+    ensures no_memory { IfErr result (λ e. e.cause ≢ Memory) }
 {
     let mut rest = bytes;
     for part in wanted {
@@ -480,6 +496,7 @@ pub(crate) fn skip_any<'a, A: Allocator + Copy, G: Grammar>(
 ) -> Result<&'a [u8], DecodeError>
     ensures found { IfOk result (λ rest. (xs : List Argument) × Decodes (arguments (parts_of shape)) (padded_of G.grammar) bytes.now xs rest.now) }
     ensures none { IfErr result (λ e. e.cause ≢ Memory → Rejects (arguments (parts_of shape)) (padded_of G.grammar) bytes.now) }
+    ensures no_memory { IfErr result (λ e. e.cause ≢ Memory) }
 {
     skip_parts::<A, G>(shape.parts(), bytes, alloc)
 }

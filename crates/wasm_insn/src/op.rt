@@ -92,6 +92,7 @@ pub(crate) fn read_op<'a, A: Allocator + Copy, G: Grammar>(
 ) -> Result<(Op, &'a [u8]), DecodeError>
     ensures found { IfOk result (λ x. Decodes opcode (padded_of G.grammar) bytes.now x.0 x.1.now) }
     ensures none { IfErr result (λ e. e.cause ≢ Memory → Rejects opcode (padded_of G.grammar) bytes.now) }
+    ensures no_memory { IfErr result (λ e. e.cause ≢ Memory) }
 {
     let (byte, rest) = <u8 as Readable<'a, A, G>>::read(bytes, alloc)?;
     if byte < 0xFB {

@@ -202,6 +202,7 @@ fn read_encoded<'a, A: Allocator + Copy, G: Grammar>(
     requires { has_case shape ≡ false }
     ensures found { IfOk result (λ x. DecodesOperands (parts_of shape) (padded_of G.grammar) bytes.now x.0 x.1.now) }
     ensures none { IfErr result (λ e. e.cause ≢ Memory → Rejects (arguments (parts_of shape)) (padded_of G.grammar) bytes.now) }
+    ensures no_memory { IfErr result (λ e. e.cause ≢ Memory) }
 {
     let rest = skip_any::<A, G>(shape, bytes, alloc)?;
     let (encoded, rest) = bytes.split_at(bytes.len() - rest.len());
@@ -217,6 +218,7 @@ fn read_operands<'a, A: Allocator + Copy, G: Grammar>(
 ) -> Result<(Operands<'a>, &'a [u8]), DecodeError>
     ensures found { IfOk result (λ x. DecodesOperands (parts_of shape) (padded_of G.grammar) bytes.now x.0 x.1.now) }
     ensures none { IfErr result (λ e. e.cause ≢ Memory → Rejects (arguments (parts_of shape)) (padded_of G.grammar) bytes.now) }
+    ensures no_memory { IfErr result (λ e. e.cause ≢ Memory) }
 {
     match shape {
         Shape::Nothing => Ok((Operands::Nothing, bytes)),
@@ -253,6 +255,7 @@ pub(crate) fn read_long<'a, A: Allocator + Copy, G: Grammar>(
 ) -> Result<(Op, Operands<'a>, &'a [u8]), DecodeError>
     ensures found { IfOk result (λ x. DecodesOperation (instruction table) (padded_of G.grammar) bytes.now x.0 x.1 x.2.now) }
     ensures none { IfErr result (λ e. e.cause ≢ Memory → Rejects (instruction table) (padded_of G.grammar) bytes.now) }
+    ensures no_memory { IfErr result (λ e. e.cause ≢ Memory) }
 {
     let (op, rest) = read_op::<A, G>(bytes, alloc)?;
     let Some(shape) = op.shape() else {
@@ -267,7 +270,7 @@ pub(crate) fn read_long<'a, A: Allocator + Copy, G: Grammar>(
 ///
 /// # Errors
 ///
-/// Any error but `Memory` means that no instruction is at the front.
+/// An error means that no instruction is at the front.
 #[inline(always)]
 pub fn read_instruction<'a, A: Allocator + Copy, G: Grammar>(
     bytes: &'a [u8],
@@ -275,6 +278,7 @@ pub fn read_instruction<'a, A: Allocator + Copy, G: Grammar>(
 ) -> Result<(Op, Operands<'a>, &'a [u8]), DecodeError>
     ensures found { IfOk result (λ x. DecodesOperation (instruction table) (padded_of G.grammar) bytes.now x.0 x.1 x.2.now) }
     ensures none { IfErr result (λ e. e.cause ≢ Memory → Rejects (instruction table) (padded_of G.grammar) bytes.now) }
+    ensures no_memory { IfErr result (λ e. e.cause ≢ Memory) }
 {
     if let Some(short) = read_short::<G>(bytes) {
         return Ok(short);

@@ -5,7 +5,7 @@ ghost use Rattle.wasm_base.specs.Decoding.{Decodes, Rejects};
 ghost use Rattle.wasm_insn.specs.Plain.{Plain as PlainInstruction, instruction, arguments};
 ghost use Rattle.wasm_insn.specs.Table.{table};
 ghost use Rattle.wasm_base.specs.declared.refused.Refused.TheVariants.{TooLong};
-ghost use Rattle.wasm_base.specs.Minimal.{AppendsMinimal, IsFrontOf, HasEncoding};
+ghost use Rattle.wasm_base.specs.Minimal.{AppendsMinimal, IsFrontOf, HasEncoding, builders_alone};
 ghost use Rattle.wasm_base.specs.declared.fault.ReadFault.TheVariants.{Memory};
 ghost use Rattle.wasm_insn.specs.Views.{argument_view, plain_view};
 
@@ -69,15 +69,17 @@ fn append_instruction<A: Allocator, B: Allocator>(
     args: &[Arg<A>],
     sink: &mut Vec<u8, B>,
 ) -> Result<()>
-    ensures ok { OnOk result (AppendsMinimal (instruction table) (record { op = op; arguments = map argument_view args.now }) sink.old.items sink.new.items) }
+    ensures ok { OnOk result (AppendsMinimal builders_alone (instruction table) (record { op = op; arguments = map argument_view args.now }) sink.old.items sink.new.items) }
     ensures front { IsFrontOf sink.old.items sink.new.items }
-    ensures too_long { HasEncoding (instruction table) (record { op = op; arguments = map argument_view args.now }) → result ≢ Err TooLong }
+    ensures too_long { HasEncoding builders_alone (instruction table) (record { op = op; arguments = map argument_view args.now }) → result ≢ Err TooLong }
 {
     op.encode(sink)?;
     append_arguments(args, sink)
 }
 
 impl<A: Allocator> Shorten for Plain<A> {
+    ghost grammars = { builders_alone };
+
     fn write_minimal<B: Allocator>(&self, sink: &mut Vec<u8, B>) -> Result<()> {
         append_instruction(self.op, &self.args, sink)
     }

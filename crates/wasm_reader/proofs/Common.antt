@@ -18,6 +18,6 @@ pub use Rattle.wasm_reader.proofs.KindLaws.{relocations_read}
 pub use Rattle.wasm_reader.proofs.MinimalModules.{after_id, gains, gains_same, is_change_encoding, keeps_offsets, loses_at, rewrites_below, rewrites_longer, rewrites_rest, rewrites_start}
 pub use Rattle.wasm_reader.proofs.MinimalModules.{rewrites_step, rewrites_stop, stays_in, stops_at, whole_size_prefixed}
 pub use Rattle.wasm_reader.proofs.MinimalSections.{items_minimized, shortened}
-pub use Rattle.wasm_reader.specs.{Contents, CoreInstances, Dylink, EndsAt, Hints, Rewrites, Shortens, StopsAt, TargetFeatures, ahead, contains_offsets, content, contents_of, keeps, kind_in}
+pub use Rattle.wasm_reader.specs.{Contents, CoreInstances, Dylink, EndsAt, Hints, grammars_of, Rewrites, Shortens, StopsAt, TargetFeatures, ahead, contains_offsets, content, contents_of, keeps, kind_in}
 pub use Rattle.wasm_reader.specs.{section_of}
 pub use Rattle.wasm_reader.specs.declared.whole.Target.TheVariants.{CodeAndData, Module, Relocated}

@@ -41,8 +41,8 @@ module _ (bytes rest : List ℕ) (offset : ℕ) (s : Section) where
   pub ends_within : offset ≤ length bytes → drop offset bytes ≡ bytes_of s ++ rest → offset + length (bytes_of s) ≤ length bytes
   ends_within l e = omega (arith, l, length-drop offset bytes, ap length e, length-append (bytes_of s) rest)
 
-pub gives_error : (bytes : List ℕ) (offset : ℕ) (e : ReadError) → (e.cause ≢ Memory → Rejects any_section padded (drop offset bytes)) → drop offset bytes ≢ [] → offset ≤ e.offset → e.offset ≤ length bytes → GivesError (record { bytes = bytes; offset = offset }) e (record { bytes = take offset bytes; offset = offset })
-gives_error bytes offset e none more from within = record { none = none; more = more; from = from; within = within; ended = none_after bytes offset (omega (arith, from, within)); stays = refl }
+pub gives_error : (bytes : List ℕ) (offset : ℕ) (e : ReadError) → (e.cause ≢ Memory → Rejects any_section padded (drop offset bytes)) → e.cause ≢ Memory → drop offset bytes ≢ [] → offset ≤ e.offset → e.offset ≤ length bytes → GivesError (record { bytes = bytes; offset = offset }) e (record { bytes = take offset bytes; offset = offset })
+gives_error bytes offset e none memory more from within = record { none = none; no_memory = memory; more = more; from = from; within = within; ended = none_after bytes offset (omega (arith, from, within)); stays = refl }
 
 -- A result of `next` that is a section, or an error.
 pub next_section : {old new : Iterating} {r : Result Located ReadError} {s : Located} → r ≡ Ok s → NextSection old (Some r) new → GivesSection old s new

@@ -1,8 +1,8 @@
 -- This file proves the laws of the kinds of sections: their decoding, their encoding, and their ids
 -- and names.
 use Rattle.wasm_base.proofs.Words.{Mode, ◌≡◌, ℕ, List, [], ◌++◌, map, length, refl, sym, ap, subst, ◌∙◌, ◌≢◌, ◌∷◌, Bool, true, false, if◌then◌else◌, cond, Option, Some, Result, Ok, Err, map-id}
-use Rattle.wasm_base.proofs.Words.{padded, standard_minimal, standard, u32, name, any_bytes, pair, vec, size_prefixed, Format, mapped, UnambiguousWhole, Decodes, Rejects, vec_encoding, IsEncodableVec, name_unambiguous}
-use Rattle.wasm_base.proofs.Words.{vec_unambiguous, whole_from_unique, mapped_whole, pair_whole, any_bytes_whole, u32_unambiguous, decodes_same, AppendsMinimal, encoding_appended, pair_appended}
+use Rattle.wasm_base.proofs.Words.{standard_minimal, standard, u32, name, any_bytes, pair, vec, size_prefixed, Format, mapped, UnambiguousWhole, Decodes, Rejects, vec_encoding, IsEncodableVec, name_unambiguous}
+use Rattle.wasm_base.proofs.Words.{vec_unambiguous, whole_from_unique, mapped_whole, pair_whole, any_bytes_whole, u32_unambiguous, decodes_same, AppendsMinimal, Grammar, padded_of, both_grammars, builders_alone, encoding_appended, pair_appended}
 use Rattle.wasm_base.proofs.Words.{mapped_appended, records_appended, RejectsWhole, bytes_eq, ne_eqb, OnOk, on_ok}
 use Rattle.wasm_base.proofs.Words.{All, All-nil, All-cons, HasEncoding, members, coded, mapped_encoded, members_encoded, counted_encodable, left_encoded, name_encodable}
 use Rattle.wasm_base.proofs.DecodedValues.{viewed_encodable}
@@ -13,12 +13,13 @@ use Rattle.wasm_base.specs.declared.refused.Refused.{Refused}
 use Rattle.wasm_base.specs.declared.refused.Refused.TheVariants.{TooLong}
 use Rattle.wasm_code.proofs.Words.{body, size_prefixed_body_unambiguous}
 use Rattle.wasm_sections.proofs.Words.{data_item, element, global_item, import_format, table_item, IsEncodableExport, export_encoding, item_of, export, memory_encoding, memory_type, tag_encoding}
-use Rattle.wasm_sections.proofs.Words.{tag_type, export_short, exports_section, memory_encodes, memory_is, memories_section, tag_encodes, tag_is, tags_section, segments_section, elements_section}
+use Rattle.wasm_sections.proofs.Words.{tag_type, exports_section, memories_section, tags_section, segments_section, elements_section}
 use Rattle.wasm_sections.proofs.Words.{globals_section, imports_section, tables_section, functions_section}
 use Rattle.wasm_sections.specs.Exports.{kind_code}
 use Rattle.wasm_sections.specs.declared.export.Export.{Export}
 use Rattle.wasm_sections.specs.declared.memory.MemoryType.{MemoryType}
 use Rattle.wasm_sections.specs.declared.tag.TagType.{TagType}
+use Rattle.wasm_sections.proofs.MinimizeItems.{export_canonical, memory_canonical, tag_canonical}
 use Rattle.wasm_types.proofs.Words.{type_item, types_section}
 use Rattle.wasm_custom.proofs.Words.{core_name, modules_name, instances_name, core_payload, modules_payload, instances_payload, stack_name, stack_payload, hints_name, hints_payload, linking_name}
 use Rattle.wasm_custom.proofs.Words.{linking_payload, name_name, name_payload, producers_name, producers_payload, core_whole, modules_section, instances_section, stack_whole, hints_section}
@@ -26,7 +27,7 @@ use Rattle.wasm_custom.proofs.Words.{linking_section, names_section, producers_s
 use Rattle.wasm_custom.proofs.Words.{source_map_name, debug_file_name, build_id_name, source_map_payload, debug_file_payload, build_id_payload, source_map_whole, debug_file_whole, build_id_whole}
 use Rattle.wasm_custom.proofs.Words.{dylink_name, dylink_payload, dylink_section, begins_with, relocations_payload, relocations_prefix, relocations_whole}
 use Rattle.wasm_reader.specs.{Contents, Bodies, Segments, DataCount, Elements, Exports, Functions, Globals, Imports, Memories, Start, Tables, Tags, Types, Names, Linking, Producers, Hints, Core}
-use Rattle.wasm_reader.specs.{CoreModules, CoreInstances, CoreStack, Custom, Raw, TargetFeatures, SourceMappingUrl, ExternalDebugInfo, BuildId, Dylink, Relocations, content, kind_in, number_in}
+use Rattle.wasm_reader.specs.{CoreModules, CoreInstances, CoreStack, Custom, Raw, TargetFeatures, SourceMappingUrl, ExternalDebugInfo, BuildId, Dylink, Relocations, content, grammars_of, kind_in, number_in}
 use Rattle.wasm_reader.specs.{kind_among, known_kinds, kind_of_id, kind_among_names, known_names, kind_named, kinds_in_order, kind_numbered}
 use Rattle.wasm_reader.specs.declared.kinds.SectionKind.{SectionKind}
 use Rattle.wasm_reader.specs.declared.kinds.SectionKind.TheVariants as kinds
@@ -35,32 +36,32 @@ use Rattle.wasm_reader.specs.declared.kinds.SectionKind.TheVariants as kinds
 
 -- The buffer gains the minimal encoding of these items, as one value of the format of their kind.
 abbrev pub AppendsItems : Contents → List ℕ → List ℕ → Type 0
-AppendsItems (Bodies x) old new = AppendsMinimal (vec (size_prefixed body)) x old new
-AppendsItems (Segments x) old new = AppendsMinimal (vec data_item) x old new
-AppendsItems (DataCount x) old new = AppendsMinimal u32 x old new
-AppendsItems (Elements x) old new = AppendsMinimal (vec element) x old new
-AppendsItems (Globals x) old new = AppendsMinimal (vec global_item) x old new
-AppendsItems (Imports x) old new = AppendsMinimal (vec import_format) x old new
-AppendsItems (Start x) old new = AppendsMinimal u32 x old new
-AppendsItems (Tables x) old new = AppendsMinimal (vec table_item) x old new
-AppendsItems (Names x) old new = AppendsMinimal name_payload x old new
-AppendsItems (Linking x) old new = AppendsMinimal linking_payload x old new
-AppendsItems (Producers x) old new = AppendsMinimal producers_payload x old new
-AppendsItems (Hints x) old new = AppendsMinimal hints_payload x old new
-AppendsItems (Core x) old new = AppendsMinimal core_payload x old new
-AppendsItems (CoreModules x) old new = AppendsMinimal modules_payload x old new
-AppendsItems (CoreInstances x) old new = AppendsMinimal instances_payload x old new
-AppendsItems (CoreStack x) old new = AppendsMinimal stack_payload x old new
-AppendsItems (Types x) old new = AppendsMinimal (vec type_item) x old new
-AppendsItems (TargetFeatures x) old new = AppendsMinimal features_payload x old new
-AppendsItems (SourceMappingUrl x) old new = AppendsMinimal source_map_payload x old new
-AppendsItems (ExternalDebugInfo x) old new = AppendsMinimal debug_file_payload x old new
-AppendsItems (BuildId x) old new = AppendsMinimal build_id_payload x old new
-AppendsItems (Dylink x) old new = AppendsMinimal dylink_payload x old new
-AppendsItems (Relocations x) old new = AppendsMinimal relocations_payload x old new
+AppendsItems (Bodies x) old new = AppendsMinimal builders_alone (vec (size_prefixed body)) x old new
+AppendsItems (Segments x) old new = AppendsMinimal builders_alone (vec data_item) x old new
+AppendsItems (DataCount x) old new = AppendsMinimal both_grammars u32 x old new
+AppendsItems (Elements x) old new = AppendsMinimal builders_alone (vec element) x old new
+AppendsItems (Globals x) old new = AppendsMinimal builders_alone (vec global_item) x old new
+AppendsItems (Imports x) old new = AppendsMinimal builders_alone (vec import_format) x old new
+AppendsItems (Start x) old new = AppendsMinimal both_grammars u32 x old new
+AppendsItems (Tables x) old new = AppendsMinimal builders_alone (vec table_item) x old new
+AppendsItems (Names x) old new = AppendsMinimal both_grammars name_payload x old new
+AppendsItems (Linking x) old new = AppendsMinimal both_grammars linking_payload x old new
+AppendsItems (Producers x) old new = AppendsMinimal both_grammars producers_payload x old new
+AppendsItems (Hints x) old new = AppendsMinimal both_grammars hints_payload x old new
+AppendsItems (Core x) old new = AppendsMinimal both_grammars core_payload x old new
+AppendsItems (CoreModules x) old new = AppendsMinimal both_grammars modules_payload x old new
+AppendsItems (CoreInstances x) old new = AppendsMinimal both_grammars instances_payload x old new
+AppendsItems (CoreStack x) old new = AppendsMinimal both_grammars stack_payload x old new
+AppendsItems (Types x) old new = AppendsMinimal builders_alone (vec type_item) x old new
+AppendsItems (TargetFeatures x) old new = AppendsMinimal both_grammars features_payload x old new
+AppendsItems (SourceMappingUrl x) old new = AppendsMinimal both_grammars source_map_payload x old new
+AppendsItems (ExternalDebugInfo x) old new = AppendsMinimal both_grammars debug_file_payload x old new
+AppendsItems (BuildId x) old new = AppendsMinimal both_grammars build_id_payload x old new
+AppendsItems (Dylink x) old new = AppendsMinimal both_grammars dylink_payload x old new
+AppendsItems (Relocations x) old new = AppendsMinimal both_grammars relocations_payload x old new
 AppendsItems x old new = ⊥
 
-pub items_appended : (x : Contents) (old new : List ℕ) → AppendsItems x old new → AppendsMinimal (content (kind_in x)) x old new
+pub items_appended : (x : Contents) (old new : List ℕ) → AppendsItems x old new → AppendsMinimal (grammars_of (kind_in x)) (content (kind_in x)) x old new
 items_appended (Bodies x) old new a = mapped_appended Bodies _ x old new (λ z e. cc e) a
 items_appended (Segments x) old new a = mapped_appended Segments _ x old new (λ z e. cc e) a
 items_appended (DataCount x) old new a = mapped_appended DataCount _ x old new (λ z e. cc e) a
@@ -91,27 +92,27 @@ items_appended (BuildId x) old new a = mapped_appended BuildId _ x old new (λ z
 items_appended (Dylink x) old new a = mapped_appended Dylink _ x old new (λ z e. cc e) a
 items_appended (Relocations x) old new a = mapped_appended Relocations _ x old new (λ z e. cc e) a
 
-pub exports_appended : (es : List Export) (old new : List ℕ) → IsEncodableVec IsEncodableExport es → new ≡ old ++ vec_encoding export_encoding es → AppendsMinimal (content kinds.Exports) (Exports (map item_of es)) old new
-exports_appended es old new encodable e = mapped_appended Exports (vec export) (map item_of es) old new (λ z k. cc k) (records_appended export item_of export_encoding IsEncodableExport es old new export_short encodable e)
+pub exports_appended : (es : List Export) (old new : List ℕ) → IsEncodableVec IsEncodableExport es → new ≡ old ++ vec_encoding export_encoding es → AppendsMinimal both_grammars (content kinds.Exports) (Exports (map item_of es)) old new
+exports_appended es old new encodable e = mapped_appended Exports (vec export) (map item_of es) old new (λ z k. cc k) (records_appended export item_of export_encoding IsEncodableExport es old new (λ x f w q s h. export_canonical.minimal_in w s x h) encodable e)
 
-pub functions_appended : (ns : List ℕ) (old new : List ℕ) → AppendsMinimal (vec u32) (map (λ n. n) ns) old new → AppendsMinimal (content kinds.Functions) (Functions ns) old new
-functions_appended ns old new a = mapped_appended Functions (vec u32) ns old new (λ z e. cc e) (subst (λ z. AppendsMinimal (vec u32) z old new) (map-id ns) a)
+pub functions_appended : (ns : List ℕ) (old new : List ℕ) → AppendsMinimal both_grammars (vec u32) (map (λ n. n) ns) old new → AppendsMinimal both_grammars (content kinds.Functions) (Functions ns) old new
+functions_appended ns old new a = mapped_appended Functions (vec u32) ns old new (λ z e. cc e) (subst (λ z. AppendsMinimal both_grammars (vec u32) z old new) (map-id ns) a)
 
-pub memories_appended : (ms : List MemoryType) (old new : List ℕ) → IsEncodableVec (λ m. Unit {0}) ms → new ≡ old ++ vec_encoding memory_encoding ms → AppendsMinimal (content kinds.Memories) (Memories ms) old new
+pub memories_appended : (ms : List MemoryType) (old new : List ℕ) → IsEncodableVec (λ m. Unit {0}) ms → new ≡ old ++ vec_encoding memory_encoding ms → AppendsMinimal both_grammars (content kinds.Memories) (Memories ms) old new
 memories_appended ms old new encodable e =
     mapped_appended Memories (vec memory_type) ms old new (λ z k. cc k)
-    (subst (λ z. AppendsMinimal (vec memory_type) z old new) (map-id ms) (records_appended memory_type (λ m. m) memory_encoding (λ m. Unit {0}) ms old new (λ m f s h. memory_encodes m (memory_is padded s m h)) encodable e))
+    (subst (λ z. AppendsMinimal both_grammars (vec memory_type) z old new) (map-id ms) (records_appended memory_type (λ m. m) memory_encoding (λ m. Unit {0}) ms old new (λ m f w q s h. memory_canonical.minimal_in w s m h) encodable e))
 
-pub tags_appended : (ts : List TagType) (old new : List ℕ) → IsEncodableVec (λ t. Unit {0}) ts → new ≡ old ++ vec_encoding tag_encoding ts → AppendsMinimal (content kinds.Tags) (Tags ts) old new
+pub tags_appended : (ts : List TagType) (old new : List ℕ) → IsEncodableVec (λ t. Unit {0}) ts → new ≡ old ++ vec_encoding tag_encoding ts → AppendsMinimal both_grammars (content kinds.Tags) (Tags ts) old new
 tags_appended ts old new encodable e =
     mapped_appended Tags (vec tag_type) ts old new (λ z k. cc k)
-    (subst (λ z. AppendsMinimal (vec tag_type) z old new) (map-id ts) (records_appended tag_type (λ t. t) tag_encoding (λ t. Unit {0}) ts old new (λ t f s h. tag_encodes t (tag_is padded s t h)) encodable e))
+    (subst (λ z. AppendsMinimal both_grammars (vec tag_type) z old new) (map-id ts) (records_appended tag_type (λ t. t) tag_encoding (λ t. Unit {0}) ts old new (λ t f w q s h. tag_canonical.minimal_in w s t h) encodable e))
 
-pub custom_appended : (n bytes old middle new : List ℕ) → AppendsMinimal name n old middle → new ≡ middle ++ bytes → AppendsMinimal (content kinds.Custom) (Custom (n, bytes)) old new
-custom_appended n bytes old middle new a e = mapped_appended Custom (pair name any_bytes) (n, bytes) old new (λ z k. cc k) (pair_appended name any_bytes a (encoding_appended any_bytes bytes bytes middle new (λ s h. refl) e))
+pub custom_appended : (n bytes old middle new : List ℕ) → AppendsMinimal both_grammars name n old middle → new ≡ middle ++ bytes → AppendsMinimal both_grammars (content kinds.Custom) (Custom (n, bytes)) old new
+custom_appended n bytes old middle new a e = mapped_appended Custom (pair name any_bytes) (n, bytes) old new (λ z k. cc k) (pair_appended name any_bytes a (encoding_appended any_bytes bytes bytes middle new (λ w q s h. refl) e))
 
-pub raw_appended : (bytes old new : List ℕ) → new ≡ old ++ bytes → AppendsMinimal (content kinds.Raw) (Raw bytes) old new
-raw_appended bytes old new e = mapped_appended Raw any_bytes bytes old new (λ z k. cc k) (encoding_appended any_bytes bytes bytes old new (λ s h. refl) e)
+pub raw_appended : (bytes old new : List ℕ) → new ≡ old ++ bytes → AppendsMinimal both_grammars (content kinds.Raw) (Raw bytes) old new
+raw_appended bytes old new e = mapped_appended Raw any_bytes bytes old new (λ z k. cc k) (encoding_appended any_bytes bytes bytes old new (λ w q s h. refl) e)
 
 pub ruleset contents = (items_appended, exports_appended, functions_appended, memories_appended, tags_appended, custom_appended, raw_appended)
 
@@ -120,32 +121,32 @@ pub ruleset contents = (items_appended, exports_appended, functions_appended, me
 -- The call does not return `TooLong` if some bytes encode these items, as one value of the format
 -- of their kind.
 abbrev pub FitsItems : Contents → Result (Unit {0}) Refused → Type 0
-FitsItems (Bodies x) r = HasEncoding (vec (size_prefixed body)) x → r ≢ Err TooLong
-FitsItems (Segments x) r = HasEncoding (vec data_item) x → r ≢ Err TooLong
-FitsItems (DataCount x) r = HasEncoding u32 x → r ≢ Err TooLong
-FitsItems (Elements x) r = HasEncoding (vec element) x → r ≢ Err TooLong
-FitsItems (Globals x) r = HasEncoding (vec global_item) x → r ≢ Err TooLong
-FitsItems (Imports x) r = HasEncoding (vec import_format) x → r ≢ Err TooLong
-FitsItems (Start x) r = HasEncoding u32 x → r ≢ Err TooLong
-FitsItems (Tables x) r = HasEncoding (vec table_item) x → r ≢ Err TooLong
-FitsItems (Names x) r = HasEncoding name_payload x → r ≢ Err TooLong
-FitsItems (Linking x) r = HasEncoding linking_payload x → r ≢ Err TooLong
-FitsItems (Producers x) r = HasEncoding producers_payload x → r ≢ Err TooLong
-FitsItems (Hints x) r = HasEncoding hints_payload x → r ≢ Err TooLong
-FitsItems (Core x) r = HasEncoding core_payload x → r ≢ Err TooLong
-FitsItems (CoreModules x) r = HasEncoding modules_payload x → r ≢ Err TooLong
-FitsItems (CoreInstances x) r = HasEncoding instances_payload x → r ≢ Err TooLong
-FitsItems (CoreStack x) r = HasEncoding stack_payload x → r ≢ Err TooLong
-FitsItems (Types x) r = HasEncoding (vec type_item) x → r ≢ Err TooLong
-FitsItems (TargetFeatures x) r = HasEncoding features_payload x → r ≢ Err TooLong
-FitsItems (SourceMappingUrl x) r = HasEncoding source_map_payload x → r ≢ Err TooLong
-FitsItems (ExternalDebugInfo x) r = HasEncoding debug_file_payload x → r ≢ Err TooLong
-FitsItems (BuildId x) r = HasEncoding build_id_payload x → r ≢ Err TooLong
-FitsItems (Dylink x) r = HasEncoding dylink_payload x → r ≢ Err TooLong
-FitsItems (Relocations x) r = HasEncoding relocations_payload x → r ≢ Err TooLong
+FitsItems (Bodies x) r = HasEncoding builders_alone (vec (size_prefixed body)) x → r ≢ Err TooLong
+FitsItems (Segments x) r = HasEncoding builders_alone (vec data_item) x → r ≢ Err TooLong
+FitsItems (DataCount x) r = HasEncoding both_grammars u32 x → r ≢ Err TooLong
+FitsItems (Elements x) r = HasEncoding builders_alone (vec element) x → r ≢ Err TooLong
+FitsItems (Globals x) r = HasEncoding builders_alone (vec global_item) x → r ≢ Err TooLong
+FitsItems (Imports x) r = HasEncoding builders_alone (vec import_format) x → r ≢ Err TooLong
+FitsItems (Start x) r = HasEncoding both_grammars u32 x → r ≢ Err TooLong
+FitsItems (Tables x) r = HasEncoding builders_alone (vec table_item) x → r ≢ Err TooLong
+FitsItems (Names x) r = HasEncoding both_grammars name_payload x → r ≢ Err TooLong
+FitsItems (Linking x) r = HasEncoding both_grammars linking_payload x → r ≢ Err TooLong
+FitsItems (Producers x) r = HasEncoding both_grammars producers_payload x → r ≢ Err TooLong
+FitsItems (Hints x) r = HasEncoding both_grammars hints_payload x → r ≢ Err TooLong
+FitsItems (Core x) r = HasEncoding both_grammars core_payload x → r ≢ Err TooLong
+FitsItems (CoreModules x) r = HasEncoding both_grammars modules_payload x → r ≢ Err TooLong
+FitsItems (CoreInstances x) r = HasEncoding both_grammars instances_payload x → r ≢ Err TooLong
+FitsItems (CoreStack x) r = HasEncoding both_grammars stack_payload x → r ≢ Err TooLong
+FitsItems (Types x) r = HasEncoding builders_alone (vec type_item) x → r ≢ Err TooLong
+FitsItems (TargetFeatures x) r = HasEncoding both_grammars features_payload x → r ≢ Err TooLong
+FitsItems (SourceMappingUrl x) r = HasEncoding both_grammars source_map_payload x → r ≢ Err TooLong
+FitsItems (ExternalDebugInfo x) r = HasEncoding both_grammars debug_file_payload x → r ≢ Err TooLong
+FitsItems (BuildId x) r = HasEncoding both_grammars build_id_payload x → r ≢ Err TooLong
+FitsItems (Dylink x) r = HasEncoding both_grammars dylink_payload x → r ≢ Err TooLong
+FitsItems (Relocations x) r = HasEncoding both_grammars relocations_payload x → r ≢ Err TooLong
 FitsItems x r = ⊥
 
-pub items_fit : (x : Contents) (r : Result (Unit {0}) Refused) → FitsItems x r → HasEncoding (content (kind_in x)) x → r ≢ Err TooLong
+pub items_fit : (x : Contents) (r : Result (Unit {0}) Refused) → FitsItems x r → HasEncoding (grammars_of (kind_in x)) (content (kind_in x)) x → r ≢ Err TooLong
 items_fit (Bodies x) r fits h = fits (mapped_encoded Bodies _ x (λ z e. cc e) h)
 items_fit (Segments x) r fits h = fits (mapped_encoded Segments _ x (λ z e. cc e) h)
 items_fit (DataCount x) r fits h = fits (mapped_encoded DataCount _ x (λ z e. cc e) h)
@@ -177,32 +178,33 @@ items_fit (Dylink x) r fits h = fits (mapped_encoded Dylink _ x (λ z e. cc e) h
 items_fit (Relocations x) r fits h = fits (mapped_encoded Relocations _ x (λ z e. cc e) h)
 
 -- Each member of a list that has an encoding has a property that each decoded member has.
-each_encodable : {T X : Type 0} (F : Format X) (view : T → X) (P : T → Type 0) → ((x : T) (s : List ℕ) → F padded s (view x) → P x) → (xs : List T) (s : List ℕ) → members F padded s (map view xs) → All P xs
-each_encodable F view P each [] s h = All-nil P
-each_encodable F view P each (x ∷ xs) s h = All-cons P x xs (each x h.0 h.3) (each_encodable F view P each xs h.1 h.4)
+each_encodable : {T X : Type 0} (F : Format X) (w : Grammar) (view : T → X) (P : T → Type 0) → ((x : T) (s : List ℕ) → F (padded_of w) s (view x) → P x) → (xs : List T) (s : List ℕ) → members F (padded_of w) s (map view xs) → All P xs
+each_encodable F w view P each [] s h = All-nil P
+each_encodable F w view P each (x ∷ xs) s h = All-cons P x xs (each x h.0 h.3) (each_encodable F w view P each xs h.1 h.4)
 
 all_units : {T : Type 0} (xs : List T) → All (λ x. Unit {0}) xs
 all_units [] = All-nil (λ x. Unit {0})
 all_units (x ∷ xs) = All-cons (λ x. Unit {0}) x xs tt (all_units xs)
 
-export_fits : (e : Export) (s : List ℕ) → export padded s (item_of e) → IsEncodableExport e
-export_fits e s h = name_encodable e.name.now (left_encoded name _ e.name.now (h.0.1) (subst (λ z. HasEncoding (pair name (pair (coded kind_code) u32)) (z, h.0.1)) (ap (λ i. i.name) h.1) (record { bytes = s; decoded = h.2 })))
+export_fits : (w : Grammar) (e : Export) (s : List ℕ) → export (padded_of w) s (item_of e) → IsEncodableExport e
+export_fits w e s h = name_encodable e.name.now (left_encoded name _ e.name.now (h.0.1) (subst (λ z. HasEncoding both_grammars (pair name (pair (coded kind_code) u32)) (z, h.0.1)) (ap (λ i. i.name) h.1) (record { grammar = w; included = tt; bytes = s; decoded = h.2 })))
 
-pub exports_fit : (es : List Export) → HasEncoding (content kinds.Exports) (Exports (map item_of es)) → IsEncodableVec IsEncodableExport es
+pub exports_fit : (es : List Export) → HasEncoding both_grammars (content kinds.Exports) (Exports (map item_of es)) → IsEncodableVec IsEncodableExport es
 exports_fit es h =
-    let k = mapped_encoded Exports (vec export) (map item_of es) (λ z e. cc e) h in
-    record { count = viewed_encodable export item_of es k; members = each_encodable export item_of IsEncodableExport export_fits es _ (members_encoded export (map item_of es) k).decoded }
+    let k : HasEncoding both_grammars (vec export) (map item_of es) = mapped_encoded Exports (vec export) (map item_of es) (λ z e. cc e) h in
+    let m = members_encoded export (map item_of es) k in
+    record { count = viewed_encodable export item_of es k; members = each_encodable export m.grammar item_of IsEncodableExport (export_fits m.grammar) es m.bytes m.decoded }
 
-pub functions_fit : (ns : List ℕ) → HasEncoding (content kinds.Functions) (Functions ns) → HasEncoding (vec u32) (map (λ n. n) ns)
-functions_fit ns h = subst (λ z. HasEncoding (vec u32) z) (sym (map-id ns)) (mapped_encoded Functions (vec u32) ns (λ z e. cc e) h)
+pub functions_fit : (ns : List ℕ) → HasEncoding both_grammars (content kinds.Functions) (Functions ns) → HasEncoding both_grammars (vec u32) (map (λ n. n) ns)
+functions_fit ns h = subst (λ z. HasEncoding both_grammars (vec u32) z) (sym (map-id ns)) (mapped_encoded Functions (vec u32) ns (λ z e. cc e) h)
 
-pub memories_fit : (ms : List MemoryType) → HasEncoding (content kinds.Memories) (Memories ms) → IsEncodableVec (λ m. Unit {0}) ms
+pub memories_fit : (ms : List MemoryType) → HasEncoding both_grammars (content kinds.Memories) (Memories ms) → IsEncodableVec (λ m. Unit {0}) ms
 memories_fit ms h = record { count = counted_encodable memory_type ms (mapped_encoded Memories (vec memory_type) ms (λ z e. cc e) h); members = all_units ms }
 
-pub tags_fit : (ts : List TagType) → HasEncoding (content kinds.Tags) (Tags ts) → IsEncodableVec (λ t. Unit {0}) ts
+pub tags_fit : (ts : List TagType) → HasEncoding both_grammars (content kinds.Tags) (Tags ts) → IsEncodableVec (λ t. Unit {0}) ts
 tags_fit ts h = record { count = counted_encodable tag_type ts (mapped_encoded Tags (vec tag_type) ts (λ z e. cc e) h); members = all_units ts }
 
-pub custom_fits : (n bytes : List ℕ) → HasEncoding (content kinds.Custom) (Custom (n, bytes)) → HasEncoding name n
+pub custom_fits : (n bytes : List ℕ) → HasEncoding both_grammars (content kinds.Custom) (Custom (n, bytes)) → HasEncoding both_grammars name n
 custom_fits n bytes h = left_encoded name any_bytes n bytes (mapped_encoded Custom (pair name any_bytes) (n, bytes) (λ z e. cc e) h)
 
 pub ruleset fitting = (items_fit, exports_fit, functions_fit, memories_fit, tags_fit, custom_fits)

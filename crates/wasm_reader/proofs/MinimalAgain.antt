@@ -7,8 +7,6 @@ use Rattle.wasm_reader.proofs.KindLaws.{keeps_name}
 use Rattle.wasm_base.proofs.Words.{◌≡◌, ◌≢◌, ℕ, ◌+◌, List, [], ◌∷◌, ◌++◌, length, drop, false, Option, Some, None, refl, sym, ap, subst, ◌∙◌, append-nil, arith, AllByRecursion, flat_map}
 use Rattle.wasm_base.proofs.Words.{append_cancel_left, admitted, padded, standard, standard_minimal, IsIncludedIn, any_bytes, size_prefixed, header, name, wasm_module, Decodes, Rejects, size_prefixed_bytes_unambiguous}
 use Rattle.wasm_base.proofs.Words.{name_unambiguous, decodes_same}
-use Rattle.wasm_base.specs.Minimal.{IsShared, padded_twins}
-use Rattle.wasm_base.proofs.GrammarLaws.{name_both}
 use Rattle.wasm_base.specs.declared.fault.ReadFault.{ReadFault}
 use Rattle.wasm_base.specs.declared.fault.ReadFault.TheVariants.{Memory}
 use Rattle.wasm_reader.specs.declared.whole.How.{How}
@@ -31,7 +29,7 @@ one_name id payload None (Some m) h g = absurd ((h g.0).none m g.1 g.2)
 
 -- A name of the standard's grammar is one of the builders', and the other way around.
 built_name : IsIncludedIn (name standard) (name padded)
-built_name = let both : IsShared padded_twins name = name_both in both.same
+built_name s n h = (record { front = h.0.front; content = h.0.content; joined = h.0.joined; size = standard_size h.0.front (length h.0.content) h.0.size; encodes = h.0.encodes }, h.1)
 
 built_decodes : {bytes n rest : List ℕ} → Decodes name standard bytes n rest → Decodes name padded bytes n rest
 built_decodes {n = n} h = record { front = h.front; split = h.split; encodes = built_name h.front n h.encodes }

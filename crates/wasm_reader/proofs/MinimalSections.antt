@@ -1,21 +1,19 @@
 -- This file proves that the minimizer appends the one minimal encoding of decoded sections.
-use Rattle.wasm_reader.specs.{Contents, Bodies, Segments, DataCount, Elements, Exports, Functions, Globals, Imports, Memories, Start, Tables, Tags, Types, Names, Linking, Producers, Hints, Core}
-use Rattle.wasm_reader.specs.{CoreModules, CoreInstances, CoreStack, Custom, Raw, TargetFeatures, SourceMappingUrl, ExternalDebugInfo, BuildId, Dylink, Relocations, content, kind_in, section, TakesIn, ShortensIn, HaveOneEncoding}
+use Rattle.wasm_reader.specs.{Contents, Bodies, Segments, DataCount, Elements, Exports, Functions, Globals, Imports, Memories, Start, Tables, Tags, Types, Names, Linking, Producers, Hints}
+use Rattle.wasm_reader.specs.{CoreModules, CoreInstances, CoreStack, TargetFeatures, Dylink, Relocations, content, grammars_of, kind_in, section, TakesIn, ShortensIn, HaveOneEncoding}
 use Rattle.wasm_reader.specs.declared.kinds.SectionKind.{SectionKind}
 use Rattle.wasm_reader.proofs.KindLaws.{content_whole, kind_is}
 use Rattle.wasm_base.proofs.Words.{◌≡◌, ◌≢◌, ◌↔◌, ℕ, ◌+◌, List, [], ◌++◌, length, refl, sym, ap, subst, ◌∙◌, arith, append_cancel_left, padded, standard_minimal, standard, Grammar, builders, minimal_of, padded_of}
 use Rattle.wasm_base.proofs.Words.{Format, u32, mapped, vec, size_prefixed, Result, OnOk, Unambiguous, IsIncludedIn, size_prefixed_unambiguous, decodes_same, AppendsMinimal, on_ok, u32_unambiguous}
 use Rattle.wasm_base.specs.Faults.{Failure}
-use Rattle.wasm_base.specs.Minimal.{AreSameInBoth, IsShared, padded_twins, Minimizes, MinimizesWhole}
-use Rattle.wasm_base.proofs.GrammarLaws.{u32_both, name_both, any_bytes_both, mapped_both, pair_both}
-use Rattle.wasm_base.proofs.MinimizeLaws.{same_minimizes}
+use Rattle.wasm_base.specs.Minimal.{Includes, both_grammars, Minimizes, MinimizesWhole}
+use Rattle.wasm_base.proofs.MinimizeLaws.{decoded_whole_minimizes}
 use Rattle.std.proofs.lemmas.List.{length-append}
 use Rattle.wasm_code.proofs.Words.{body}
 use Rattle.wasm_sections.proofs.Words.{data_item, element, export, global_item, import_format, memory_type, table_item, tag_type}
 use Rattle.wasm_types.proofs.Words.{type_item}
 use Rattle.wasm_custom.proofs.Words.{linking_payload}
 use Rattle.wasm_custom.proofs.Words.{name_payload, producers_payload, hints_payload, modules_payload, instances_payload, stack_payload, features_payload, dylink_payload, relocations_payload}
-use Rattle.wasm_custom.proofs.SharedFormats.{core_same, source_map_same, debug_file_same, build_id_same}
 use Rattle.wasm_reader.proofs.DecodeSections.{taken}
 use Rattle.wasm_reader.specs.declared.kinds.SectionKind.TheVariants as kinds
 
@@ -100,54 +98,46 @@ dylink_minimized = minimizes_as Dylink refl
 pub relocations_minimized : MinimizesAs relocations_payload kinds.Relocations
 relocations_minimized = minimizes_as Relocations refl
 
--- The kinds whose payload is one name or one sequence of bytes, which is decoded, and then encoded.
-abbrev pub IsSingle : SectionKind → Type 0
-IsSingle kind =
-    (kind ≢ kinds.Bodies) × (kind ≢ kinds.Segments) × (kind ≢ kinds.DataCount) × (kind ≢ kinds.Elements) × (kind ≢ kinds.Exports) × (kind ≢ kinds.Functions) × (kind ≢ kinds.Globals) × (kind ≢ kinds.Imports) × (kind ≢ kinds.Memories)
-    × (kind ≢ kinds.Start) × (kind ≢ kinds.Tables) × (kind ≢ kinds.Tags) × (kind ≢ kinds.Types) × (kind ≢ kinds.Names) × (kind ≢ kinds.Linking) × (kind ≢ kinds.Producers) × (kind ≢ kinds.Hints) × (kind ≢ kinds.CoreModules)
-    × (kind ≢ kinds.CoreInstances) × (kind ≢ kinds.CoreStack) × (kind ≢ kinds.TargetFeatures) × (kind ≢ kinds.Dylink) × (kind ≢ kinds.Relocations)
+-- The kinds whose items are written in the minimal encoding of both grammars.
+abbrev pub IsInBoth : SectionKind → Type 0
+IsInBoth kind = (kind ≢ kinds.Bodies) × (kind ≢ kinds.Segments) × (kind ≢ kinds.Elements) × (kind ≢ kinds.Globals) × (kind ≢ kinds.Imports) × (kind ≢ kinds.Tables) × (kind ≢ kinds.Types)
 
-mapped_same : {X : Type 0} (f : X → Contents) {F : Format X} → AreSameInBoth F → AreSameInBoth (mapped f F)
-mapped_same f k = record { shared = λ p. mapped_both f (k.shared p) }
-
--- Their formats are the same in both grammars.
-content_same : (kind : SectionKind) → IsSingle kind → AreSameInBoth (content kind)
-content_same kinds.Bodies n = absurd (n.0 refl)
-content_same kinds.Segments n = absurd (n.1 refl)
-content_same kinds.DataCount n = absurd (n.2 refl)
-content_same kinds.Elements n = absurd (n.3 refl)
-content_same kinds.Exports n = absurd (n.4 refl)
-content_same kinds.Functions n = absurd (n.5 refl)
-content_same kinds.Globals n = absurd (n.6 refl)
-content_same kinds.Imports n = absurd (n.7 refl)
-content_same kinds.Memories n = absurd (n.8 refl)
-content_same kinds.Start n = absurd (n.9 refl)
-content_same kinds.Tables n = absurd (n.10 refl)
-content_same kinds.Tags n = absurd (n.11 refl)
-content_same kinds.Types n = absurd (n.12 refl)
-content_same kinds.Linking n = absurd (n.14 refl)
-content_same kinds.Names n = absurd (n.13 refl)
-content_same kinds.Producers n = absurd (n.15 refl)
-content_same kinds.Hints n = absurd (n.16 refl)
-content_same kinds.Core n = mapped_same Core core_same
-content_same kinds.CoreModules n = absurd (n.17 refl)
-content_same kinds.CoreInstances n = absurd (n.18 refl)
-content_same kinds.CoreStack n = absurd (n.19 refl)
-content_same kinds.Custom n = record { shared = λ p. mapped_both Custom (pair_both name_both any_bytes_both) }
-content_same kinds.Raw n = record { shared = λ p. mapped_both Raw any_bytes_both }
-content_same kinds.TargetFeatures n = absurd (n.20 refl)
-content_same kinds.SourceMappingUrl n = mapped_same SourceMappingUrl source_map_same
-content_same kinds.ExternalDebugInfo n = mapped_same ExternalDebugInfo debug_file_same
-content_same kinds.BuildId n = mapped_same BuildId build_id_same
-content_same kinds.Dylink n = absurd (n.21 refl)
-content_same kinds.Relocations n = absurd (n.22 refl)
+in_both : (kind : SectionKind) → IsInBoth kind → grammars_of kind ≡ both_grammars
+in_both kinds.Bodies n = absurd (n.0 refl)
+in_both kinds.Segments n = absurd (n.1 refl)
+in_both kinds.DataCount n = refl
+in_both kinds.Elements n = absurd (n.2 refl)
+in_both kinds.Exports n = refl
+in_both kinds.Functions n = refl
+in_both kinds.Globals n = absurd (n.3 refl)
+in_both kinds.Imports n = absurd (n.4 refl)
+in_both kinds.Memories n = refl
+in_both kinds.Start n = refl
+in_both kinds.Tables n = absurd (n.5 refl)
+in_both kinds.Tags n = refl
+in_both kinds.Types n = absurd (n.6 refl)
+in_both kinds.Linking n = refl
+in_both kinds.Names n = refl
+in_both kinds.Producers n = refl
+in_both kinds.Hints n = refl
+in_both kinds.Core n = refl
+in_both kinds.CoreModules n = refl
+in_both kinds.CoreInstances n = refl
+in_both kinds.CoreStack n = refl
+in_both kinds.Custom n = refl
+in_both kinds.Raw n = refl
+in_both kinds.TargetFeatures n = refl
+in_both kinds.SourceMappingUrl n = refl
+in_both kinds.ExternalDebugInfo n = refl
+in_both kinds.BuildId n = refl
+in_both kinds.Dylink n = refl
+in_both kinds.Relocations n = refl
 
 -- The decoded value, whose encoding is appended.
-pub items_minimized : (w : Grammar) (kind : SectionKind) (bytes old new : List ℕ) (x : Contents) → IsSingle kind → content kind (padded_of w) bytes x → AppendsMinimal (content (kind_in x)) x old new → MinimizesWhole w (content kind) bytes old new
-items_minimized w kind bytes old new x n h a = same_minimizes w (content kind) x bytes old new (content_same kind n) h (subst (λ k. AppendsMinimal (content k) x old new) (kind_in_grammar w kind bytes x h) a)
-  where
-    kind_in_grammar : (v : Grammar) (k : SectionKind) (s : List ℕ) (y : Contents) → content k (padded_of v) s y → kind_in y ≡ k
-    kind_in_grammar v k s y g = kind_is (padded_of v) k s y g
+pub items_minimized : (w : Grammar) (kind : SectionKind) (bytes old new : List ℕ) (x : Contents) → IsInBoth kind → content kind (padded_of w) bytes x → AppendsMinimal (grammars_of (kind_in x)) (content (kind_in x)) x old new → MinimizesWhole w (content kind) bytes old new
+items_minimized w kind bytes old new x n h a =
+    let given : AppendsMinimal (grammars_of kind) (content kind) x old new = subst (λ k. AppendsMinimal (grammars_of k) (content k) x old new) (kind_is (padded_of w) kind bytes x h) a in
+    decoded_whole_minimizes w (content kind) x bytes old new (subst (λ k. Includes k w) (sym (in_both kind n)) tt) h given
 
 -- ---- sections
 
@@ -171,7 +161,7 @@ shortened w kind bytes rest old new n h l =
 
 -- A size prefix of the standard's grammar is one of the builders'.
 pub standard_size : IsIncludedIn (u32 standard) (u32 padded)
-standard_size = let both : IsShared padded_twins u32 = u32_both in both.same
+standard_size s n h = record { groups = h.groups; total = h.total; range = h.range; size = h.size }
 
 pub minimal_size : IsIncludedIn (u32 standard_minimal) (u32 padded)
 minimal_size s n h = standard_size s n (u32_unambiguous.encodings.included standard_minimal standard tt s n h)

@@ -1,7 +1,7 @@
 -- This file proves that the opcodes of a shape are those of its rows in the table, and what a lookup
 -- in a list of instructions says.
-use Rattle.wasm_base.proofs.Words.{◌≡◌, ◌≢◌, ℕ, zero, suc, ◌+◌, List, [], ◌∷◌, Bool, true, false, ◌&&◌, ◌||◌, ◌<◌, ◌≤◌, cond, eqb, ltb, length, Option, Some, None, get_or, refl, sym, ap, subst, ◌∙◌, arith, ⊤}
-use Rattle.wasm_base.proofs.Words.{eqb-true, eq-eqb, ltb-true, and_parts}
+use Rattle.wasm_base.proofs.Words.{◌≡◌, ◌≢◌, ℕ, zero, suc, ◌+◌, List, [], ◌∷◌, Bool, true, false, ◌&&◌, ◌||◌, ◌<◌, ◌≤◌, cond, eqb, length, Option, Some, None, get_or, refl, sym, ap, ◌∙◌, arith, ⊤}
+use Rattle.wasm_base.proofs.Words.{eqb-true, eq-eqb, and_parts}
 use Rattle.std.specs.Prelude.{is_some, IfSome, IfNone}
 use Rattle.std.proofs.Common.{slice_get}
 use Rattle.wasm_insn.specs.declared.op.Op.{Op}

@@ -58,10 +58,11 @@ pub record GivesSection (old : Iterating) (s : Located) (new : Iterating) : Type
   pub after : new.offset ≡ end_of s
   pub bytes : new.bytes ≡ old.bytes
 
--- The iterator returned this error, and has ended. For any cause but `Memory`, no section decodes
--- from the next bytes.
+-- The iterator returned this error, and has ended. No section decodes from the next bytes. The cause
+-- is not `Memory`.
 pub record GivesError (old : Iterating) (e : ReadError) (new : Iterating) : Type 0 where
   pub none : e.cause ≢ Memory → Rejects any_section padded (ahead old)
+  pub no_memory : e.cause ≢ Memory
   pub more : ahead old ≢ []
   pub from : old.offset ≤ e.offset
   pub within : e.offset ≤ length old.bytes
@@ -97,9 +98,10 @@ pub record GivesBody (old : Visiting) (b : LocatedBody) (new : Visiting) : Type 
   pub end : new.end ≡ old.end
 
 -- The iterator returned this error, and has ended. If bodies are left, no size-prefixed body
--- decodes from the next bytes, for any cause but `Memory`. If none is left, bytes remain.
+-- decodes from the next bytes. If none is left, bytes remain. The cause is not `Memory`.
 pub record EndsBodies (old : Visiting) (e : ReadError) (new : Visiting) : Type 0 where
   pub none : e.cause ≢ Memory → old.left ≢ 0 → Rejects (size_prefixed any_bytes) padded old.rest
+  pub no_memory : e.cause ≢ Memory
   pub more : old.left ≡ 0 → old.rest ≢ []
   pub from : old.end ≤ e.offset + length old.rest
   pub within : e.offset ≤ old.end

@@ -3,6 +3,7 @@ use Rattle.std.specs.Prelude.{ℕ, List, [], ◌∷◌, length, map, Option, Som
 use Rattle.std.specs.List.{slice_get}
 use Rattle.std.specs.Str.{bytes_eq}
 use Rattle.wasm_base.specs.Words.{Format, u32, name, any_bytes, mapped, pair, vec, size_prefixed, number_of}
+use Rattle.wasm_base.specs.Minimal.{Grammars, builders_alone, both_grammars}
 use Rattle.wasm_code.specs.Words.{Body, body, body_view}
 use Rattle.wasm_insn.specs.Words.{Plain}
 use Rattle.wasm_sections.specs.Words.{DataItem, data_item, segment_view, ElementItem, element, element_view, ExportItem, item_of, export, GlobalItem, global_item, global_view, ImportItem}
@@ -84,6 +85,19 @@ content kinds.ExternalDebugInfo = mapped ExternalDebugInfo debug_file_payload
 content kinds.BuildId = mapped BuildId build_id_payload
 content kinds.Dylink = mapped Dylink dylink_payload
 content kinds.Relocations = mapped Relocations relocations_payload
+
+-- The grammars whose minimal encoding is written for the items of a section of this kind. In the
+-- standard's grammar, types, instructions and flags may have a shorter encoding than in the
+-- builders', which is the one that is written.
+abbrev pub grammars_of : SectionKind → Grammars
+grammars_of kinds.Bodies = builders_alone
+grammars_of kinds.Segments = builders_alone
+grammars_of kinds.Elements = builders_alone
+grammars_of kinds.Globals = builders_alone
+grammars_of kinds.Imports = builders_alone
+grammars_of kinds.Tables = builders_alone
+grammars_of kinds.Types = builders_alone
+grammars_of kind = both_grammars
 
 -- The kind of section that has this content.
 abbrev pub kind_in : Contents → SectionKind

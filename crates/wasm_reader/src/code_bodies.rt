@@ -58,13 +58,14 @@ impl<'a, A: Allocator + Copy> Section<'a, A> {
     ///
     /// # Errors
     ///
-    /// An error but `Memory` means that this is no code section, or that its payload does not begin
+    /// An error means that this is no code section, or that its payload does not begin
     /// with a number.
     pub fn bodies(&self) -> Result<Bodies<'a, A>, ReadError>
         ensures id { IfOk result (λ _. self.now.section.id ≡ 10) }
         ensures found { IfOk result (λ it. Decodes u32 padded self.now.section.payload it.left it.rest) }
         ensures end { IfOk result (λ it. it.end ≡ end_of self.now) }
         ensures none { IfErr result (λ e. e.cause ≢ Memory → (self.now.section.id ≢ 10) ⊎ Rejects u32 padded self.now.section.payload) }
+        ensures no_memory { IfErr result (λ e. e.cause ≢ Memory) }
         ensures from { IfErr result (λ e. self.now.offset ≤ e.offset) }
         ensures within { IfErr result (λ e. e.offset ≤ end_of self.now) }
     {

@@ -2,10 +2,10 @@
 ghost use Rattle.std.specs.Prelude.{◌≡◌, ◌≢◌, Err, IfOk, IfErr, OnOk, OnErr};
 ghost use Rattle.wasm_base.specs.Continuing.{RejectsWhole};
 ghost use Rattle.wasm_base.specs.Numbers.{padded_of};
-ghost use Rattle.wasm_base.specs.Minimal.{AppendsMinimal, HasEncoding};
+ghost use Rattle.wasm_base.specs.Minimal.{AppendsMinimal, HasEncoding, both_grammars};
 ghost use Rattle.wasm_base.specs.declared.fault.ReadFault.TheVariants.{Memory};
 ghost use Rattle.wasm_base.specs.declared.refused.Refused.TheVariants.{TooLong};
-ghost use Rattle.wasm_reader.specs.Kinds.{Contents, Custom, content, contents_of, kind_among_names, kind_in, kind_named, known_names, kind_numbered, kind_of_id as kind_among_ids, number_in};
+ghost use Rattle.wasm_reader.specs.Kinds.{Contents, Custom, content, contents_of, grammars_of, kind_among_names, kind_in, kind_named, known_names, kind_numbered, kind_of_id as kind_among_ids, number_in};
 ghost use Rattle.wasm_reader.specs.declared.kinds.SectionKind.TheVariants as kinds;
 
 use crate::counts::count_skipped;
@@ -354,9 +354,9 @@ pub(crate) fn read_number<'a, A: Allocator + Copy, G: Grammar>(
 /// the sink is unchanged.
 #[tactic(auto, using(crate::proofs::KindLaws::custom_fits))]
 fn append_custom<B: Allocator>(name: &str, bytes: &[u8], sink: &mut Vec<u8, B>) -> Result<()>
-    ensures ok { OnOk result (AppendsMinimal (content kinds.Custom) (Custom (name.now, bytes.now)) sink.old.items sink.new.items) }
+    ensures ok { OnOk result (AppendsMinimal both_grammars (content kinds.Custom) (Custom (name.now, bytes.now)) sink.old.items sink.new.items) }
     ensures err { OnErr result (sink.new.items ≡ sink.old.items) }
-    ensures too_long { HasEncoding (content kinds.Custom) (Custom (name.now, bytes.now)) → result ≢ Err TooLong }
+    ensures too_long { HasEncoding both_grammars (content kinds.Custom) (Custom (name.now, bytes.now)) → result ≢ Err TooLong }
 {
     let start = sink.len();
     name.append_minimal(sink)?;
@@ -369,8 +369,11 @@ fn append_custom<B: Allocator>(name: &str, bytes: &[u8], sink: &mut Vec<u8, B>) 
     }
 }
 
-/// Appends the minimal encoding of a section's payload with these items, as builders write it. On
-/// an error, the sink is unchanged.
+/// Appends the minimal encoding of a section's payload with these items. On an error, the sink is
+/// unchanged.
+///
+/// Types, code, imports, tables, globals, elements and data are written as builders write them. The
+/// standard's grammar has a shorter encoding of some of them, such as a nullable reference type.
 ///
 /// [`read_section`](crate::read_section) and [`Section::items`](crate::Section::items) return such
 /// items. [`RawSection`](wasm_base::RawSection) adds the id and the size prefix that make a section
@@ -387,16 +390,16 @@ fn append_custom<B: Allocator>(name: &str, bytes: &[u8], sink: &mut Vec<u8, B>) 
 ///
 /// # Errors
 ///
-/// Returns `TooLong` only if no bytes decode to the items in the builders' grammar, and `Memory` if
-/// an allocation fails.
+/// Returns `TooLong` only if no bytes decode to the items: in the builders' grammar for those
+/// kinds, in either for the others. Returns `Memory` if an allocation fails.
 #[tactic(auto, using(crate::proofs::KindLaws::contents, crate::proofs::KindLaws::fitting))]
 pub fn encode_items<A: Allocator, B: Allocator>(
     items: &Items<'_, A>,
     sink: &mut Vec<u8, B>,
 ) -> Result<()>
-    ensures ok { OnOk result (AppendsMinimal (content (kind_in (contents_of items.now))) (contents_of items.now) sink.old.items sink.new.items) }
+    ensures ok { OnOk result (AppendsMinimal (grammars_of (kind_in (contents_of items.now))) (content (kind_in (contents_of items.now))) (contents_of items.now) sink.old.items sink.new.items) }
     ensures err { OnErr result (sink.new.items ≡ sink.old.items) }
-    ensures too_long { HasEncoding (content (kind_in (contents_of items.now))) (contents_of items.now) → result ≢ Err TooLong }
+    ensures too_long { HasEncoding (grammars_of (kind_in (contents_of items.now))) (content (kind_in (contents_of items.now))) (contents_of items.now) → result ≢ Err TooLong }
 {
     match items {
         Items::Bodies(items) => items.append_minimal(sink),

@@ -8,7 +8,7 @@ ghost use Rattle.wasm_reader.specs.Outlines.{section_of, IsSection, IsNameOf, Is
 
 use crate::kinds::{SectionKind, kind_of_id, kind_of_name};
 use std::alloc::Allocator;
-use wasm_base::{DecodeError, Padded, ReadFault, Readable};
+use wasm_base::{DecodeError, Padded, Readable};
 
 /// A section of a module, with its payload not yet decoded.
 #[derive(Clone, Copy, Debug)]
@@ -37,23 +37,21 @@ impl Standing<'_> {
     }
 }
 
-/// Decodes the name of a custom section from its payload, and returns it with the data after it.
-fn read_name<'a, A: Allocator + Copy>(
+/// Returns the name of a custom section, if its payload begins with one, and the data after it.
+fn name_of<'a, A: Allocator + Copy>(
     id: u8,
     payload: &'a [u8],
     alloc: A,
-) -> Result<(Option<&'a str>, &'a [u8]), DecodeError>
-    ensures found { IfOk result (λ x. IsNameOf id payload.now (option_map (λ n. n.now) x.0)) }
-    ensures data { IfOk result (λ x. IsDataOf (option_map (λ n. n.now) x.0) payload.now x.1.now) }
-    ensures memory { IfErr result (λ e. e.cause ≡ Memory) }
+) -> (Option<&'a str>, &'a [u8])
+    ensures name { IsNameOf id payload.now (option_map (λ n. n.now) result.0) }
+    ensures data { IsDataOf (option_map (λ n. n.now) result.0) payload.now result.1.now }
 {
     if id != 0 {
-        return Ok((None, payload));
+        return (None, payload);
     }
     match <&'a str as Readable<'a, A, Padded>>::read(payload, alloc) {
-        Ok((name, data)) => Ok((Some(name), data)),
-        Err(error) if error.cause() == ReadFault::Memory => Err(error),
-        Err(_) => Ok((None, payload)),
+        Ok((name, data)) => (Some(name), data),
+        Err(_) => (None, payload),
     }
 }
 
@@ -68,11 +66,12 @@ pub(crate) fn read_standing<'a, A: Allocator + Copy>(
     ensures split { IfOk result (λ x. bytes.now ≡ bytes_of (section_of x.0) ++ x.1.now) }
     ensures data { IfOk result (λ x. IsDataOf (section_of x.0).name (section_of x.0).payload x.0.data.now) }
     ensures none { IfErr result (λ e. e.cause ≢ Memory → Rejects any_section padded bytes.now) }
+    ensures no_memory { IfErr result (λ e. e.cause ≢ Memory) }
 {
     let (id, rest) = <u8 as Readable<'a, A, Padded>>::read(bytes, alloc)?;
     let (payload, after) = <&'a [u8] as Readable<'a, A, Padded>>::read(rest, alloc)?;
     let sized = &rest[..rest.len() - after.len()];
-    let (name, data) = read_name(id, payload, alloc)?;
+    let (name, data) = name_of(id, payload, alloc);
     Ok((
         Standing {
             id,

@@ -1,7 +1,7 @@
 -- This file re-exports what the proofs of this crate's functions use.
 pub use Rattle.std.specs.Prelude.{IfErr}
 pub use Rattle.wasm_base.proofs.SectionLaws.{items, padded_unambiguous, payloads, unambiguous}
-pub use Rattle.wasm_base.proofs.Words.{All, Appends, AppendsMinimal, Decodes, HasEncodableSize, HasEncoding, IfOk, IsEncodableSection, List, Rejects, all_appended, ap, arith, common_steps}
+pub use Rattle.wasm_base.proofs.Words.{All, Appends, AppendsMinimal, builders_alone, Decodes, HasEncodableSize, HasEncoding, IfOk, IsEncodableSection, List, Rejects, all_appended, ap, arith, common_steps}
 pub use Rattle.wasm_base.proofs.Words.{contains_more, counted_decodes, fault_stays, front_appended, front_encoded, front_then, longest, map, member_encoded, members, members_encoded, next_appended}
 pub use Rattle.wasm_base.proofs.Words.{not_from_Decides, on_ok, padded_of, ref_unambiguous, refl, rules, size_prefixed_encoding, stays_short, subst, sym, take, take_all, then_decodes}
 pub use Rattle.wasm_base.proofs.Words.{then_rejects_first, then_rejects_second, u32-payload, unambiguous_padded, unsigned_encoding, vec_appended, ◌++◌, ◌∙◌, ◌∷◌, ◌≡◌, ◌≢◌, ◌≤◌}

@@ -6,7 +6,7 @@ use Rattle.wasm_base.proofs.Words.{size_prefixed, impossible, members, Mode, min
 use Rattle.wasm_base.proofs.Words.{vec_bytes_unambiguous, mapped_unambiguous, pair_unambiguous, such_unambiguous, DeterminesTag, choice_determines, choice_unambiguous, tagged_unambiguous}
 use Rattle.wasm_base.proofs.Words.{impossible_unambiguous, u32_unambiguous, u32_small, encodes_in, u32_in, pair_in, bytes_encodes, then_decodes, then_rejects_first, then_rejects_second}
 use Rattle.wasm_base.proofs.Words.{mapped_decodes, mapped_rejects, such_decodes, such_none, such_rejects, tagged_decodes, tagged_none, tagged_rejects, no_choice, SectionLaws, counted_laws_padded}
-use Rattle.wasm_base.proofs.Words.{AppendsMinimal, HasEncoding, left_encoded, right_encoded, tagged_encoded, mapped_encoded, counted_encodable, u32_appended, encoding_appended, pair_appended}
+use Rattle.wasm_base.proofs.Words.{AppendsMinimal, built_appended, builders_alone, HasEncoding, Includes, left_encoded, right_encoded, tagged_encoded, mapped_encoded, counted_encodable, u32_appended, pair_appended}
 use Rattle.wasm_base.proofs.Words.{tagged_appended, mapped_appended}
 use Rattle.wasm_base.specs.Decoding.{ShrinksTo}
 use Rattle.wasm_base.specs.declared.refused.Refused.{Refused}
@@ -331,55 +331,59 @@ pub ruleset index_steps = (index_other, index_standard, index_admitted)
 -- ---- the one minimal encoding of a decoded segment
 
 -- Size-prefixed bytes.
-pub counted_appended : (bytes old new : List ℕ) → HasEncodableSize bytes → new ≡ old ++ size_prefixed_encoding bytes → AppendsMinimal (vec byte) bytes old new
-counted_appended bytes old new encodable e = encoding_appended (vec byte) bytes (size_prefixed_encoding bytes) old new (λ s h. bytes_encodes bytes encodable) e
+pub counted_appended : (bytes old new : List ℕ) → HasEncodableSize bytes → new ≡ old ++ size_prefixed_encoding bytes → AppendsMinimal builders_alone (vec byte) bytes old new
+counted_appended bytes old new encodable e = built_appended (vec byte) bytes (size_prefixed_encoding bytes) old new (λ s h. bytes_encodes bytes encodable) e
 
 -- In the builders' grammar.
-built_appended : (x : DataItem) (old new : List ℕ) → AppendsMinimal (data_in builders) x old new → AppendsMinimal data_item x old new
-built_appended x old new a = record { encoding = a.encoding; appended = a.appended; encodes = a.encodes }
+data_appended : (x : DataItem) (old new : List ℕ) → AppendsMinimal builders_alone (data_in builders) x old new → AppendsMinimal builders_alone data_item x old new
+data_appended x old new a = built_appended data_item x a.encoding old new (λ s h. a.encodes builders tt s h) a.appended
 
-built_encoded : (x : DataItem) → HasEncoding data_item x → HasEncoding (data_in builders) x
-built_encoded x h = record { bytes = h.bytes; decoded = h.decoded }
+built_encoded : (x : DataItem) → HasEncoding builders_alone data_item x → HasEncoding builders_alone (data_in builders) x
+built_encoded x h = go h.grammar h.included h.bytes h.decoded
+  where
+    go : (w : Grammar) → Includes builders_alone w → (s : List ℕ) → data_item (padded_of w) s x → HasEncoding builders_alone (data_in builders) x
+    go builders q s k = record { grammar = builders; included = tt; bytes = s; decoded = k }
+    go admitted q s k = absurd q
 
 -- The flag is appended, then the fields that it selects.
-flagged : (x : DataItem) (n : ℕ) (old middle new : List ℕ) → flag_of x ≡ n → middle ≡ old ++ unsigned_encoding n → AppendsMinimal (after_flag builders n) x middle new → AppendsMinimal data_item x old new
-flagged x n old middle new e is a = built_appended x old new (tagged_appended u32 (after_flag builders) (λ s z h. flag_determines padded z s x h ∙ e) (u32_appended n old middle is) a)
+flagged : (x : DataItem) (n : ℕ) (old middle new : List ℕ) → flag_of x ≡ n → middle ≡ old ++ unsigned_encoding n → AppendsMinimal builders_alone (after_flag builders n) x middle new → AppendsMinimal builders_alone data_item x old new
+flagged x n old middle new e is a = data_appended x old new (tagged_appended u32 (after_flag builders) (λ mode s z h. flag_determines mode z s x h ∙ e) (u32_appended n old middle is) a)
 
-pub placed_appended : (offset : List Plain) (bytes old middle new : List ℕ) → AppendsMinimal expression offset old middle → HasEncodableSize bytes → new ≡ middle ++ size_prefixed_encoding bytes → AppendsMinimal (pair expression (vec byte)) (offset, bytes) old new
+pub placed_appended : (offset : List Plain) (bytes old middle new : List ℕ) → AppendsMinimal builders_alone expression offset old middle → HasEncodableSize bytes → new ≡ middle ++ size_prefixed_encoding bytes → AppendsMinimal builders_alone (pair expression (vec byte)) (offset, bytes) old new
 placed_appended offset bytes old middle new a encodable e = pair_appended expression (vec byte) a (counted_appended bytes middle new encodable e)
 
-pub passive_data_appended : (bytes old middle new : List ℕ) → middle ≡ old ++ unsigned_encoding 1 → HasEncodableSize bytes → new ≡ middle ++ size_prefixed_encoding bytes → AppendsMinimal data_item (passive bytes) old new
+pub passive_data_appended : (bytes old middle new : List ℕ) → middle ≡ old ++ unsigned_encoding 1 → HasEncodableSize bytes → new ≡ middle ++ size_prefixed_encoding bytes → AppendsMinimal builders_alone data_item (passive bytes) old new
 passive_data_appended bytes old middle new e encodable is = flagged (passive bytes) 1 old middle new refl e (mapped_appended passive (vec byte) bytes middle new (λ z k. cc k) (counted_appended bytes middle new encodable is))
 
-pub first_appended : (memory : ℕ) (offset : List Plain) (bytes old middle new : List ℕ) → memory ≡ 0 → middle ≡ old ++ unsigned_encoding 0 → AppendsMinimal (pair expression (vec byte)) (offset, bytes) middle new → AppendsMinimal data_item (active memory offset bytes) old new
+pub first_appended : (memory : ℕ) (offset : List Plain) (bytes old middle new : List ℕ) → memory ≡ 0 → middle ≡ old ++ unsigned_encoding 0 → AppendsMinimal builders_alone (pair expression (vec byte)) (offset, bytes) middle new → AppendsMinimal builders_alone data_item (active memory offset bytes) old new
 first_appended memory offset bytes old middle new z e a =
-    subst (λ n. AppendsMinimal data_item (active n offset bytes) old new) (sym z)
+    subst (λ n. AppendsMinimal builders_alone data_item (active n offset bytes) old new) (sym z)
     (flagged (active 0 offset bytes) 0 old middle new refl e (mapped_appended in_first (pair expression (vec byte)) (offset, bytes) middle new (λ p k. ap (λ x. (active_parts x).1) k) a))
 
-pub other_appended : (memory : ℕ) (offset : List Plain) (bytes old middle new : List ℕ) → memory ≢ 0 → middle ≡ old ++ (unsigned_encoding 2 ++ unsigned_encoding memory) → AppendsMinimal (pair expression (vec byte)) (offset, bytes) middle new → AppendsMinimal data_item (active memory offset bytes) old new
+pub other_appended : (memory : ℕ) (offset : List Plain) (bytes old middle new : List ℕ) → memory ≢ 0 → middle ≡ old ++ (unsigned_encoding 2 ++ unsigned_encoding memory) → AppendsMinimal builders_alone (pair expression (vec byte)) (offset, bytes) middle new → AppendsMinimal builders_alone data_item (active memory offset bytes) old new
 other_appended memory offset bytes old middle new other e a =
     let some : 0 < memory = omega (arith, other) in
     let flagged_end = old ++ unsigned_encoding 2 in
-    let number = u32_appended memory flagged_end middle (e ∙ sym (append_assoc old (unsigned_encoding 2) (unsigned_encoding memory))) in
-    let index : AppendsMinimal (such (HasIndex builders) u32) memory flagged_end middle = record { encoding = number.encoding; appended = number.appended; encodes = λ s h. (number.encodes s h.0, some) } in
+    let number : AppendsMinimal builders_alone u32 memory flagged_end middle = u32_appended memory flagged_end middle (e ∙ sym (append_assoc old (unsigned_encoding 2) (unsigned_encoding memory))) in
+    let index : AppendsMinimal builders_alone (such (HasIndex builders) u32) memory flagged_end middle = record { encoding = number.encoding; appended = number.appended; encodes = λ w q s h. (number.encodes w q s h.0, some) } in
     let inside = pair_appended (such (HasIndex builders) u32) (pair expression (vec byte)) index a in
     flagged (active memory offset bytes) 2 old flagged_end new (not_first memory offset bytes some) refl (mapped_appended in_memory (pair (such (HasIndex builders) u32) (pair expression (vec byte))) (memory, (offset, bytes)) flagged_end new (λ p k. ap active_parts k) inside)
 
 -- ---- fields of a segment that has an encoding
 
-pub data_offset_encoded : (offset : List Plain) (bytes : List ℕ) → HasEncoding (pair expression (vec byte)) (offset, bytes) → HasEncoding expression offset
+pub data_offset_encoded : (offset : List Plain) (bytes : List ℕ) → HasEncoding builders_alone (pair expression (vec byte)) (offset, bytes) → HasEncoding builders_alone expression offset
 data_offset_encoded offset bytes h = left_encoded expression (vec byte) offset bytes h
 
-pub bytes_encodable : (offset : List Plain) (bytes : List ℕ) → HasEncoding (pair expression (vec byte)) (offset, bytes) → HasEncodableSize bytes
+pub bytes_encodable : (offset : List Plain) (bytes : List ℕ) → HasEncoding builders_alone (pair expression (vec byte)) (offset, bytes) → HasEncodableSize bytes
 bytes_encodable offset bytes h = counted_encodable byte bytes (right_encoded expression (vec byte) offset bytes h)
 
-behind_flag : (x : DataItem) (n : ℕ) → flag_of x ≡ n → HasEncoding data_item x → HasEncoding (after_flag builders n) x
-behind_flag x n e h = tagged_encoded u32 (after_flag builders) n x (λ s z k. flag_determines padded z s x k ∙ e) (built_encoded x h)
+behind_flag : (x : DataItem) (n : ℕ) → flag_of x ≡ n → HasEncoding builders_alone data_item x → HasEncoding builders_alone (after_flag builders n) x
+behind_flag x n e h = tagged_encoded u32 (after_flag builders) n x (λ mode s z k. flag_determines mode z s x k ∙ e) (built_encoded x h)
 
-pub passive_encodable : (bytes : List ℕ) → HasEncoding data_item (passive bytes) → HasEncodableSize bytes
+pub passive_encodable : (bytes : List ℕ) → HasEncoding builders_alone data_item (passive bytes) → HasEncodableSize bytes
 passive_encodable bytes h = counted_encodable byte bytes (mapped_encoded passive (vec byte) bytes (λ z k. cc k) (behind_flag (passive bytes) 1 refl h))
 
-pub placed_encoded : (memory : ℕ) (offset : List Plain) (bytes : List ℕ) → HasEncoding data_item (active memory offset bytes) → HasEncoding (pair expression (vec byte)) (offset, bytes)
+pub placed_encoded : (memory : ℕ) (offset : List Plain) (bytes : List ℕ) → HasEncoding builders_alone data_item (active memory offset bytes) → HasEncoding builders_alone (pair expression (vec byte)) (offset, bytes)
 placed_encoded zero offset bytes h = mapped_encoded in_first (pair expression (vec byte)) (offset, bytes) (λ p k. ap (λ x. (active_parts x).1) k) (behind_flag (active 0 offset bytes) 0 refl h)
 placed_encoded (suc n) offset bytes h =
     right_encoded (such (HasIndex builders) u32) (pair expression (vec byte)) (suc n) (offset, bytes)

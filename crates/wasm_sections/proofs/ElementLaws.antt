@@ -5,8 +5,9 @@ use Rattle.wasm_base.proofs.Words.{prefixed, IsUnsignedInRange, Mode, minimal, u
 use Rattle.wasm_base.proofs.Words.{ref_encoding, FUNCREF, IsRef, vec_u32_unambiguous, DeterminesTag, mapped_unambiguous, pair_unambiguous, vec_unambiguous, when_unambiguous, fixed_unambiguous}
 use Rattle.wasm_base.proofs.Words.{prefixed_unambiguous, tagged_unambiguous, byte_unambiguous, u32_unambiguous, encodes_in, u32_encodes, u32_in, vec_encodes, ref_unambiguous, ref-encodings, pair_in}
 use Rattle.wasm_base.proofs.Words.{flag_encodes, numbered_unambiguous, decodes_same, then_decodes, then_rejects_first, then_rejects_second, mapped_decodes, mapped_rejects, tagged_decodes, tagged_none}
-use Rattle.wasm_base.proofs.Words.{tagged_rejects, fixed_decodes, SectionLaws, counted_laws_padded, AppendsMinimal, HasEncoding, left_encoded, right_encoded, prefixed_encoded, tagged_encoded}
+use Rattle.wasm_base.proofs.Words.{tagged_rejects, fixed_decodes, SectionLaws, counted_laws_padded, AppendsMinimal, both_grammars, builders_alone, fewer_appended, HasEncoding, left_encoded, right_encoded, prefixed_encoded, tagged_encoded}
 use Rattle.wasm_base.proofs.Words.{mapped_encoded, fitting_appended, u32_appended, ref_is, encoding_appended, nothing_appended, pair_appended, prefixed_appended, tagged_appended, mapped_appended}
+use Rattle.wasm_base.proofs.GrammarLaws.{u32_canonical}
 use Rattle.wasm_base.specs.declared.types.HeapType.{HeapType}
 use Rattle.wasm_base.specs.declared.types.RefType.{RefType}
 use Rattle.wasm_base.specs.declared.types.HeapType.TheVariants.{Abstract}
@@ -387,82 +388,83 @@ pub ruleset element_steps = (element_no_list)
 
 -- ---- the one minimal encoding of a decoded segment
 
-pub element_appended : (x : ElementItem (List Plain)) (old flag middle new : List ℕ) → flag ≡ old ++ unsigned_encoding (flag_code (flag_of x)) → AppendsMinimal (segment_mode (flag_of x)) x.segment_mode flag middle → AppendsMinimal (elements_as (has_kind (flag_of x)) (are_expressions x.elements)) x.elements middle new → AppendsMinimal element x old new
+pub element_appended : (x : ElementItem (List Plain)) (old flag middle new : List ℕ) → flag ≡ old ++ unsigned_encoding (flag_code (flag_of x)) → AppendsMinimal builders_alone (segment_mode (flag_of x)) x.segment_mode flag middle → AppendsMinimal builders_alone (elements_as (has_kind (flag_of x)) (are_expressions x.elements)) x.elements middle new → AppendsMinimal builders_alone element x old new
 element_appended x old flag middle new e a b =
     let f = flag_of x in
     let inside = pair_appended (segment_mode f) (elements_as (has_kind f) f.expressions) a b in
     let rest = mapped_appended segment_of (pair (segment_mode f) (elements_as (has_kind f) f.expressions)) (x.segment_mode, x.elements) flag new (λ z k. ap (λ s. (s.segment_mode, s.elements)) k) inside in
-    tagged_appended (numbered flag_code) (λ g. mapped segment_of (pair (segment_mode g) (elements_as (has_kind g) g.expressions))) (λ s z h. flag_explicit padded z s x h)
-    (encoding_appended (numbered flag_code) f (unsigned_encoding (flag_code f)) old flag (λ s h. u32_encodes (flag_code f) h.range) e) rest
+    tagged_appended (numbered flag_code) (λ g. mapped segment_of (pair (segment_mode g) (elements_as (has_kind g) g.expressions))) (λ mode s z h. flag_explicit mode z s x h)
+    (encoding_appended (numbered flag_code) f (unsigned_encoding (flag_code f)) old flag (λ w q s h. u32_canonical.minimal_in w s (flag_code f) h) e) rest
 
 -- The segment of this mode and these elements.
 abbrev at_segment_mode : SegmentMode (List Plain) → ElementList (List Plain) → ElementItem (List Plain)
 at_segment_mode p l = record { segment_mode = p; elements = l }
 
-pub passive_appended : (p : SegmentMode (List Plain)) (l : ElementList (List Plain)) (old : List ℕ) → p ≡ passive → AppendsMinimal (segment_mode (flag_of (at_segment_mode p l))) p old old
-passive_appended p l old e = subst (λ z. AppendsMinimal (segment_mode (flag_of (at_segment_mode z l))) z old old) (sym e) (nothing_appended (segment_mode (flag_of (at_segment_mode passive l))) passive old (λ s h. (refl, refl)))
+pub passive_appended : (p : SegmentMode (List Plain)) (l : ElementList (List Plain)) (old : List ℕ) → p ≡ passive → AppendsMinimal builders_alone (segment_mode (flag_of (at_segment_mode p l))) p old old
+passive_appended p l old e = subst (λ z. AppendsMinimal builders_alone (segment_mode (flag_of (at_segment_mode z l))) z old old) (sym e) (nothing_appended (segment_mode (flag_of (at_segment_mode passive l))) passive old (λ w q s h. (refl, refl)))
 
-pub declared_appended : (p : SegmentMode (List Plain)) (l : ElementList (List Plain)) (old : List ℕ) → p ≡ declared → AppendsMinimal (segment_mode (flag_of (at_segment_mode p l))) p old old
-declared_appended p l old e = subst (λ z. AppendsMinimal (segment_mode (flag_of (at_segment_mode z l))) z old old) (sym e) (nothing_appended (segment_mode (flag_of (at_segment_mode declared l))) declared old (λ s h. (refl, refl)))
+pub declared_appended : (p : SegmentMode (List Plain)) (l : ElementList (List Plain)) (old : List ℕ) → p ≡ declared → AppendsMinimal builders_alone (segment_mode (flag_of (at_segment_mode p l))) p old old
+declared_appended p l old e = subst (λ z. AppendsMinimal builders_alone (segment_mode (flag_of (at_segment_mode z l))) z old old) (sym e) (nothing_appended (segment_mode (flag_of (at_segment_mode declared l))) declared old (λ w q s h. (refl, refl)))
 
 -- The flag of an active segment of functions.
 abbrev in_any : Bool → ElementFlag
 in_any second = record { not_active = false; second = second; expressions = false }
 
-pub no_table_appended : (table : Option ℕ) (offset : List Plain) (old new : List ℕ) → table ≡ None → AppendsMinimal expression offset old new → AppendsMinimal (segment_mode (in_any (is_given table))) (active table offset) old new
+pub no_table_appended : (table : Option ℕ) (offset : List Plain) (old new : List ℕ) → table ≡ None → AppendsMinimal builders_alone expression offset old new → AppendsMinimal builders_alone (segment_mode (in_any (is_given table))) (active table offset) old new
 no_table_appended table offset old new e a =
-    subst (λ t. AppendsMinimal (segment_mode (in_any (is_given t))) (active t offset) old new) (sym e) (mapped_appended in_no_table expression offset old new (λ z k. ap (λ p. (table_parts p).1) k) a)
+    subst (λ t. AppendsMinimal builders_alone (segment_mode (in_any (is_given t))) (active t offset) old new) (sym e) (mapped_appended in_no_table expression offset old new (λ z k. ap (λ p. (table_parts p).1) k) a)
 
-pub in_table_appended : (given : Option ℕ) (table : ℕ) (offset : List Plain) (old middle new : List ℕ) → given ≡ Some table → middle ≡ old ++ unsigned_encoding table → AppendsMinimal expression offset middle new → AppendsMinimal (segment_mode (in_any (is_given given))) (active given offset) old new
+pub in_table_appended : (given : Option ℕ) (table : ℕ) (offset : List Plain) (old middle new : List ℕ) → given ≡ Some table → middle ≡ old ++ unsigned_encoding table → AppendsMinimal builders_alone expression offset middle new → AppendsMinimal builders_alone (segment_mode (in_any (is_given given))) (active given offset) old new
 in_table_appended given table offset old middle new e is a =
-    subst (λ t. AppendsMinimal (segment_mode (in_any (is_given t))) (active t offset) old new) (sym e)
+    subst (λ t. AppendsMinimal builders_alone (segment_mode (in_any (is_given t))) (active t offset) old new) (sym e)
     (mapped_appended in_table (pair u32 expression) (table, offset) old new (λ z k. ap table_parts k) (pair_appended u32 expression (u32_appended table old middle is) a))
 
-pub functions_explicit_appended : (explicit : Bool) (fs : List ℕ) (old middle new : List ℕ) → explicit ≡ true → middle ≡ old ++ 0x00 ∷ [] → AppendsMinimal (vec u32) (map (λ n. n) fs) middle new → AppendsMinimal (elements_as explicit false) (functions fs) old new
+pub functions_explicit_appended : (explicit : Bool) (fs : List ℕ) (old middle new : List ℕ) → explicit ≡ true → middle ≡ old ++ 0x00 ∷ [] → AppendsMinimal both_grammars (vec u32) (map (λ n. n) fs) middle new → AppendsMinimal builders_alone (elements_as explicit false) (functions fs) old new
 functions_explicit_appended explicit fs old middle new e is a =
-    subst (λ t. AppendsMinimal (elements_as t false) (functions fs) old new) (sym e)
-    (mapped_appended functions (prefixed (0x00 ∷ []) (vec u32)) fs old new (λ z k. cc k) (prefixed_appended (0x00 ∷ []) (vec u32) fs old middle new is (subst (λ z. AppendsMinimal (vec u32) z middle new) (map-id fs) a)))
+    subst (λ t. AppendsMinimal builders_alone (elements_as t false) (functions fs) old new) (sym e)
+    (mapped_appended functions (prefixed (0x00 ∷ []) (vec u32)) fs old new (λ z k. cc k) (prefixed_appended (0x00 ∷ []) (vec u32) fs old middle new is (fewer_appended (λ w q. tt) (subst (λ z. AppendsMinimal both_grammars (vec u32) z middle new) (map-id fs) a))))
 
-pub functions_implicit_appended : (explicit : Bool) (fs : List ℕ) (old new : List ℕ) → explicit ≡ false → AppendsMinimal (vec u32) (map (λ n. n) fs) old new → AppendsMinimal (elements_as explicit false) (functions fs) old new
+pub functions_implicit_appended : (explicit : Bool) (fs : List ℕ) (old new : List ℕ) → explicit ≡ false → AppendsMinimal both_grammars (vec u32) (map (λ n. n) fs) old new → AppendsMinimal builders_alone (elements_as explicit false) (functions fs) old new
 functions_implicit_appended explicit fs old new e a =
-    subst (λ t. AppendsMinimal (elements_as t false) (functions fs) old new) (sym e)
-    (mapped_appended functions (prefixed [] (vec u32)) fs old new (λ z k. cc k) (prefixed_appended [] (vec u32) fs old old new (sym (append-nil old)) (subst (λ z. AppendsMinimal (vec u32) z old new) (map-id fs) a)))
+    subst (λ t. AppendsMinimal builders_alone (elements_as t false) (functions fs) old new) (sym e)
+    (mapped_appended functions (prefixed [] (vec u32)) fs old new (λ z k. cc k) (prefixed_appended [] (vec u32) fs old old new (sym (append-nil old)) (fewer_appended (λ w q. tt) (subst (λ z. AppendsMinimal both_grammars (vec u32) z old new) (map-id fs) a))))
 
-typed : (explicit : Bool) (r : RefType) (es : List (List Plain)) (old middle new : List ℕ) → AppendsMinimal (when explicit ref_type (fixed [] FUNCREF)) r old middle → AppendsMinimal (vec expression) es middle new → AppendsMinimal (elements_as explicit true) (expressions r es) old new
+typed : (explicit : Bool) (r : RefType) (es : List (List Plain)) (old middle new : List ℕ) → AppendsMinimal builders_alone (when explicit ref_type (fixed [] FUNCREF)) r old middle → AppendsMinimal builders_alone (vec expression) es middle new → AppendsMinimal builders_alone (elements_as explicit true) (expressions r es) old new
 typed explicit r es old middle new a b =
     mapped_appended list_of (pair (when explicit ref_type (fixed [] FUNCREF)) (vec expression)) (r, es) old new (λ z k. ap list_parts k) (pair_appended (when explicit ref_type (fixed [] FUNCREF)) (vec expression) a b)
 
-pub expressions_explicit_appended : (explicit : Bool) (r : RefType) (es : List (List Plain)) (old middle new : List ℕ) → explicit ≡ true → middle ≡ old ++ ref_encoding r → AppendsMinimal (vec expression) es middle new → AppendsMinimal (elements_as explicit true) (expressions r es) old new
+pub expressions_explicit_appended : (explicit : Bool) (r : RefType) (es : List (List Plain)) (old middle new : List ℕ) → explicit ≡ true → middle ≡ old ++ ref_encoding r → AppendsMinimal builders_alone (vec expression) es middle new → AppendsMinimal builders_alone (elements_as explicit true) (expressions r es) old new
 expressions_explicit_appended explicit r es old middle new e is a =
-    subst (λ t. AppendsMinimal (elements_as t true) (expressions r es) old new) (sym e) (typed true r es old middle new (fitting_appended ref_type IsRef ref_encoding r old middle ref-encodings ref_is is) a)
+    subst (λ t. AppendsMinimal builders_alone (elements_as t true) (expressions r es) old new) (sym e) (typed true r es old middle new (fitting_appended ref_type IsRef ref_encoding r old middle ref-encodings ref_is is) a)
 
-pub expressions_implicit_appended : (explicit : Bool) (r : RefType) (es : List (List Plain)) (old new : List ℕ) → explicit ≡ false → AppendsMinimal (vec expression) es old new → AppendsMinimal (elements_as explicit true) (expressions r es) old new
+pub expressions_implicit_appended : (explicit : Bool) (r : RefType) (es : List (List Plain)) (old new : List ℕ) → explicit ≡ false → AppendsMinimal builders_alone (vec expression) es old new → AppendsMinimal builders_alone (elements_as explicit true) (expressions r es) old new
 expressions_implicit_appended explicit r es old new e a =
-    subst (λ t. AppendsMinimal (elements_as t true) (expressions r es) old new) (sym e) (typed false r es old old new (nothing_appended (fixed [] FUNCREF) r old (λ s h. (refl, h.1))) a)
+    subst (λ t. AppendsMinimal builders_alone (elements_as t true) (expressions r es) old new) (sym e) (typed false r es old old new (nothing_appended (fixed [] FUNCREF) r old (λ w q s h. (refl, h.1))) a)
 
 -- ---- fields of a segment that has an encoding
 
-parts_encoded : (x : ElementItem (List Plain)) → HasEncoding element x → HasEncoding (pair (segment_mode (flag_of x)) (elements_as (has_kind (flag_of x)) (are_expressions x.elements))) (x.segment_mode, x.elements)
+parts_encoded : (x : ElementItem (List Plain)) → HasEncoding builders_alone element x → HasEncoding builders_alone (pair (segment_mode (flag_of x)) (elements_as (has_kind (flag_of x)) (are_expressions x.elements))) (x.segment_mode, x.elements)
 parts_encoded x h =
     let f = flag_of x in
     mapped_encoded segment_of (pair (segment_mode f) (elements_as (has_kind f) f.expressions)) (x.segment_mode, x.elements) (λ z k. ap (λ s. (s.segment_mode, s.elements)) k)
-    (tagged_encoded (numbered flag_code) after_flag f x (λ s z k. flag_explicit padded z s x k) h)
+    (tagged_encoded (numbered flag_code) after_flag f x (λ mode s z k. flag_explicit mode z s x k) h)
 
-pub segment_mode_encoded : (x : ElementItem (List Plain)) → HasEncoding element x → HasEncoding (segment_mode (flag_of x)) x.segment_mode
+pub segment_mode_encoded : (x : ElementItem (List Plain)) → HasEncoding builders_alone element x → HasEncoding builders_alone (segment_mode (flag_of x)) x.segment_mode
 segment_mode_encoded x h = left_encoded (segment_mode (flag_of x)) (elements_as (has_kind (flag_of x)) (are_expressions x.elements)) x.segment_mode x.elements (parts_encoded x h)
 
-pub elements_encoded : (x : ElementItem (List Plain)) → HasEncoding element x → HasEncoding (elements_as (has_kind (flag_of x)) (are_expressions x.elements)) x.elements
+pub elements_encoded : (x : ElementItem (List Plain)) → HasEncoding builders_alone element x → HasEncoding builders_alone (elements_as (has_kind (flag_of x)) (are_expressions x.elements)) x.elements
 elements_encoded x h = right_encoded (segment_mode (flag_of x)) (elements_as (has_kind (flag_of x)) (are_expressions x.elements)) x.segment_mode x.elements (parts_encoded x h)
 
-pub offset_encoded : (table : Option ℕ) (offset : List Plain) → HasEncoding (segment_mode (in_any (is_given table))) (active table offset) → HasEncoding expression offset
+pub offset_encoded : (table : Option ℕ) (offset : List Plain) → HasEncoding builders_alone (segment_mode (in_any (is_given table))) (active table offset) → HasEncoding builders_alone expression offset
 offset_encoded None offset h = mapped_encoded in_no_table expression offset (λ z k. ap (λ p. (table_parts p).1) k) h
 offset_encoded (Some table) offset h = right_encoded u32 expression table offset (mapped_encoded in_table (pair u32 expression) (table, offset) (λ z k. ap table_parts k) h)
 
-pub functions_encoded : (explicit : Bool) (fs : List ℕ) → HasEncoding (elements_as explicit false) (functions fs) → HasEncoding (vec u32) (map (λ n. n) fs)
+pub functions_encoded : (explicit : Bool) (fs : List ℕ) → HasEncoding builders_alone (elements_as explicit false) (functions fs) → HasEncoding both_grammars (vec u32) (map (λ n. n) fs)
 functions_encoded explicit fs h =
-    subst (λ z. HasEncoding (vec u32) z) (sym (map-id fs)) (prefixed_encoded (cond explicit (0x00 ∷ []) []) (vec u32) fs (mapped_encoded functions (prefixed (cond explicit (0x00 ∷ []) []) (vec u32)) fs (λ z k. cc k) h))
+    let is = prefixed_encoded (cond explicit (0x00 ∷ []) []) (vec u32) fs (mapped_encoded functions (prefixed (cond explicit (0x00 ∷ []) []) (vec u32)) fs (λ z k. cc k) h) in
+    subst (λ z. HasEncoding both_grammars (vec u32) z) (sym (map-id fs)) (record { grammar = is.grammar; included = tt; bytes = is.bytes; decoded = is.decoded })
 
-pub expressions_encoded : (explicit : Bool) (r : RefType) (es : List (List Plain)) → HasEncoding (elements_as explicit true) (expressions r es) → HasEncoding (vec expression) es
+pub expressions_encoded : (explicit : Bool) (r : RefType) (es : List (List Plain)) → HasEncoding builders_alone (elements_as explicit true) (expressions r es) → HasEncoding builders_alone (vec expression) es
 expressions_encoded explicit r es h =
     right_encoded (when explicit ref_type (fixed [] FUNCREF)) (vec expression) r es
     (mapped_encoded list_of (pair (when explicit ref_type (fixed [] FUNCREF)) (vec expression)) (r, es) (λ z k. ap list_parts k) h)

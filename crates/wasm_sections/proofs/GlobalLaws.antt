@@ -3,7 +3,7 @@
 use Rattle.wasm_base.proofs.Words.{◌≡◌, ℕ, Bool, true, false, [], ◌∷◌, refl, ap, ◌<◌, ◌≤◌, ◌/◌, ◌%◌, List, arith, subst, ◌++◌, ItemLaws, coded, byte, pair, vec, Mode, minimal, padded, IsOfBuilders}
 use Rattle.wasm_base.proofs.Words.{Unambiguous, Decodes, Rejects, val_type, val_encoding, coded_unambiguous, mapped_unambiguous, pair_unambiguous, AllValues, val_unambiguous, val-encodings, pair_in}
 use Rattle.wasm_base.proofs.Words.{pair_encodes, encodes_in, mapped_decodes, mapped_rejects, code_decodes, code_none, code_unknown, SectionLaws, counted_laws_padded, val_type_is, fitting_appended}
-use Rattle.wasm_base.proofs.Words.{pair_appended, mapped_appended, AppendsMinimal, HasEncoding, right_encoded, mapped_encoded}
+use Rattle.wasm_base.proofs.Words.{pair_appended, mapped_appended, AppendsMinimal, builders_alone, HasEncoding, right_encoded, mapped_encoded}
 use Rattle.wasm_base.specs.declared.types.ValType.{ValType}
 use Rattle.wasm_code.proofs.Words.{expression, expression_encoding, expression_unambiguous, expression_encodes}
 use Rattle.wasm_immediates.proofs.Words.{bit, bit_value}
@@ -99,11 +99,11 @@ global_is mode s g h = subst IsGlobal h.1 (val_type_is mode h.2.front h.0.0 h.2.
 
 -- ---- the one minimal encoding of a decoded global
 
-pub global_appended : (g : GlobalType) (init : List Plain) (old middle new : List ℕ) → middle ≡ old ++ global_encoding g → AppendsMinimal expression init middle new → AppendsMinimal global_item (global_from (g, init)) old new
+pub global_appended : (g : GlobalType) (init : List Plain) (old middle new : List ℕ) → middle ≡ old ++ global_encoding g → AppendsMinimal builders_alone expression init middle new → AppendsMinimal builders_alone global_item (global_from (g, init)) old new
 global_appended g init old middle new e a =
     let first = fitting_appended global_type IsGlobal global_encoding g old middle (record { encodes = global_encodes }) global_is e in
     mapped_appended global_from (pair global_type expression) (g, init) old new (λ z k. ap (λ i. (i.global_type, i.init)) k) (pair_appended global_type expression first a)
 
-pub init_encoded : (g : GlobalType) (init : List Plain) → HasEncoding global_item (global_from (g, init)) → HasEncoding expression init
+pub init_encoded : (g : GlobalType) (init : List Plain) → HasEncoding builders_alone global_item (global_from (g, init)) → HasEncoding builders_alone expression init
 init_encoded g init h =
     right_encoded global_type expression g init (mapped_encoded global_from (pair global_type expression) (g, init) (λ z k. ap (λ i. (i.global_type, i.init)) k) h)

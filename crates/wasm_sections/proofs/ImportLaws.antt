@@ -6,7 +6,7 @@ use Rattle.wasm_base.proofs.Words.{BeginNeverAlike, begin_apart, mapped_unambigu
 use Rattle.wasm_base.proofs.Words.{tagged_at, choice_of, choice_begins, begins_mapped, values_mapped, values_tagged, none_in_common, values_one_of, u32_unambiguous, u32_small, tagged_encodes}
 use Rattle.wasm_base.proofs.Words.{u32_encodes, name_encodes, vec_encodes, pair_encodes, front_name_encodes, take_all, All-nil, All-cons, All-head, All-tail, then_decodes, then_rejects_first}
 use Rattle.wasm_base.proofs.Words.{then_rejects_second, mapped_decodes, mapped_rejects, tagged_decodes, tagged_none, tagged_rejects, no_choice, one_of_rejects, one_of_left, one_of_right, SectionLaws}
-use Rattle.wasm_base.proofs.Words.{counted_laws, All, AppendsMinimal, HasEncoding, vec_is, encoding_appended}
+use Rattle.wasm_base.proofs.Words.{counted_laws, All, AppendsMinimal, built_appended, builders_alone, padded_of, HasEncoding, vec_is}
 use Rattle.wasm_sections.specs.{entity_encoding, IsEntity, entity_tags, entity, Imported, single, named, alike, ImportItem, named_encoding, imported_encoding, import_encoding, IsNamed, IsImported}
 use Rattle.wasm_sections.specs.{IsImport, alike_of, group_tags, group, named_entity, after_module, import_of, import_format, import_items, IsEncodableImported, IsEncodableImport, global_type}
 use Rattle.wasm_sections.specs.{memory_type, table_type, tag_type}
@@ -405,8 +405,8 @@ import_short i encodable s h =
     let is = import_is padded s i h in
     ((i.module_name, i.imported), refl, pair_encodes name after_module (size_prefixed_encoding i.module_name) (imported_encoding i.imported) i.module_name i.imported (name_encodes i.module_name is.0 encodable.0) (said_encodes i.imported encodable.1 is.1))
 
-pub import_appended : (i : ImportItem) (old new : List ℕ) → IsEncodableImport i → new ≡ old ++ import_encoding i → AppendsMinimal import_format i old new
-import_appended i old new encodable e = encoding_appended import_format i (import_encoding i) old new (import_short i encodable) e
+pub import_appended : (i : ImportItem) (old new : List ℕ) → IsEncodableImport i → new ≡ old ++ import_encoding i → AppendsMinimal builders_alone import_format i old new
+import_appended i old new encodable e = built_appended import_format i (import_encoding i) old new (import_short i encodable) e
 
 -- ---- names and counts of values that have an encoding
 
@@ -427,5 +427,5 @@ imported_fitting =
 import_fitting : AllValues IsEncodableImport import_format
 import_fitting mode s i h = subst IsEncodableImport h.1 (name_fitting mode h.2.front h.0.0 h.2.first, imported_fitting mode h.2.back h.0.1 h.2.second)
 
-pub import_encodable : (i : ImportItem) → HasEncoding import_format i → IsEncodableImport i
-import_encodable i h = import_fitting padded h.bytes i h.decoded
+pub import_encodable : (i : ImportItem) → HasEncoding builders_alone import_format i → IsEncodableImport i
+import_encodable i h = import_fitting (padded_of h.grammar) h.bytes i h.decoded

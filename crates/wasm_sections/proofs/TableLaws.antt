@@ -6,7 +6,7 @@ use Rattle.wasm_base.proofs.Words.{Unambiguous, BeginsWith, Decodes, Rejects, op
 use Rattle.wasm_base.proofs.Words.{when_unambiguous, impossible_unambiguous, pair_unambiguous, optional_unambiguous, prefixed_unambiguous, one_of_unambiguous, begins_then, begins_mapped, begins_fixed}
 use Rattle.wasm_base.proofs.Words.{none_in_common, values_mapped, AllValues, encodes_in, u64_encodes, ref_unambiguous, ref-encodings, pair_in, pair_encodes, optional_encodes, optional_determines}
 use Rattle.wasm_base.proofs.Words.{mapped_decodes, mapped_rejects, one_of_rejects, one_of_left, one_of_right, not_begun, no_bytes, SectionLaws, counted_laws_padded, ref_is, fitting_appended}
-use Rattle.wasm_base.proofs.Words.{pair_appended, prefixed_appended, mapped_appended, AppendsMinimal, HasEncoding, right_encoded, prefixed_encoded, mapped_encoded}
+use Rattle.wasm_base.proofs.Words.{pair_appended, prefixed_appended, mapped_appended, AppendsMinimal, Grammar, Includes, IsMinimalEncoding, builders_alone, padded_of, HasEncoding, right_encoded, prefixed_encoded, mapped_encoded}
 use Rattle.wasm_code.proofs.Words.{expression, expression_encoding, expression_unambiguous, expression_encodes}
 use Rattle.wasm_insn.proofs.Words.{Plain}
 use Rattle.wasm_sections.specs.{Stored, IsStoredIn, IsStored, IsStoredPadded, flags_code, table_flags, table_encoding, IsTable, Limits, limits_of, after_limits_flags, limits, table_of, table_type}
@@ -184,34 +184,34 @@ abbrev first_value : Option (List Plain) → List Plain
 first_value None = []
 first_value (Some is) = is
 
-type_appended : (t : TableType) (old new : List ℕ) → new ≡ old ++ table_encoding t → AppendsMinimal table_type t old new
+type_appended : (t : TableType) (old new : List ℕ) → new ≡ old ++ table_encoding t → AppendsMinimal builders_alone table_type t old new
 type_appended t old new e = fitting_appended table_type IsTable table_encoding t old new (record { encodes = table_encodes }) table_is e
 
-pub table_appended : (t : TableType) (old new : List ℕ) → new ≡ old ++ table_encoding t → AppendsMinimal table_item (without_init t) old new
+pub table_appended : (t : TableType) (old new : List ℕ) → new ≡ old ++ table_encoding t → AppendsMinimal builders_alone table_item (without_init t) old new
 table_appended t old new e =
     let a = type_appended t old new e in
     record { encoding = a.encoding; appended = a.appended; encodes = encodes a }
   where
-    encodes : (a : AppendsMinimal table_type t old new) (s : List ℕ) → table_item padded s (without_init t) → table_item minimal a.encoding (without_init t)
-    encodes a s (inl h) = inl (t, refl, a.encodes s (subst (λ z. table_type padded s z) (ap (λ i. i.table_type) h.1) h.2))
-    encodes a s (inr h) = absurd (cc (ap (λ i. i.init) h.1))
+    encodes : (a : AppendsMinimal builders_alone table_type t old new) → IsMinimalEncoding builders_alone table_item (without_init t) a.encoding
+    encodes a w q s (inl h) = inl (t, refl, a.encodes w q s (subst (λ z. table_type (padded_of w) s z) (ap (λ i. i.table_type) h.1) h.2))
+    encodes a w q s (inr h) = absurd (cc (ap (λ i. i.init) h.1))
 
-pub table_init_appended : (t : TableType) (init : List Plain) (old front middle new : List ℕ) → front ≡ old ++ before_init → middle ≡ front ++ table_encoding t → AppendsMinimal expression init middle new → AppendsMinimal table_item (with_init (t, init)) old new
+pub table_init_appended : (t : TableType) (init : List Plain) (old front middle new : List ℕ) → front ≡ old ++ before_init → middle ≡ front ++ table_encoding t → AppendsMinimal builders_alone expression init middle new → AppendsMinimal builders_alone table_item (with_init (t, init)) old new
 table_init_appended t init old front middle new b e a =
     let both = prefixed_appended before_init (pair table_type expression) (t, init) old front new b (pair_appended table_type expression (type_appended t front middle e) a) in
     let is = mapped_appended with_init (prefixed before_init (pair table_type expression)) (t, init) old new (λ z k. ap (λ i. (i.table_type, first_value i.init)) k) both in
     record { encoding = is.encoding; appended = is.appended; encodes = encodes is }
   where
-    encodes : (is : AppendsMinimal (mapped with_init (prefixed before_init (pair table_type expression))) (with_init (t, init)) old new) (s : List ℕ) → table_item padded s (with_init (t, init)) → table_item minimal is.encoding (with_init (t, init))
-    encodes is s (inl h) = absurd (cc (ap (λ i. i.init) h.1))
-    encodes is s (inr h) = inr (is.encodes s h)
+    encodes : (is : AppendsMinimal builders_alone (mapped with_init (prefixed before_init (pair table_type expression))) (with_init (t, init)) old new) → IsMinimalEncoding builders_alone table_item (with_init (t, init)) is.encoding
+    encodes is w q s (inl h) = absurd (cc (ap (λ i. i.init) h.1))
+    encodes is w q s (inr h) = inr (is.encodes w q s h)
 
-pub table_init_encoded : (t : TableType) (init : List Plain) → HasEncoding table_item (with_init (t, init)) → HasEncoding expression init
-table_init_encoded t init h = go h.bytes h.decoded
+pub table_init_encoded : (t : TableType) (init : List Plain) → HasEncoding builders_alone table_item (with_init (t, init)) → HasEncoding builders_alone expression init
+table_init_encoded t init h = go h.grammar h.included h.bytes h.decoded
   where
-    go : (s : List ℕ) → table_item padded s (with_init (t, init)) → HasEncoding expression init
-    go s (inl k) = absurd (cc (ap (λ i. i.init) k.1))
-    go s (inr k) =
+    go : (w : Grammar) → Includes builders_alone w → (s : List ℕ) → table_item (padded_of w) s (with_init (t, init)) → HasEncoding builders_alone expression init
+    go w q s (inl k) = absurd (cc (ap (λ i. i.init) k.1))
+    go w q s (inr k) =
         right_encoded table_type expression t init
         (prefixed_encoded before_init (pair table_type expression) (t, init)
-        (mapped_encoded with_init (prefixed before_init (pair table_type expression)) (t, init) (λ z e. ap (λ i. (i.table_type, first_value i.init)) e) (record { bytes = s; decoded = k })))
+        (mapped_encoded with_init (prefixed before_init (pair table_type expression)) (t, init) (λ z e. ap (λ i. (i.table_type, first_value i.init)) e) (record { grammar = w; included = q; bytes = s; decoded = k })))

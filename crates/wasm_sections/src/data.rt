@@ -10,7 +10,7 @@ ghost use Rattle.wasm_base.specs.Decoding.{Unambiguous};
 ghost use Rattle.wasm_base.specs.Encodings.{size_prefixed_encoding};
 ghost use Rattle.wasm_base.specs.declared.refused.Refused.TheVariants.{TooLong};
 ghost use Rattle.wasm_code.specs.Expressions.{expression};
-ghost use Rattle.wasm_base.specs.Minimal.{AppendsMinimal, IsFrontOf, HasEncoding};
+ghost use Rattle.wasm_base.specs.Minimal.{AppendsMinimal, IsFrontOf, HasEncoding, builders_alone};
 ghost use Rattle.wasm_base.specs.declared.fault.ReadFault.TheVariants.{Memory};
 ghost use Rattle.wasm_sections.specs.Constants.{instructions_view};
 ghost use Rattle.wasm_immediates.specs.ImmediateFormats.{HasIndex};
@@ -225,6 +225,8 @@ impl<'a> Layout for Bytes<'a> {
 }
 
 impl<'a, A: Allocator + Copy, G: Grammar> Readable<'a, A, G> for Bytes<'a> {
+    ghost may_allocate = { ⊥ };
+
     #[tactic(auto, using(crate::proofs::DataLaws::bytes_steps))]
     fn read(bytes: &'a [u8], alloc: A) -> Result<(Bytes<'a>, &'a [u8]), DecodeError> {
         let (bytes, rest) = <&'a [u8] as Readable<'a, A, G>>::read(bytes, alloc)?;
@@ -343,9 +345,9 @@ fn append_placed<A: Allocator, B: Allocator>(
     bytes: &[u8],
     sink: &mut Vec<u8, B>,
 ) -> Result<()>
-    ensures ok { OnOk result (AppendsMinimal (pair expression (vec byte)) (instructions_view offset.now, bytes.now) sink.old.items sink.new.items) }
+    ensures ok { OnOk result (AppendsMinimal builders_alone (pair expression (vec byte)) (instructions_view offset.now, bytes.now) sink.old.items sink.new.items) }
     ensures front { IsFrontOf sink.old.items sink.new.items }
-    ensures too_long { HasEncoding (pair expression (vec byte)) (instructions_view offset.now, bytes.now) → result ≢ Err TooLong }
+    ensures too_long { HasEncoding builders_alone (pair expression (vec byte)) (instructions_view offset.now, bytes.now) → result ≢ Err TooLong }
 {
     offset.write_minimal(sink)?;
     encode_size_prefixed(sink, bytes)
@@ -359,9 +361,9 @@ fn append_active<A: Allocator, B: Allocator>(
     bytes: &[u8],
     sink: &mut Vec<u8, B>,
 ) -> Result<()>
-    ensures ok { OnOk result (AppendsMinimal data_item (active memory (instructions_view offset.now) bytes.now) sink.old.items sink.new.items) }
+    ensures ok { OnOk result (AppendsMinimal builders_alone data_item (active memory (instructions_view offset.now) bytes.now) sink.old.items sink.new.items) }
     ensures front { IsFrontOf sink.old.items sink.new.items }
-    ensures too_long { HasEncoding data_item (active memory (instructions_view offset.now) bytes.now) → result ≢ Err TooLong }
+    ensures too_long { HasEncoding builders_alone data_item (active memory (instructions_view offset.now) bytes.now) → result ≢ Err TooLong }
 {
     if memory == 0 {
         0u32.encode(sink)?;
@@ -372,6 +374,8 @@ fn append_active<A: Allocator, B: Allocator>(
 }
 
 impl<'a, A: Allocator> Shorten for Segment<'a, A> {
+    ghost grammars = { builders_alone };
+
     #[tactic(auto, using(crate::proofs::DataLaws::passive_data_appended, crate::proofs::DataLaws::passive_encodable))]
     fn write_minimal<B: Allocator>(&self, sink: &mut Vec<u8, B>) -> Result<()> {
         match self {

@@ -5,7 +5,7 @@ ghost use Rattle.wasm_base.specs.Numbers.{padded_of};
 ghost use Rattle.wasm_base.specs.Decoding.{Decodes, Rejects};
 ghost use Rattle.wasm_insn.specs.Plain.{Plain};
 ghost use Rattle.wasm_base.specs.declared.refused.Refused.TheVariants.{TooLong};
-ghost use Rattle.wasm_base.specs.Minimal.{AppendsMinimal, IsFrontOf, HasEncoding};
+ghost use Rattle.wasm_base.specs.Minimal.{AppendsMinimal, IsFrontOf, HasEncoding, builders_alone};
 ghost use Rattle.wasm_base.specs.declared.fault.ReadFault.TheVariants.{Memory};
 ghost use Rattle.wasm_sections.specs.Constants.{instructions_view};
 ghost use Rattle.wasm_sections.specs.Elements.{ElementItem, ElementFlag as FlagModel, flag_code, flag_of, active, functions, expressions, are_expressions, has_kind, segment_mode, elements_as, element, element_flag_view, segment_mode_view, list_view, element_view, SegmentMode, ElementList as ListModel};
@@ -56,6 +56,8 @@ impl Layout for ElementFlag {
 }
 
 impl<'a, A: Allocator + Copy, G: Grammar> Readable<'a, A, G> for ElementFlag {
+    ghost may_allocate = { ⊥ };
+
     #[tactic(auto, using(crate::proofs::ElementLaws::element_flag_steps))]
     fn read(bytes: &'a [u8], alloc: A) -> Result<(ElementFlag, &'a [u8]), DecodeError> {
         let (number, rest) = <u32 as Readable<'a, A, G>>::read(bytes, alloc)?;
@@ -228,9 +230,9 @@ fn append_functions<A: Allocator, B: Allocator>(
     indices: &Vec<u32, A>,
     sink: &mut Vec<u8, B>,
 ) -> Result<()>
-    ensures ok { OnOk result (AppendsMinimal (elements_as explicit false) (functions indices.now.items) sink.old.items sink.new.items) }
+    ensures ok { OnOk result (AppendsMinimal builders_alone (elements_as explicit false) (functions indices.now.items) sink.old.items sink.new.items) }
     ensures front { IsFrontOf sink.old.items sink.new.items }
-    ensures too_long { HasEncoding (elements_as explicit false) (functions indices.now.items) → result ≢ Err TooLong }
+    ensures too_long { HasEncoding builders_alone (elements_as explicit false) (functions indices.now.items) → result ≢ Err TooLong }
 {
     if explicit {
         0x00u8.encode(sink)?;
@@ -247,9 +249,9 @@ fn append_expressions<A: Allocator, B: Allocator>(
     elements: &Vec<Expression<A>, A>,
     sink: &mut Vec<u8, B>,
 ) -> Result<()>
-    ensures ok { OnOk result (AppendsMinimal (elements_as explicit true) (expressions ty (map instructions_view elements.now.items)) sink.old.items sink.new.items) }
+    ensures ok { OnOk result (AppendsMinimal builders_alone (elements_as explicit true) (expressions ty (map instructions_view elements.now.items)) sink.old.items sink.new.items) }
     ensures front { IsFrontOf sink.old.items sink.new.items }
-    ensures too_long { HasEncoding (elements_as explicit true) (expressions ty (map instructions_view elements.now.items)) → result ≢ Err TooLong }
+    ensures too_long { HasEncoding builders_alone (elements_as explicit true) (expressions ty (map instructions_view elements.now.items)) → result ≢ Err TooLong }
 {
     if explicit {
         ty.encode(sink)?;
@@ -265,9 +267,9 @@ fn append_active<A: Allocator, B: Allocator>(
     offset: &Expression<A>,
     sink: &mut Vec<u8, B>,
 ) -> Result<()>
-    ensures ok { OnOk result (AppendsMinimal (segment_mode (record { not_active = false; second = is_given table; expressions = false })) (active table (instructions_view offset.now)) sink.old.items sink.new.items) }
+    ensures ok { OnOk result (AppendsMinimal builders_alone (segment_mode (record { not_active = false; second = is_given table; expressions = false })) (active table (instructions_view offset.now)) sink.old.items sink.new.items) }
     ensures front { IsFrontOf sink.old.items sink.new.items }
-    ensures too_long { HasEncoding (segment_mode (record { not_active = false; second = is_given table; expressions = false })) (active table (instructions_view offset.now)) → result ≢ Err TooLong }
+    ensures too_long { HasEncoding builders_alone (segment_mode (record { not_active = false; second = is_given table; expressions = false })) (active table (instructions_view offset.now)) → result ≢ Err TooLong }
 {
     match table {
         Some(table) => {
@@ -300,9 +302,9 @@ impl<A: Allocator> ElementItem<A> {
     /// Appends the table and the offset, as the mode needs them.
     #[tactic(auto, using(crate::proofs::ElementLaws::passive_appended, crate::proofs::ElementLaws::declared_appended))]
     fn append_segment_mode<B: Allocator>(&self, sink: &mut Vec<u8, B>) -> Result<()>
-        ensures ok { OnOk result (AppendsMinimal (segment_mode (flag_of (element_view self.now))) (segment_mode_view self.now.mode) sink.old.items sink.new.items) }
+        ensures ok { OnOk result (AppendsMinimal builders_alone (segment_mode (flag_of (element_view self.now))) (segment_mode_view self.now.mode) sink.old.items sink.new.items) }
         ensures front { IsFrontOf sink.old.items sink.new.items }
-        ensures too_long { HasEncoding (segment_mode (flag_of (element_view self.now))) (segment_mode_view self.now.mode) → result ≢ Err TooLong }
+        ensures too_long { HasEncoding builders_alone (segment_mode (flag_of (element_view self.now))) (segment_mode_view self.now.mode) → result ≢ Err TooLong }
     {
         match &self.mode {
             ElementItemMode::Passive => Ok(()),
@@ -318,9 +320,9 @@ fn append_elements<A: Allocator, B: Allocator>(
     elements: &ElementList<A>,
     sink: &mut Vec<u8, B>,
 ) -> Result<()>
-    ensures ok { OnOk result (AppendsMinimal (elements_as explicit (are_expressions (list_view elements.now))) (list_view elements.now) sink.old.items sink.new.items) }
+    ensures ok { OnOk result (AppendsMinimal builders_alone (elements_as explicit (are_expressions (list_view elements.now))) (list_view elements.now) sink.old.items sink.new.items) }
     ensures front { IsFrontOf sink.old.items sink.new.items }
-    ensures too_long { HasEncoding (elements_as explicit (are_expressions (list_view elements.now))) (list_view elements.now) → result ≢ Err TooLong }
+    ensures too_long { HasEncoding builders_alone (elements_as explicit (are_expressions (list_view elements.now))) (list_view elements.now) → result ≢ Err TooLong }
 {
     match elements {
         ElementList::Functions(indices) => append_functions(explicit, indices, sink),
@@ -329,6 +331,8 @@ fn append_elements<A: Allocator, B: Allocator>(
 }
 
 impl<A: Allocator> Shorten for ElementItem<A> {
+    ghost grammars = { builders_alone };
+
     #[tactic(auto, using(crate::proofs::ElementLaws::segment_mode_encoded, crate::proofs::ElementLaws::elements_encoded))]
     fn write_minimal<B: Allocator>(&self, sink: &mut Vec<u8, B>) -> Result<()> {
         let flag = self.flag();
@@ -347,6 +351,7 @@ fn skip_segment_mode<'a, A: Allocator + Copy, G: Grammar>(
 ) -> Result<&'a [u8], DecodeError>
     ensures found { IfOk result (λ rest. (x : SegmentMode (List Plain)) × Decodes (segment_mode (element_flag_view flag)) (padded_of G.grammar) bytes.now x rest.now) }
     ensures none { IfErr result (λ e. e.cause ≢ Memory → Rejects (segment_mode (element_flag_view flag)) (padded_of G.grammar) bytes.now) }
+    ensures no_memory { IfErr result (λ e. e.cause ≢ Memory) }
 {
     match (flag.not_active, flag.second) {
         (true, true) => Ok(bytes),
@@ -370,6 +375,7 @@ fn skip_functions<'a, A: Allocator + Copy, G: Grammar>(
 ) -> Result<&'a [u8], DecodeError>
     ensures found { IfOk result (λ rest. (x : ListModel (List Plain)) × Decodes (elements_as explicit false) (padded_of G.grammar) bytes.now x rest.now) }
     ensures none { IfErr result (λ e. e.cause ≢ Memory → Rejects (elements_as explicit false) (padded_of G.grammar) bytes.now) }
+    ensures no_memory { IfErr result (λ e. e.cause ≢ Memory) }
 {
     if explicit {
         let (kind, rest) = <u8 as Readable<'a, A, G>>::read(bytes, alloc)?;
@@ -391,6 +397,7 @@ fn skip_expressions<'a, A: Allocator + Copy, G: Grammar>(
 ) -> Result<&'a [u8], DecodeError>
     ensures found { IfOk result (λ rest. (x : ListModel (List Plain)) × Decodes (elements_as explicit true) (padded_of G.grammar) bytes.now x rest.now) }
     ensures none { IfErr result (λ e. e.cause ≢ Memory → Rejects (elements_as explicit true) (padded_of G.grammar) bytes.now) }
+    ensures no_memory { IfErr result (λ e. e.cause ≢ Memory) }
 {
     if explicit {
         let (_type, rest) = <RefType as Readable<'a, A, G>>::read(bytes, alloc)?;
@@ -410,6 +417,7 @@ fn skip_elements<'a, A: Allocator + Copy, G: Grammar>(
 ) -> Result<&'a [u8], DecodeError>
     ensures found { IfOk result (λ rest. (x : ListModel (List Plain)) × Decodes (elements_as explicit of_expressions) (padded_of G.grammar) bytes.now x rest.now) }
     ensures none { IfErr result (λ e. e.cause ≢ Memory → Rejects (elements_as explicit of_expressions) (padded_of G.grammar) bytes.now) }
+    ensures no_memory { IfErr result (λ e. e.cause ≢ Memory) }
 {
     if of_expressions {
         skip_expressions::<A, G>(explicit, bytes, alloc)

@@ -115,6 +115,8 @@ impl Layout for ExportKind {
 }
 
 impl<'a, A: Allocator + Copy, G: Grammar> Readable<'a, A, G> for ExportKind {
+    ghost may_allocate = { ⊥ };
+
     #[tactic(auto, using(crate::proofs::ExportLaws::export_kind_steps))]
     fn read(bytes: &'a [u8], alloc: A) -> Result<(ExportKind, &'a [u8]), DecodeError> {
         let (code, rest) = <u8 as Readable<'a, A, G>>::read(bytes, alloc)?;
@@ -143,6 +145,8 @@ impl<'a> Layout for Export<'a> {
 }
 
 impl<'a, A: Allocator + Copy, G: Grammar> Readable<'a, A, G> for Export<'a> {
+    ghost may_allocate = { ⊥ };
+
     #[tactic(auto, using(crate::proofs::ExportLaws::export_steps))]
     fn read(bytes: &'a [u8], alloc: A) -> Result<(Export<'a>, &'a [u8]), DecodeError> {
         let ((name, (kind, index)), rest) = <(&'a str, (ExportKind, u32)) as Readable<

@@ -5,6 +5,7 @@ ghost use Rattle.wasm_base.specs.Formats.{coded};
 ghost use Rattle.wasm_code.specs.Expressions.{expression_encoding};
 ghost use Rattle.wasm_sections.specs.Globals.{global_items, global_flags, global_code, global_encoding, GivenGlobal, GlobalItem as GlobalModel, global_item, GlobalFlags as GlobalBits, global_type, global_flags_view, global_view};
 ghost use Rattle.wasm_sections.specs.declared.global.GlobalType.{GlobalType as TypeModel};
+ghost use Rattle.wasm_base.specs.Minimal.{builders_alone};
 
 use crate::counted_section::{CountedSection, ItemKind};
 use crate::flags::where_set;
@@ -122,6 +123,8 @@ impl Layout for GlobalFlags {
 }
 
 impl<'a, A: Allocator + Copy, G: Grammar> Readable<'a, A, G> for GlobalFlags {
+    ghost may_allocate = { ⊥ };
+
     #[tactic(auto, using(crate::proofs::GlobalLaws::flag_steps))]
     fn read(bytes: &'a [u8], alloc: A) -> Result<(GlobalFlags, &'a [u8]), DecodeError> {
         let (byte, rest) = <u8 as Readable<'a, A, G>>::read(bytes, alloc)?;
@@ -148,6 +151,8 @@ impl Layout for GlobalType {
 }
 
 impl<'a, A: Allocator + Copy, G: Grammar> Readable<'a, A, G> for GlobalType {
+    ghost may_allocate = { ⊥ };
+
     #[tactic(auto, using(crate::proofs::GlobalLaws::type_steps))]
     fn read(bytes: &'a [u8], alloc: A) -> Result<(GlobalType, &'a [u8]), DecodeError> {
         let ((val_type, flags), rest) = <(ValType, GlobalFlags) as Readable<'a, A, G>>::read(
@@ -191,6 +196,8 @@ impl<'a, A: Allocator + Copy, G: Grammar> Readable<'a, A, G> for GlobalItem<A> {
 }
 
 impl<A: Allocator> Shorten for GlobalItem<A> {
+    ghost grammars = { builders_alone };
+
     #[tactic(auto, using(crate::proofs::GlobalLaws::global_appended, crate::proofs::GlobalLaws::init_encoded))]
     fn write_minimal<B: Allocator>(&self, sink: &mut Vec<u8, B>) -> Result<()> {
         self.global_type.encode(sink)?;

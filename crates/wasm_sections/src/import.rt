@@ -7,7 +7,7 @@ ghost use Rattle.wasm_base.specs.Numbers.{padded_of};
 ghost use Rattle.wasm_base.specs.Decoding.{Unambiguous, Rejects};
 ghost use Rattle.wasm_base.specs.Encodings.{size_prefixed_encoding, HasEncodableSize};
 ghost use Rattle.wasm_base.specs.declared.refused.Refused.TheVariants.{TooLong};
-ghost use Rattle.wasm_base.specs.Minimal.{AppendsMinimal, IsFrontOf, HasEncoding};
+ghost use Rattle.wasm_base.specs.Minimal.{AppendsMinimal, IsFrontOf, HasEncoding, builders_alone};
 ghost use Rattle.wasm_base.specs.declared.fault.ReadFault.TheVariants.{Memory};
 ghost use Rattle.wasm_sections.specs.Imports.{import_items, entity_encoding, ImportItem, import_encoding, IsEncodableImport, import_format, named_encoding, import_item, compact_item, imports_item, entity, group};
 ghost use Rattle.wasm_sections.specs.declared.import.EntityType.{EntityType as EntityModel};
@@ -254,6 +254,8 @@ impl Layout for EntityType {
 }
 
 impl<'a, A: Allocator + Copy, G: Grammar> Readable<'a, A, G> for EntityType {
+    ghost may_allocate = { ⊥ };
+
     #[tactic(auto, using(crate::proofs::ImportLaws::entity_steps))]
     fn read(bytes: &'a [u8], alloc: A) -> Result<(EntityType, &'a [u8]), DecodeError> {
         let (kind, rest) = <u8 as Readable<'a, A, G>>::read(bytes, alloc)?;
@@ -302,6 +304,8 @@ impl<'a> Layout for ImportCompact<'a> {
 }
 
 impl<'a, A: Allocator + Copy, G: Grammar> Readable<'a, A, G> for ImportCompact<'a> {
+    ghost may_allocate = { ⊥ };
+
     fn read(bytes: &'a [u8], alloc: A) -> Result<(ImportCompact<'a>, &'a [u8]), DecodeError> {
         let ((name, ty), rest) = <(&'a str, EntityType) as Readable<'a, A, G>>::read(bytes, alloc)?;
         Ok((ImportCompact { name, ty }, rest))
@@ -385,9 +389,9 @@ fn write_imports<A: Allocator, B: Allocator>(
     imports: &[Imports<'_, A>],
     sink: &mut Vec<u8, B>,
 ) -> Result<()>
-    ensures ok { OnOk result (AppendsMinimal (vec import_format) (map imports_item imports.now) sink.old.items sink.new.items) }
+    ensures ok { OnOk result (AppendsMinimal builders_alone (vec import_format) (map imports_item imports.now) sink.old.items sink.new.items) }
     ensures front { IsFrontOf sink.old.items sink.new.items }
-    ensures too_long { HasEncoding (vec import_format) (map imports_item imports.now) → result ≢ Err TooLong }
+    ensures too_long { HasEncoding builders_alone (vec import_format) (map imports_item imports.now) → result ≢ Err TooLong }
 {
     imports.len().encode(sink)?;
     for import in imports {
@@ -402,9 +406,9 @@ pub fn append_imports<A: Allocator, B: Allocator>(
     imports: &[Imports<'_, A>],
     sink: &mut Vec<u8, B>,
 ) -> Result<()>
-    ensures ok { OnOk result (AppendsMinimal (vec import_format) (map imports_item imports.now) sink.old.items sink.new.items) }
+    ensures ok { OnOk result (AppendsMinimal builders_alone (vec import_format) (map imports_item imports.now) sink.old.items sink.new.items) }
     ensures err { OnErr result (sink.new.items ≡ sink.old.items) }
-    ensures too_long { HasEncoding (vec import_format) (map imports_item imports.now) → result ≢ Err TooLong }
+    ensures too_long { HasEncoding builders_alone (vec import_format) (map imports_item imports.now) → result ≢ Err TooLong }
 {
     let start = sink.len();
     let written = write_imports(imports, sink);

@@ -5,6 +5,7 @@ ghost use Rattle.wasm_code.specs.Expressions.{expression_encoding};
 ghost use Rattle.wasm_sections.specs.Flags.{flags_code};
 ghost use Rattle.wasm_sections.specs.Tables.{table_items, table_flags, table_encoding, GivenTable, TableItem as TableModel, before_init, table_item, index_type_of, Limits as LimitsModel, limits, table_type, limits_view, table_view};
 ghost use Rattle.wasm_sections.specs.declared.table.TableType.{TableType as TypeModel};
+ghost use Rattle.wasm_base.specs.Minimal.{builders_alone};
 
 use crate::counted_section::{CountedSection, ItemKind, RecordOf};
 use crate::flags::where_set;
@@ -151,6 +152,8 @@ impl Layout for Limits {
 }
 
 impl<'a, A: Allocator + Copy, G: Grammar> Readable<'a, A, G> for Limits {
+    ghost may_allocate = { ⊥ };
+
     #[tactic(auto, using(crate::proofs::DecodeLimits::limits_steps))]
     fn read(bytes: &'a [u8], alloc: A) -> Result<(Limits, &'a [u8]), DecodeError> {
         let (flags, rest) = <Flags as Readable<'a, A, G>>::read(bytes, alloc)?;
@@ -181,6 +184,8 @@ impl Layout for TableType {
 }
 
 impl<'a, A: Allocator + Copy, G: Grammar> Readable<'a, A, G> for TableType {
+    ghost may_allocate = { ⊥ };
+
     #[tactic(auto, using(crate::proofs::DecodeLimits::table_steps))]
     fn read(bytes: &'a [u8], alloc: A) -> Result<(TableType, &'a [u8]), DecodeError> {
         let ((element_type, limits), rest) = <(RefType, Limits) as Readable<'a, A, G>>::read(
@@ -240,6 +245,8 @@ impl<'a, A: Allocator + Copy, G: Grammar> Readable<'a, A, G> for TableItem<A> {
 }
 
 impl<A: Allocator> Shorten for TableItem<A> {
+    ghost grammars = { builders_alone };
+
     #[tactic(auto, using(crate::proofs::TableLaws::table_appended, crate::proofs::TableLaws::table_init_appended, crate::proofs::TableLaws::table_init_encoded))]
     fn write_minimal<B: Allocator>(&self, sink: &mut Vec<u8, B>) -> Result<()> {
         let Some(init) = &self.init else {

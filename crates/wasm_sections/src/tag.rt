@@ -108,6 +108,8 @@ impl Layout for TagKind {
 }
 
 impl<'a, A: Allocator + Copy, G: Grammar> Readable<'a, A, G> for TagKind {
+    ghost may_allocate = { ⊥ };
+
     #[tactic(auto, using(crate::proofs::TagLaws::tag_kind_steps))]
     fn read(bytes: &'a [u8], alloc: A) -> Result<(TagKind, &'a [u8]), DecodeError> {
         let (code, rest) = <u8 as Readable<'a, A, G>>::read(bytes, alloc)?;
@@ -131,6 +133,8 @@ impl Layout for TagType {
 }
 
 impl<'a, A: Allocator + Copy, G: Grammar> Readable<'a, A, G> for TagType {
+    ghost may_allocate = { ⊥ };
+
     #[tactic(auto, using(crate::proofs::TagLaws::tag_steps))]
     fn read(bytes: &'a [u8], alloc: A) -> Result<(TagType, &'a [u8]), DecodeError> {
         let ((kind, func_type_idx), rest) = <(TagKind, u32) as Readable<'a, A, G>>::read(

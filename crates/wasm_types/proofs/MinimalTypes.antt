@@ -2,7 +2,7 @@
 use Rattle.wasm_base.proofs.Words.{◌≡◌, ◌≢◌, ℕ, ◌^◌, ◌<◌, List, [], ◌∷◌, ◌++◌, length, map, Bool, true, false, Option, Result, Ok, Err, refl, sym, ap, ap₂, subst, eqb, arith, flat_map, All, ints}
 use Rattle.wasm_base.proofs.Words.{length-map, All-nil, All-cons, All-head, All-tail, Mode, Grammar, builders, admitted, minimal, padded, standard_minimal, standard, unsigned_encoding, Format, u32}
 use Rattle.wasm_base.proofs.Words.{s33, byte, choice, impossible, mapped, pair, tagged, vec, when, IsUnsignedInRange, vec_encoding, IsEncodableVec, IsVal, val_type, AllValues, AllChoices}
-use Rattle.wasm_base.proofs.Words.{values_one_of, values_tagged, on_ok, Appends, OnOk, AppendsMinimal, HasEncoding, val_type_is, vec_is, records_appended}
+use Rattle.wasm_base.proofs.Words.{values_one_of, values_tagged, on_ok, Appends, OnOk, AppendsMinimal, built_encoding, builders_alone, padded_of, HasEncoding, val_type_is, vec_is, records_appended}
 use Rattle.wasm_base.specs.declared.refused.Refused.{Refused}
 use Rattle.std.specs.declared.vec.Vec.{Vec}
 use Rattle.wasm_types.specs.{Shape, func, array, structure, cont, Composite, before_encoding, sub_encoding, type_encoding, IsStorage, IsField, IsShape, IsGivenIndex, IsComposite, IsSub, IsType}
@@ -131,8 +131,8 @@ entry_is (entries.Group v) = ap₂ (λ n s. 0x4E ∷ (unsigned_encoding n ++ s))
 entry_short : {A : Type 0} (t : TypeEntry A) (s : List ℕ) → type_item padded s (entry_view t) → type_item minimal (entry_encoding t) (entry_view t)
 entry_short t s h = subst (λ z. type_item minimal z (entry_view t)) (sym (entry_is t)) (type_encodes (entry_view t) (type_is padded s (entry_view t) h))
 
-pub types_appended : {A : Type 0} (Encodable : TypeEntry A → Type 0) (xs : List (TypeEntry A)) (old new : List ℕ) → IsEncodableVec Encodable xs → new ≡ old ++ vec_encoding entry_encoding xs → AppendsMinimal (vec type_item) (map entry_view xs) old new
-types_appended Encodable xs old new encodable e = records_appended type_item entry_view entry_encoding Encodable xs old new (λ t p s h. entry_short t s h) encodable e
+pub types_appended : {A : Type 0} (Encodable : TypeEntry A → Type 0) (xs : List (TypeEntry A)) (old new : List ℕ) → IsEncodableVec Encodable xs → new ≡ old ++ vec_encoding entry_encoding xs → AppendsMinimal builders_alone (vec type_item) (map entry_view xs) old new
+types_appended Encodable xs old new encodable e = records_appended type_item entry_view entry_encoding Encodable xs old new (λ t p. built_encoding type_item (entry_view t) (entry_encoding t) (entry_short t)) encodable e
 
 -- ---- calls
 
@@ -151,7 +151,7 @@ group_appended subs slice {old = old} {new = new} {result = result} e a =
 
 -- The entries after their count.
 pub each_appended : {A B : Type 0} (xs : List (TypeEntry A)) {old new : Vec ℕ B} {result : Result (Unit {0}) Refused} → Appends (vec_encoding entry_encoding xs) (IsEncodableVec IsEncodableEntry xs) old new result
-    → OnOk result (AppendsMinimal (vec type_item) (map entry_view xs) old.items new.items)
+    → OnOk result (AppendsMinimal builders_alone (vec type_item) (map entry_view xs) old.items new.items)
 each_appended xs {old = old} {new = new} {result = Ok u} a = types_appended IsEncodableEntry xs old.items new.items a.was_encodable a.ok
 each_appended xs {result = Err e} a = tt
 
@@ -178,7 +178,7 @@ entries_encodable : {A : Type 0} (xs : List (TypeEntry A)) → All IsType (map e
 entries_encodable [] h = All-nil IsEncodableEntry
 entries_encodable (x ∷ xs) h = All-cons IsEncodableEntry x xs (entry_encodable x (All-head IsType (entry_view x) (map entry_view xs) h)) (entries_encodable xs (All-tail IsType (entry_view x) (map entry_view xs) h))
 
-pub types_encodable : {A : Type 0} (xs : List (TypeEntry A)) → HasEncoding (vec type_item) (map entry_view xs) → IsEncodableVec IsEncodableEntry xs
+pub types_encodable : {A : Type 0} (xs : List (TypeEntry A)) → HasEncoding builders_alone (vec type_item) (map entry_view xs) → IsEncodableVec IsEncodableEntry xs
 types_encodable xs h =
-    let all = vec_is IsType type_item type_is padded h.bytes (map entry_view xs) h.decoded in
+    let all = vec_is IsType type_item type_is (padded_of h.grammar) h.bytes (map entry_view xs) h.decoded in
     record { count = omega (arith, all.count, length-map xs entry_view); members = entries_encodable xs all.members }

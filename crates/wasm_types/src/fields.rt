@@ -25,6 +25,8 @@ impl Layout for Mutable {
 }
 
 impl<'a, A: Allocator + Copy, G: Grammar> Readable<'a, A, G> for Mutable {
+    ghost may_allocate = { ⊥ };
+
     #[tactic(auto, using(crate::proofs::DecodeFields::mutable_steps))]
     fn read(bytes: &'a [u8], alloc: A) -> Result<(Mutable, &'a [u8]), DecodeError> {
         let (code, rest) = <u8 as Readable<'a, A, G>>::read(bytes, alloc)?;
@@ -48,6 +50,8 @@ impl Layout for StorageType {
 }
 
 impl<'a, A: Allocator + Copy, G: Grammar> Readable<'a, A, G> for StorageType {
+    ghost may_allocate = { ⊥ };
+
     #[tactic(auto, using(crate::proofs::DecodeFields::storage_steps))]
     fn read(bytes: &'a [u8], alloc: A) -> Result<(StorageType, &'a [u8]), DecodeError> {
         let (tag, rest) = <u8 as Readable<'a, A, G>>::read(bytes, alloc)?;
@@ -74,6 +78,8 @@ impl Layout for FieldType {
 }
 
 impl<'a, A: Allocator + Copy, G: Grammar> Readable<'a, A, G> for FieldType {
+    ghost may_allocate = { ⊥ };
+
     #[tactic(auto, using(crate::proofs::DecodeFields::field_steps))]
     fn read(bytes: &'a [u8], alloc: A) -> Result<(FieldType, &'a [u8]), DecodeError> {
         let ((element_type, Mutable(mutable)), rest) = <(StorageType, Mutable) as Readable<

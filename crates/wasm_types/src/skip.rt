@@ -22,6 +22,7 @@ fn skip_shape_after<'a, A: Allocator + Copy, G: Grammar>(
 ) -> Result<&'a [u8], DecodeError>
     ensures found { IfOk result (λ rest. (x : Shape) × Decodes (after_shape tag) (padded_of G.grammar) bytes.now x rest.now) }
     ensures none { IfErr result (λ e. e.cause ≢ Memory → Rejects (after_shape tag) (padded_of G.grammar) bytes.now) }
+    ensures no_memory { IfErr result (λ e. e.cause ≢ Memory) }
 {
     match tag {
         0x60 => {
@@ -53,6 +54,7 @@ fn skip_descriptor_after<'a, A: Allocator + Copy, G: Grammar>(
 ) -> Result<&'a [u8], DecodeError>
     ensures found { IfOk result (λ rest. (x : Option ℕ × Shape) × Decodes (after_descriptor tag) (padded_of G.grammar) bytes.now x rest.now) }
     ensures none { IfErr result (λ e. e.cause ≢ Memory → Rejects (after_descriptor tag) (padded_of G.grammar) bytes.now) }
+    ensures no_memory { IfErr result (λ e. e.cause ≢ Memory) }
 {
     if tag == 0x4D {
         let ((_index, tag), rest) = <(u32, u8) as Readable<'a, A, G>>::read(bytes, alloc)?;
@@ -71,6 +73,7 @@ fn skip_describes_after<'a, A: Allocator + Copy, G: Grammar>(
 ) -> Result<&'a [u8], DecodeError>
     ensures found { IfOk result (λ rest. (x : Option ℕ × (Option ℕ × Shape)) × Decodes (after_describes tag) (padded_of G.grammar) bytes.now x rest.now) }
     ensures none { IfErr result (λ e. e.cause ≢ Memory → Rejects (after_describes tag) (padded_of G.grammar) bytes.now) }
+    ensures no_memory { IfErr result (λ e. e.cause ≢ Memory) }
 {
     if tag == 0x4C {
         let ((_index, tag), rest) = <(u32, u8) as Readable<'a, A, G>>::read(bytes, alloc)?;
@@ -88,6 +91,7 @@ fn skip_composite_after<'a, A: Allocator + Copy, G: Grammar>(
 ) -> Result<&'a [u8], DecodeError>
     ensures found { IfOk result (λ rest. (x : Composite) × Decodes (after_composite tag) (padded_of G.grammar) bytes.now x rest.now) }
     ensures none { IfErr result (λ e. e.cause ≢ Memory → Rejects (after_composite tag) (padded_of G.grammar) bytes.now) }
+    ensures no_memory { IfErr result (λ e. e.cause ≢ Memory) }
 {
     if tag == 0x65 {
         let (tag, rest) = <u8 as Readable<'a, A, G>>::read(bytes, alloc)?;
@@ -104,6 +108,7 @@ fn skip_composite<'a, A: Allocator + Copy, G: Grammar>(
 ) -> Result<&'a [u8], DecodeError>
     ensures found { IfOk result (λ rest. (x : Composite) × Decodes composite_type (padded_of G.grammar) bytes.now x rest.now) }
     ensures none { IfErr result (λ e. e.cause ≢ Memory → Rejects composite_type (padded_of G.grammar) bytes.now) }
+    ensures no_memory { IfErr result (λ e. e.cause ≢ Memory) }
 {
     let (tag, rest) = <u8 as Readable<'a, A, G>>::read(bytes, alloc)?;
     skip_composite_after::<A, G>(tag, rest, alloc)
@@ -116,6 +121,7 @@ fn skip_supertypes_and<'a, A: Allocator + Copy, G: Grammar>(
 ) -> Result<&'a [u8], DecodeError>
     ensures found { IfOk result (λ rest. (x : List ℕ × Composite) × Decodes supertypes_and (padded_of G.grammar) bytes.now x rest.now) }
     ensures none { IfErr result (λ e. e.cause ≢ Memory → Rejects supertypes_and (padded_of G.grammar) bytes.now) }
+    ensures no_memory { IfErr result (λ e. e.cause ≢ Memory) }
 {
     let (_count, rest) = skip_many::<'a, Dropped<u32>, A, G>(bytes, alloc)?;
     skip_composite::<A, G>(rest, alloc)
@@ -129,6 +135,7 @@ fn skip_final_and<'a, A: Allocator + Copy, G: Grammar>(
 ) -> Result<&'a [u8], DecodeError>
     ensures found { IfOk result (λ rest. (x : List ℕ × Composite) × Decodes (such (HasFinalPrefix G.grammar) supertypes_and) (padded_of G.grammar) bytes.now x rest.now) }
     ensures none { IfErr result (λ e. e.cause ≢ Memory → Rejects (such (HasFinalPrefix G.grammar) supertypes_and) (padded_of G.grammar) bytes.now) }
+    ensures no_memory { IfErr result (λ e. e.cause ≢ Memory) }
 {
     let (count, rest) = skip_many::<'a, Dropped<u32>, A, G>(bytes, alloc)?;
     if count == 0 && !G::is_standard() {
@@ -145,6 +152,7 @@ fn skip_sub_after<'a, A: Allocator + Copy, G: Grammar>(
 ) -> Result<&'a [u8], DecodeError>
     ensures found { IfOk result (λ rest. (x : Sub) × Decodes (after_sub tag) (padded_of G.grammar) bytes.now x rest.now) }
     ensures none { IfErr result (λ e. e.cause ≢ Memory → Rejects (after_sub tag) (padded_of G.grammar) bytes.now) }
+    ensures no_memory { IfErr result (λ e. e.cause ≢ Memory) }
 {
     match tag {
         0x50 => skip_supertypes_and::<A, G>(bytes, alloc),

@@ -11,7 +11,7 @@ ghost use Rattle.wasm_base.specs.Numbers.{padded_of};
 ghost use Rattle.wasm_base.specs.Pieces.{section_encoding, IsEncodableSection, IsOverlong};
 ghost use Rattle.wasm_base.specs.Encodings.{IsEncodableVec};
 ghost use Rattle.wasm_base.specs.declared.refused.Refused.TheVariants.{TooLong};
-ghost use Rattle.wasm_base.specs.Minimal.{AppendsMinimal, HasEncoding};
+ghost use Rattle.wasm_base.specs.Minimal.{AppendsMinimal, HasEncoding, builders_alone};
 ghost use Rattle.wasm_base.specs.declared.fault.ReadFault.TheVariants.{Memory};
 ghost use Rattle.wasm_types.specs.Calls.{AddsListed, AddsTwoListed};
 ghost use Rattle.wasm_types.specs.Items.{entry_view};
@@ -304,9 +304,9 @@ pub fn append_types<A: Allocator, B: Allocator>(
     types: &[TypeEntry<A>],
     sink: &mut Vec<u8, B>,
 ) -> Result<()>
-    ensures ok { OnOk result (AppendsMinimal (vec type_item) (map entry_view types.now) sink.old.items sink.new.items) }
+    ensures ok { OnOk result (AppendsMinimal builders_alone (vec type_item) (map entry_view types.now) sink.old.items sink.new.items) }
     ensures err { OnErr result (sink.new.items ≡ sink.old.items) }
-    ensures too_long { HasEncoding (vec type_item) (map entry_view types.now) → result ≢ Err TooLong }
+    ensures too_long { HasEncoding builders_alone (vec type_item) (map entry_view types.now) → result ≢ Err TooLong }
 {
     types.encode(sink)
 }

@@ -143,7 +143,7 @@ impl<'a, A: Allocator + Copy> CowStr<'a, A> {
     ///
     /// # Proved
     ///
-    /// After `Ok`: `same`. In any case: `memory`, no error is `TooLong`.
+    /// After `Ok`: `same`, the result has the same content. In any case: `memory`, no error is `TooLong`.
     ///
     /// ```text
     /// ensures same { IfOk result (λ cow. utf8_of cow ≡ utf8_of self.now) }

@@ -85,7 +85,7 @@ impl ReadFault {
     ///
     /// # Proved
     ///
-    /// In any case: `cause`; `left`, the remaining bytes are left.
+    /// In any case: `cause`, the result has this cause; `left`, the remaining bytes are left.
     ///
     /// ```text
     /// ensures cause { result.cause ≡ self }
@@ -104,7 +104,7 @@ impl ReadFault {
     ///
     /// # Proved
     ///
-    /// In any case: `cause`; `left`, the remaining bytes and the byte before them are left.
+    /// In any case: `cause`, the result has this cause; `left`, the remaining bytes and the byte before them are left.
     ///
     /// ```text
     /// ensures cause { result.cause ≡ self }
@@ -182,7 +182,7 @@ impl DecodeError {
     ///
     /// # Proved
     ///
-    /// In any case: `cause`; `left`, the bytes that follow are left too.
+    /// In any case: `cause`, the result has the same cause; `left`, the bytes that follow are left too.
     ///
     /// ```text
     /// ensures cause { result.cause ≡ self.cause }

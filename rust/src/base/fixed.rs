@@ -50,6 +50,13 @@ impl Layout for u8 {
     fn laws() {}
 }
 
+/// # Defined
+///
+/// ```text
+/// may_allocate = { ⊥ }
+/// ```
+///
+/// [How to read clauses](crate::definitions).
 impl<'a, A: Allocator + Copy, G: Grammar> Readable<'a, A, G> for u8 {
     #[inline]
     fn read(bytes: &'a [u8], _alloc: A) -> Result<(u8, &'a [u8]), DecodeError> {
@@ -79,6 +86,13 @@ impl Layout for i128 {
     fn laws() {}
 }
 
+/// # Defined
+///
+/// ```text
+/// may_allocate = { ⊥ }
+/// ```
+///
+/// [How to read clauses](crate::definitions).
 impl<'a, A: Allocator + Copy, G: Grammar> Readable<'a, A, G> for i128 {
     fn read(bytes: &'a [u8], _alloc: A) -> Result<(i128, &'a [u8]), DecodeError> {
         match bytes.split_first_chunk::<16>() {

@@ -35,7 +35,7 @@ use crate::alloc::Allocator;
 ///
 /// # Proved
 ///
-/// After `Ok`: `ok`, the sink gains the size; `reserved`, the sink has spare capacity for the payload; `was_encodable`, the size is at most 4294967295. After an error: `err`, the bytes of the sink are unchanged. In any case: `too_long`, a size of at most 4294967295 never gives `TooLong`; `too_many`, more than 4294967295 give `TooLong`; `spare`; `capacity`, the capacity does not shrink.
+/// After `Ok`: `ok`, the sink gains the size; `reserved`, the sink has spare capacity for the payload; `was_encodable`, the size is at most 4294967295. After an error: `err`, the bytes of the sink are unchanged. In any case: `too_long`, a size of at most 4294967295 never gives `TooLong`; `too_many`, more than 4294967295 give `TooLong`; `spare`, the call succeeds if the size fits 32 bits and the bytes fit the spare capacity; `capacity`, the capacity does not shrink.
 ///
 /// ```text
 /// ensures ok { OnOk result (sink.new.items ≡ sink.old.items ++ unsigned_encoding size) }
@@ -203,6 +203,13 @@ impl<T: Layout> Layout for SizePrefixed<T> {
     }
 }
 
+/// # Defined
+///
+/// ```text
+/// may_allocate = { T.may_allocate }
+/// ```
+///
+/// [How to read clauses](crate::definitions).
 impl<'a, A: Allocator + Copy, G: Grammar, T: Readable<'a, A, G>> Readable<'a, A, G>
     for SizePrefixed<T> {
     fn read(bytes: &'a [u8], alloc: A) -> Result<(SizePrefixed<T>, &'a [u8]), DecodeError> {
@@ -245,10 +252,10 @@ impl<'a, A: Allocator + Copy, G: Grammar, T: Readable<'a, A, G>> Readable<'a, A,
 ///
 /// # Proved
 ///
-/// - After `Ok`: `sized`.
+/// - After `Ok`, `sized`: the bytes from `start` on gain their size before them.
 /// - After `Ok`, `was_encodable`: The size of the bytes is at most 2^32 - 1.
 /// - After an error, `err`: the bytes of the sink are unchanged.
-/// - In any case: `too_long`.
+/// - `too_long`: at most 4294967295 bytes from `start` on never give `TooLong`.
 ///
 /// ```text
 /// ensures sized { OnOk result
@@ -271,16 +278,16 @@ pub fn prefix_size_since<B: Sink>(sink: &mut B, start: usize) -> Result<()> {
 ///
 /// # Proved
 ///
-/// - After `Ok`, `ok`: the sink gains the minimal encoding.
+/// - After `Ok`, `ok`: the sink gains the encoding that is minimal in the `grammars` of the type.
 /// - `front`: The new bytes begin with the old ones.
 /// - `too_long`: a value that has an encoding never gives `TooLong`.
 ///
 /// ```text
 /// ensures ok { OnOk result
-///     (AppendsMinimal (size_prefixed T.format)
+///     (AppendsMinimal T.grammars (size_prefixed T.format)
 ///         (T.view value.now) sink.old.items sink.new.items) }
 /// ensures front { IsFrontOf sink.old.items sink.new.items }
-/// ensures too_long { HasEncoding (size_prefixed T.format) (T.view value.now)
+/// ensures too_long { HasEncoding T.grammars (size_prefixed T.format) (T.view value.now)
 ///     → result ≢ Err TooLong }
 /// ```
 ///
@@ -292,6 +299,13 @@ fn append_payload<T: Shorten, B: Sink>(value: &T, sink: &mut B) -> Result<()> {
     prefix_size_since(sink, start)
 }
 
+/// # Defined
+///
+/// ```text
+/// grammars = { T.grammars }
+/// ```
+///
+/// [How to read clauses](crate::definitions).
 impl<T: Shorten> Shorten for SizePrefixed<T> {
     fn write_minimal<B: Sink>(&self, sink: &mut B) -> Result<()> {
         let SizePrefixed(value) = self;
@@ -318,6 +332,14 @@ impl<G: Grammar, T: Minimize<G>> Minimize<G> for SizePrefixed<T> {
 }
 
 /// Skips the payload, which the value occupies to the last byte.
+///
+/// # Defined
+///
+/// ```text
+/// may_allocate = { P.may_allocate }
+/// ```
+///
+/// [How to read clauses](crate::definitions).
 impl<'a, A: Allocator + Copy, G: Grammar, P: Skip<'a, A, G>> Skip<'a, A, G> for SizePrefixed<P> {
     fn skip(bytes: &'a [u8], alloc: A) -> Result<&'a [u8], DecodeError> {
         let (content, rest) = <&'a [u8] as Readable<'a, A, G>>::read(bytes, alloc)?;

@@ -492,9 +492,11 @@ pub struct Groups {
 /// # Proved
 ///
 /// - After `Ok`, `found`: The bytes begin with LEB128 groups: their sum, 128 to the power of their number, and the last group. The returned bytes follow them.
-/// - After `Ok`: `power`, `below`.
+/// - After `Ok`, `power`: the power is at most 128 to the power of `limit`.
+/// - After `Ok`, `below`: the sum is below the power.
 /// - After an error, `none`: the bytes do not begin with such an encoding.
-/// - After an error: `ended`, `too_many`.
+/// - After an error, `ended`: `Ended` means fewer bytes than `limit`.
+/// - After an error, `too_many`: `TooLarge` means at least `limit` bytes.
 ///
 /// ```text
 /// ensures found { IfOk result
@@ -502,6 +504,7 @@ pub struct Groups {
 /// ensures power { IfOk result (λ x. x.0.power ≤ 128 ^ limit) }
 /// ensures below { IfOk result (λ x. x.0.sum < x.0.power) }
 /// ensures none { IfErr result (λ _. Rejects (groups limit) padded bytes.now) }
+/// ensures no_memory { IfErr result (λ e. e.cause ≢ Memory) }
 /// ensures ended { IfErr result (λ e. e.cause ≡ Ended → length bytes.now < limit) }
 /// ensures too_many { IfErr result (λ e. e.cause ≡ TooLarge → limit ≤ length bytes.now) }
 /// ```
@@ -601,7 +604,7 @@ struct FewGroups {
 /// # Proved
 ///
 /// - After `Ok`, `found`: The bytes begin with LEB128 groups: their sum, 128 to the power of their number, and the last group. The returned bytes follow them.
-/// - After `Ok`: `power`, `below`.
+/// - After `Ok`, `below`: the sum is below the power.
 /// - After an error, `none`: the bytes do not begin with such an encoding.
 ///
 /// ```text
@@ -610,6 +613,7 @@ struct FewGroups {
 /// ensures power { IfOk result (λ x. x.0.power ≤ 2 ^ 35) }
 /// ensures below { IfOk result (λ x. x.0.sum < x.0.power) }
 /// ensures none { IfErr result (λ _. Rejects (groups 5) padded bytes.now) }
+/// ensures no_memory { IfErr result (λ e. e.cause ≢ Memory) }
 /// ```
 ///
 /// Definitions: [`HasGroups`](crate::definitions::base::groups::HasGroups), [`Rejects`](crate::definitions::base::decoding::Rejects), [`groups`](crate::definitions::base::groups::groups), [`padded`](crate::definitions::base::numbers::Mode). [How to read clauses](crate::definitions).
@@ -676,6 +680,7 @@ fn signed_few(groups: FewGroups) -> i64 {
 ///     (λ x. Decodes u32_format (padded_of G.grammar) bytes.now x.0 x.1.now) }
 /// ensures none { IfErr result
 ///     (λ e. e.cause ≢ Memory → Rejects u32_format (padded_of G.grammar) bytes.now) }
+/// ensures no_memory { IfErr result (λ e. e.cause ≢ Memory) }
 /// ```
 ///
 /// Definitions: [`Decodes`](crate::definitions::base::decoding::Decodes), [`u32_format`](crate::definitions::base::formats::u32), [`padded_of`](crate::definitions::base::numbers::padded_of), [`Rejects`](crate::definitions::base::decoding::Rejects). [How to read clauses](crate::definitions).
@@ -700,6 +705,7 @@ fn read_long_u32<G: Grammar>(bytes: &[u8]) -> Result<(u32, &[u8]), DecodeError> 
 ///     (λ x. Decodes u64_format (padded_of G.grammar) bytes.now x.0 x.1.now) }
 /// ensures none { IfErr result
 ///     (λ e. e.cause ≢ Memory → Rejects u64_format (padded_of G.grammar) bytes.now) }
+/// ensures no_memory { IfErr result (λ e. e.cause ≢ Memory) }
 /// ```
 ///
 /// Definitions: [`Decodes`](crate::definitions::base::decoding::Decodes), [`u64_format`](crate::definitions::base::formats::u64), [`padded_of`](crate::definitions::base::numbers::padded_of), [`Rejects`](crate::definitions::base::decoding::Rejects). [How to read clauses](crate::definitions).
@@ -727,6 +733,7 @@ fn read_long_u64<G: Grammar>(bytes: &[u8]) -> Result<(u64, &[u8]), DecodeError> 
 ///     (λ x. Decodes s32 (padded_of G.grammar) bytes.now x.0 x.1.now) }
 /// ensures none { IfErr result
 ///     (λ e. e.cause ≢ Memory → Rejects s32 (padded_of G.grammar) bytes.now) }
+/// ensures no_memory { IfErr result (λ e. e.cause ≢ Memory) }
 /// ```
 ///
 /// Definitions: [`Decodes`](crate::definitions::base::decoding::Decodes), [`s32`](crate::definitions::base::formats::s32), [`padded_of`](crate::definitions::base::numbers::padded_of), [`Rejects`](crate::definitions::base::decoding::Rejects). [How to read clauses](crate::definitions).
@@ -755,6 +762,7 @@ fn read_long_i32<G: Grammar>(bytes: &[u8]) -> Result<(i32, &[u8]), DecodeError> 
 ///     (λ x. Decodes s64 (padded_of G.grammar) bytes.now x.0 x.1.now) }
 /// ensures none { IfErr result
 ///     (λ e. e.cause ≢ Memory → Rejects s64 (padded_of G.grammar) bytes.now) }
+/// ensures no_memory { IfErr result (λ e. e.cause ≢ Memory) }
 /// ```
 ///
 /// Definitions: [`Decodes`](crate::definitions::base::decoding::Decodes), [`s64`](crate::definitions::base::formats::s64), [`padded_of`](crate::definitions::base::numbers::padded_of), [`Rejects`](crate::definitions::base::decoding::Rejects). [How to read clauses](crate::definitions).
@@ -788,6 +796,13 @@ impl Layout for u32 {
     fn laws() {}
 }
 
+/// # Defined
+///
+/// ```text
+/// may_allocate = { ⊥ }
+/// ```
+///
+/// [How to read clauses](crate::definitions).
 impl<'a, A: Allocator + Copy, G: Grammar> Readable<'a, A, G> for u32 {
     #[inline]
     fn read(bytes: &'a [u8], _alloc: A) -> Result<(u32, &'a [u8]), DecodeError> {
@@ -813,6 +828,13 @@ impl Layout for u64 {
     fn laws() {}
 }
 
+/// # Defined
+///
+/// ```text
+/// may_allocate = { ⊥ }
+/// ```
+///
+/// [How to read clauses](crate::definitions).
 impl<'a, A: Allocator + Copy, G: Grammar> Readable<'a, A, G> for u64 {
     #[inline]
     fn read(bytes: &'a [u8], _alloc: A) -> Result<(u64, &'a [u8]), DecodeError> {
@@ -838,6 +860,13 @@ impl Layout for i32 {
     fn laws() {}
 }
 
+/// # Defined
+///
+/// ```text
+/// may_allocate = { ⊥ }
+/// ```
+///
+/// [How to read clauses](crate::definitions).
 impl<'a, A: Allocator + Copy, G: Grammar> Readable<'a, A, G> for i32 {
     #[inline]
     fn read(bytes: &'a [u8], _alloc: A) -> Result<(i32, &'a [u8]), DecodeError> {
@@ -863,6 +892,13 @@ impl Layout for i64 {
     fn laws() {}
 }
 
+/// # Defined
+///
+/// ```text
+/// may_allocate = { ⊥ }
+/// ```
+///
+/// [How to read clauses](crate::definitions).
 impl<'a, A: Allocator + Copy, G: Grammar> Readable<'a, A, G> for i64 {
     #[inline]
     fn read(bytes: &'a [u8], _alloc: A) -> Result<(i64, &'a [u8]), DecodeError> {
@@ -880,7 +916,7 @@ impl<'a, A: Allocator + Copy, G: Grammar> Readable<'a, A, G> for i64 {
 ///
 /// # Errors
 ///
-/// Any error but `Memory` means that no such index is at the front.
+/// An error means that no such index is at the front.
 ///
 /// # Proved
 ///
@@ -891,6 +927,7 @@ impl<'a, A: Allocator + Copy, G: Grammar> Readable<'a, A, G> for i64 {
 ///     (λ x. Decodes s33 (padded_of G.grammar) bytes.now x.0 x.1.now) }
 /// ensures none { IfErr result
 ///     (λ e. e.cause ≢ Memory → Rejects s33 (padded_of G.grammar) bytes.now) }
+/// ensures no_memory { IfErr result (λ e. e.cause ≢ Memory) }
 /// ```
 ///
 /// Definitions: [`Decodes`](crate::definitions::base::decoding::Decodes), [`s33`](crate::definitions::base::formats::s33), [`padded_of`](crate::definitions::base::numbers::padded_of), [`Rejects`](crate::definitions::base::decoding::Rejects). [How to read clauses](crate::definitions).
@@ -907,6 +944,13 @@ pub fn read_index<G: Grammar>(bytes: &[u8]) -> Result<(u32, &[u8]), DecodeError>
     }
 }
 
+/// # Defined
+///
+/// ```text
+/// grammars = { both_grammars }
+/// ```
+///
+/// Definitions: [`both_grammars`](crate::definitions::base::minimal::Grammars). [How to read clauses](crate::definitions).
 impl Shorten for u32 {
     fn write_minimal<B: Sink>(&self, sink: &mut B) -> Result<()> {
         self.encode(sink)

@@ -144,7 +144,7 @@ pub fn minimize_value<
     Ok(rest)
 }
 
-/// A value with the same encodings in both grammars.
+/// A value whose written encoding is minimal in both grammars.
 ///
 /// # Examples
 ///
@@ -157,23 +157,21 @@ pub fn minimize_value<
 /// assert_eq!(minimal, [0x01, 0x05]);
 /// # Ok::<(), dolzhytik::reader::DecodeError>(())
 /// ```
-pub trait Shared: Layout {
-    /// Proves that the format is the same in both grammars. The function does nothing.
+pub trait Shared: Shorten {
+    /// Proves that it is minimal in both. The function does nothing.
     ///
     /// # Proved
     ///
-    /// The standard's grammar has no other encodings than the builders', minimal or padded.
-    ///
     /// ```text
-    /// ensures { AreSameInBoth Self.format }
+    /// ensures { Self.grammars ≡ both_grammars }
     /// ```
     ///
-    /// Definitions: [`AreSameInBoth`](crate::definitions::base::minimal::AreSameInBoth). [How to read clauses](crate::definitions).
+    /// Definitions: [`both_grammars`](crate::definitions::base::minimal::Grammars). [How to read clauses](crate::definitions).
     fn shared();
 }
 
-/// Decodes the value at the front, appends its minimal encoding, and drops it. The value has the
-/// same encodings in both grammars.
+/// Decodes the value at the front, appends its minimal encoding, and drops it. That encoding is the
+/// same in both grammars.
 ///
 /// # Errors
 ///
@@ -212,7 +210,7 @@ pub trait Shared: Layout {
 /// Definitions: [`Minimizes`](crate::definitions::base::minimal::Minimizes), [`Rejects`](crate::definitions::base::decoding::Rejects), [`padded_of`](crate::definitions::base::numbers::padded_of), [`IsFrontOf`](crate::definitions::base::minimal::IsFrontOf). [How to read clauses](crate::definitions).
 pub fn minimize_shared<
     'a,
-    T: Readable<'a, A, G> + Shorten + Shared,
+    T: Readable<'a, A, G> + Shared,
     A: Allocator + Copy,
     G: Grammar,
     B: Sink,

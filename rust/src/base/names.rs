@@ -54,6 +54,13 @@ impl<'a> Layout for &'a [u8] {
     fn laws() {}
 }
 
+/// # Defined
+///
+/// ```text
+/// may_allocate = { ⊥ }
+/// ```
+///
+/// [How to read clauses](crate::definitions).
 impl<'a, A: Allocator + Copy, G: Grammar> Readable<'a, A, G> for &'a [u8] {
     fn read(bytes: &'a [u8], alloc: A) -> Result<(&'a [u8], &'a [u8]), DecodeError> {
         let (size, rest) = <u32 as Readable<'a, A, G>>::read(bytes, alloc)?;
@@ -88,6 +95,13 @@ impl<'a> Layout for &'a str {
     fn laws() {}
 }
 
+/// # Defined
+///
+/// ```text
+/// may_allocate = { ⊥ }
+/// ```
+///
+/// [How to read clauses](crate::definitions).
 impl<'a, A: Allocator + Copy, G: Grammar> Readable<'a, A, G> for &'a str {
     fn read(bytes: &'a [u8], alloc: A) -> Result<(&'a str, &'a [u8]), DecodeError> {
         let (encoding, rest) = <&'a [u8] as Readable<'a, A, G>>::read(bytes, alloc)?;
@@ -98,12 +112,26 @@ impl<'a, A: Allocator + Copy, G: Grammar> Readable<'a, A, G> for &'a str {
     }
 }
 
+/// # Defined
+///
+/// ```text
+/// grammars = { both_grammars }
+/// ```
+///
+/// Definitions: [`both_grammars`](crate::definitions::base::minimal::Grammars). [How to read clauses](crate::definitions).
 impl Shorten for &[u8] {
     fn write_minimal<B: Sink>(&self, sink: &mut B) -> Result<()> {
         encode_size_prefixed(sink, self)
     }
 }
 
+/// # Defined
+///
+/// ```text
+/// grammars = { both_grammars }
+/// ```
+///
+/// Definitions: [`both_grammars`](crate::definitions::base::minimal::Grammars). [How to read clauses](crate::definitions).
 impl Shorten for &str {
     fn write_minimal<B: Sink>(&self, sink: &mut B) -> Result<()> {
         self.encode(sink)

@@ -115,7 +115,7 @@ pub struct BytesOf<I> {
 ///
 /// # Proved
 ///
-/// After `Ok`: `ok`. After an error: `refused`, the error is `TooLong`. In any case: `too_long`; `too_many`, more than 4294967295 give `TooLong`.
+/// After an error: `refused`, the error is `TooLong`. In any case: `too_many`, more than 4294967295 give `TooLong`.
 ///
 /// ```text
 /// ensures ok { IfOk result
@@ -155,7 +155,7 @@ fn count_of<I: ExactSizeIterator>(items: &I) -> Result<u32> {
 ///
 /// # Proved
 ///
-/// After `Ok`: `ok`. After an error: `refused`, the error is `TooLong`. In any case: `too_long`; `too_many`.
+/// After `Ok`: `ok`, the result has the iterator, which ends and yields as many items as `count`, at most 4294967295. After an error: `refused`, the error is `TooLong`. In any case: `too_long`, at most 4294967295 items never give `TooLong`; `too_many`, more than 4294967295 items give `TooLong`.
 ///
 /// ```text
 /// ensures ok { IfOk result
@@ -198,7 +198,7 @@ where
 ///
 /// # Proved
 ///
-/// After `Ok`: `ok`. After an error: `refused`, the error is `TooLong`. In any case: `too_long`; `too_many`.
+/// After `Ok`: `ok`, the result has the iterator, which ends and yields as many items as `count`, at most 4294967295. After an error: `refused`, the error is `TooLong`. In any case: `too_long`, at most 4294967295 items never give `TooLong`; `too_many`, more than 4294967295 items give `TooLong`.
 ///
 /// ```text
 /// ensures ok { IfOk result
@@ -304,7 +304,7 @@ fn next_block<I: Iterator<Item = u8>>(items: &mut I) -> [u8; BLOCK] {
 ///
 /// # Proved
 ///
-/// In any case: `appends`; `ready`; `capacity`, the capacity does not shrink.
+/// In any case: `capacity`, the capacity does not shrink.
 ///
 /// ```text
 /// ensures appends { (xs : List ℕ) × Yields I.next_gives items.old xs items.new

@@ -114,6 +114,7 @@ impl<T: Encode> Encode for Optional<T> {
 /// ensures none { IfErr result
 ///     (λ e. e.cause ≢ Memory → Rejects (optional flag T.format)
 ///         (padded_of G.grammar) bytes.now) }
+/// ensures no_memory { IfErr result (λ e. e.cause ≡ Memory → T.may_allocate) }
 /// ```
 ///
 /// Definitions: [`Decodes`](crate::definitions::base::decoding::Decodes), [`optional`](crate::definitions::base::formats::optional), [`padded_of`](crate::definitions::base::numbers::padded_of), [`Rejects`](crate::definitions::base::decoding::Rejects). [How to read clauses](crate::definitions).

@@ -65,7 +65,17 @@ pub trait Layout {
 /// assert_eq!((ty, number, rest.len()), (ValType::I32, 300, 0));
 /// # Ok::<(), dolzhytik::reader::DecodeError>(())
 /// ```
+///
+/// # Defined
+///
+/// ```text
+/// may_allocate: { Type 0 } = { ⊤ }
+/// ```
+///
+/// [How to read clauses](crate::definitions).
 pub trait Readable<'a, A: Allocator + Copy, G: Grammar>: Layout + Sized {
+    // Whether decoding may request memory. Without it, no error is `Memory`.
+
     /// Decodes the value at the front, in the grammar `G`, and returns it with the remaining bytes.
     ///
     /// # Errors
@@ -81,6 +91,7 @@ pub trait Readable<'a, A: Allocator + Copy, G: Grammar>: Layout + Sized {
     ///     (λ x. Decodes Self.format (padded_of G.grammar) bytes.now (Self.view x.0) x.1.now) }
     /// ensures none { IfErr result
     ///     (λ e. e.cause ≢ Memory → Rejects Self.format (padded_of G.grammar) bytes.now) }
+    /// ensures no_memory { IfErr result (λ e. e.cause ≡ Memory → Self.may_allocate) }
     /// ```
     ///
     /// Definitions: [`Decodes`](crate::definitions::base::decoding::Decodes), [`padded_of`](crate::definitions::base::numbers::padded_of), [`Rejects`](crate::definitions::base::decoding::Rejects). [How to read clauses](crate::definitions).

@@ -20,7 +20,17 @@ use crate::base::refused::Result;
 /// assert_eq!(minimal, [5]);
 /// # Ok::<(), dolzhytik::reader::DecodeError>(())
 /// ```
+///
+/// # Defined
+///
+/// ```text
+/// grammars: { Grammars }
+/// ```
+///
+/// Definitions: [`Grammars`](crate::definitions::base::minimal::Grammars). [How to read clauses](crate::definitions).
 pub trait Shorten: Layout {
+    // The grammars whose minimal encoding of the value is written.
+
     /// Writes the minimal encoding of the value after the old bytes. An impl defines it, and
     /// callers use [`append_minimal`](Shorten::append_minimal): after an error of this method,
     /// part of the encoding may be in the sink.
@@ -32,15 +42,17 @@ pub trait Shorten: Layout {
     ///
     /// # Proved
     ///
-    /// - After `Ok`, `ok`: the sink gains the minimal encoding.
+    /// - After `Ok`, `ok`: the sink gains the encoding that is minimal in the `grammars` of the type.
     /// - `front`: The new bytes begin with the old ones.
     /// - `too_long`: a value that has an encoding never gives `TooLong`.
     ///
     /// ```text
     /// ensures ok { OnOk result
-    ///     (AppendsMinimal Self.format (Self.view self.now) sink.old.items sink.new.items) }
+    ///     (AppendsMinimal Self.grammars Self.format
+    ///         (Self.view self.now) sink.old.items sink.new.items) }
     /// ensures front { IsFrontOf sink.old.items sink.new.items }
-    /// ensures too_long { HasEncoding Self.format (Self.view self.now) → result ≢ Err TooLong }
+    /// ensures too_long { HasEncoding Self.grammars Self.format (Self.view self.now)
+    ///     → result ≢ Err TooLong }
     /// ```
     ///
     /// Definitions: [`AppendsMinimal`](crate::definitions::base::minimal::AppendsMinimal), [`IsFrontOf`](crate::definitions::base::minimal::IsFrontOf), [`HasEncoding`](crate::definitions::base::minimal::HasEncoding). [How to read clauses](crate::definitions).
@@ -51,17 +63,19 @@ pub trait Shorten: Layout {
     /// # Errors
     ///
     /// Returns [`Refused`](crate::base::Refused), and leaves the bytes of the sink unchanged, if an
-    /// allocation fails. A decoded value never causes `TooLong`.
+    /// allocation fails. A value that was decoded in one of the `grammars` never causes `TooLong`.
     ///
     /// # Proved
     ///
-    /// After `Ok`: `ok`, the sink gains the minimal encoding. After an error: `err`, the bytes of the sink are unchanged. In any case: `too_long`, a value that has an encoding never gives `TooLong`.
+    /// After `Ok`: `ok`, the sink gains the encoding that is minimal in the `grammars` of the type. After an error: `err`, the bytes of the sink are unchanged. In any case: `too_long`, a value that has an encoding never gives `TooLong`.
     ///
     /// ```text
     /// ensures ok { OnOk result
-    ///     (AppendsMinimal Self.format (Self.view self.now) sink.old.items sink.new.items) }
+    ///     (AppendsMinimal Self.grammars Self.format
+    ///         (Self.view self.now) sink.old.items sink.new.items) }
     /// ensures err { OnErr result (sink.new.items ≡ sink.old.items) }
-    /// ensures too_long { HasEncoding Self.format (Self.view self.now) → result ≢ Err TooLong }
+    /// ensures too_long { HasEncoding Self.grammars Self.format (Self.view self.now)
+    ///     → result ≢ Err TooLong }
     /// ```
     ///
     /// Definitions: [`AppendsMinimal`](crate::definitions::base::minimal::AppendsMinimal), [`HasEncoding`](crate::definitions::base::minimal::HasEncoding). [How to read clauses](crate::definitions).

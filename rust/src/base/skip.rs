@@ -21,7 +21,17 @@ use crate::alloc::Allocator;
 /// assert_eq!(rest, [0xFF]);
 /// # Ok::<(), dolzhytik::reader::DecodeError>(())
 /// ```
+///
+/// # Defined
+///
+/// ```text
+/// may_allocate: { Type 0 } = { ⊥ }
+/// ```
+///
+/// [How to read clauses](crate::definitions).
 pub trait Skip<'a, A: Allocator + Copy, G: Grammar>: Layout {
+    // Whether skipping may request memory. Without it, no error is `Memory`.
+
     /// Skips the value at the front, in the grammar `G`, and returns the remaining bytes.
     ///
     /// # Errors
@@ -38,6 +48,7 @@ pub trait Skip<'a, A: Allocator + Copy, G: Grammar>: Layout {
     ///         × Decodes Self.format (padded_of G.grammar) bytes.now x rest.now) }
     /// ensures none { IfErr result
     ///     (λ e. e.cause ≢ Memory → Rejects Self.format (padded_of G.grammar) bytes.now) }
+    /// ensures no_memory { IfErr result (λ e. e.cause ≡ Memory → Self.may_allocate) }
     /// ```
     ///
     /// Definitions: [`Decodes`](crate::definitions::base::decoding::Decodes), [`padded_of`](crate::definitions::base::numbers::padded_of), [`Rejects`](crate::definitions::base::decoding::Rejects). [How to read clauses](crate::definitions).
@@ -75,6 +86,13 @@ impl<T: Layout> Layout for Dropped<T> {
     }
 }
 
+/// # Defined
+///
+/// ```text
+/// may_allocate = { T.Readable.may_allocate }
+/// ```
+///
+/// [How to read clauses](crate::definitions).
 impl<'a, A: Allocator + Copy, G: Grammar, T: Readable<'a, A, G>> Skip<'a, A, G> for Dropped<T> {
     #[inline]
     fn skip(bytes: &'a [u8], alloc: A) -> Result<&'a [u8], DecodeError> {
@@ -113,6 +131,7 @@ impl<'a, A: Allocator + Copy, G: Grammar, T: Readable<'a, A, G>> Skip<'a, A, G> 
 ///         × (x.0 ≡ length xs)) }
 /// ensures none { IfErr result
 ///     (λ e. e.cause ≢ Memory → Rejects (vec P.format) (padded_of G.grammar) bytes.now) }
+/// ensures no_memory { IfErr result (λ e. e.cause ≡ Memory → P.Skip.may_allocate) }
 /// ```
 ///
 /// Definitions: [`Decodes`](crate::definitions::base::decoding::Decodes), [`vec`](crate::definitions::base::formats::vec), [`padded_of`](crate::definitions::base::numbers::padded_of), [`Rejects`](crate::definitions::base::decoding::Rejects). [How to read clauses](crate::definitions).
@@ -150,13 +169,14 @@ pub fn skip_many<'a, P: Skip<'a, A, G>, A: Allocator + Copy, G: Grammar>(
 ///
 /// # Proved
 ///
-/// After `Ok`: `found`. After an error: `none`, the bytes as a whole are no such encoding, unless the cause is `Memory`.
+/// After `Ok`: `found`, the bytes as a whole are such an encoding. After an error: `none`, the bytes as a whole are no such encoding, unless the cause is `Memory`.
 ///
 /// ```text
 /// ensures found { OnOk result
 ///     ((x : P.Value) × P.format (padded_of G.grammar) bytes.now x) }
 /// ensures none { IfErr result
 ///     (λ e. e.cause ≢ Memory → RejectsWhole P.format (padded_of G.grammar) bytes.now) }
+/// ensures no_memory { IfErr result (λ e. e.cause ≡ Memory → P.Skip.may_allocate) }
 /// ```
 ///
 /// Definitions: [`padded_of`](crate::definitions::base::numbers::padded_of), [`RejectsWhole`](crate::definitions::base::continuing::RejectsWhole). [How to read clauses](crate::definitions).
@@ -203,7 +223,7 @@ pub fn check_whole<'a, P: Skip<'a, A, G>, A: Allocator + Copy, G: Grammar>(
 ///
 /// # Proved
 ///
-/// After `Ok`: `found`. After an error: `none`, the bytes as a whole are no such encoding, unless the cause is `Memory`.
+/// After `Ok`: `found`, the bytes as a whole are such an encoding. After an error: `none`, the bytes as a whole are no such encoding, unless the cause is `Memory`.
 ///
 /// ```text
 /// ensures found { OnOk result
@@ -211,6 +231,7 @@ pub fn check_whole<'a, P: Skip<'a, A, G>, A: Allocator + Copy, G: Grammar>(
 /// ensures none { IfErr result
 ///     (λ e. e.cause ≢ Memory → RejectsWhole (members P.format)
 ///         (padded_of G.grammar) bytes.now) }
+/// ensures no_memory { IfErr result (λ e. e.cause ≡ Memory → P.Skip.may_allocate) }
 /// ```
 ///
 /// Definitions: [`members`](crate::definitions::base::formats::members), [`padded_of`](crate::definitions::base::numbers::padded_of), [`RejectsWhole`](crate::definitions::base::continuing::RejectsWhole). [How to read clauses](crate::definitions).

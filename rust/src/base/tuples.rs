@@ -80,6 +80,14 @@ impl<S: Encode, T: Encode, U: Encode> Encode for (S, T, U) {
 }
 
 /// One value, and then another.
+///
+/// # Defined
+///
+/// ```text
+/// may_allocate = { P.may_allocate ⊎ Q.may_allocate }
+/// ```
+///
+/// [How to read clauses](crate::definitions).
 impl<'a, A: Allocator + Copy, G: Grammar, P: Skip<'a, A, G>, Q: Skip<'a, A, G>> Skip<'a, A, G>
     for (P, Q) {
     fn skip(bytes: &'a [u8], alloc: A) -> Result<&'a [u8], DecodeError> {
@@ -108,6 +116,13 @@ impl<T: Layout, U: Layout> Layout for (T, U) {
     }
 }
 
+/// # Defined
+///
+/// ```text
+/// may_allocate = { T.may_allocate ⊎ U.may_allocate }
+/// ```
+///
+/// [How to read clauses](crate::definitions).
 impl<'a, A: Allocator + Copy, G: Grammar, T: Readable<'a, A, G>, U: Readable<'a, A, G>> Readable<
     'a,
     A,
@@ -122,6 +137,13 @@ impl<'a, A: Allocator + Copy, G: Grammar, T: Readable<'a, A, G>, U: Readable<'a,
     }
 }
 
+/// # Defined
+///
+/// ```text
+/// grammars = { common_grammars T.grammars U.grammars }
+/// ```
+///
+/// Definitions: [`common_grammars`](crate::definitions::base::minimal::common_grammars). [How to read clauses](crate::definitions).
 impl<T: Shorten, U: Shorten> Shorten for (T, U) {
     fn write_minimal<B: Sink>(&self, sink: &mut B) -> Result<()> {
         self.0.write_minimal(sink)?;

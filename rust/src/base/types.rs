@@ -441,6 +441,13 @@ impl Layout for AbstractHeapType {
     fn laws() {}
 }
 
+/// # Defined
+///
+/// ```text
+/// may_allocate = { ⊥ }
+/// ```
+///
+/// [How to read clauses](crate::definitions).
 impl<'a, A: Allocator + Copy, G: Grammar> Readable<'a, A, G> for AbstractHeapType {
     fn read(bytes: &'a [u8], alloc: A) -> Result<(AbstractHeapType, &'a [u8]), DecodeError> {
         let (byte, rest) = <u8 as Readable<'a, A, G>>::read(bytes, alloc)?;
@@ -464,6 +471,13 @@ impl Layout for HeapType {
     fn laws() {}
 }
 
+/// # Defined
+///
+/// ```text
+/// may_allocate = { ⊥ }
+/// ```
+///
+/// [How to read clauses](crate::definitions).
 impl<'a, A: Allocator + Copy, G: Grammar> Readable<'a, A, G> for HeapType {
     fn read(bytes: &'a [u8], alloc: A) -> Result<(HeapType, &'a [u8]), DecodeError> {
         let (tag, rest) = <u8 as Readable<'a, A, G>>::read(bytes, alloc)?;
@@ -562,6 +576,7 @@ fn short_ref<G: Grammar>(byte: u8) -> Option<RefType> {
 /// ensures none { IfErr result
 ///     (λ e. e.cause ≢ Memory → Rejects (after_byte ref_type tag)
 ///         (padded_of G.grammar) bytes.now) }
+/// ensures no_memory { IfErr result (λ e. e.cause ≢ Memory) }
 /// ```
 ///
 /// Definitions: [`Decodes`](crate::definitions::base::decoding::Decodes), [`after_byte`](crate::definitions::base::formats::after_byte), [`ref_type`](crate::definitions::base::types::ref_type), [`padded_of`](crate::definitions::base::numbers::padded_of), [`Rejects`](crate::definitions::base::decoding::Rejects). [How to read clauses](crate::definitions).
@@ -617,6 +632,13 @@ impl Layout for RefType {
     fn laws() {}
 }
 
+/// # Defined
+///
+/// ```text
+/// may_allocate = { ⊥ }
+/// ```
+///
+/// [How to read clauses](crate::definitions).
 impl<'a, A: Allocator + Copy, G: Grammar> Readable<'a, A, G> for RefType {
     fn read(bytes: &'a [u8], alloc: A) -> Result<(RefType, &'a [u8]), DecodeError> {
         let (tag, rest) = <u8 as Readable<'a, A, G>>::read(bytes, alloc)?;
@@ -640,7 +662,7 @@ impl<G: Grammar> Minimize<G> for RefType {
 ///
 /// # Errors
 ///
-/// Any error but `Memory` means that no value type is at the front of `tag` and the bytes.
+/// An error means that no value type is at the front of `tag` and the bytes.
 ///
 /// # Proved
 ///
@@ -653,6 +675,7 @@ impl<G: Grammar> Minimize<G> for RefType {
 /// ensures none { IfErr result
 ///     (λ e. e.cause ≢ Memory → Rejects (after_byte val_type tag)
 ///         (padded_of G.grammar) bytes.now) }
+/// ensures no_memory { IfErr result (λ e. e.cause ≢ Memory) }
 /// ```
 ///
 /// Definitions: [`Decodes`](crate::definitions::base::decoding::Decodes), [`after_byte`](crate::definitions::base::formats::after_byte), [`val_type`](crate::definitions::base::types::val_type), [`padded_of`](crate::definitions::base::numbers::padded_of), [`Rejects`](crate::definitions::base::decoding::Rejects). [How to read clauses](crate::definitions).
@@ -687,6 +710,13 @@ impl Layout for ValType {
     fn laws() {}
 }
 
+/// # Defined
+///
+/// ```text
+/// may_allocate = { ⊥ }
+/// ```
+///
+/// [How to read clauses](crate::definitions).
 impl<'a, A: Allocator + Copy, G: Grammar> Readable<'a, A, G> for ValType {
     fn read(bytes: &'a [u8], alloc: A) -> Result<(ValType, &'a [u8]), DecodeError> {
         let (tag, rest) = <u8 as Readable<'a, A, G>>::read(bytes, alloc)?;
@@ -694,6 +724,13 @@ impl<'a, A: Allocator + Copy, G: Grammar> Readable<'a, A, G> for ValType {
     }
 }
 
+/// # Defined
+///
+/// ```text
+/// grammars = { builders_alone }
+/// ```
+///
+/// Definitions: [`builders_alone`](crate::definitions::base::minimal::Grammars). [How to read clauses](crate::definitions).
 impl Shorten for ValType {
     fn write_minimal<B: Sink>(&self, sink: &mut B) -> Result<()> {
         self.encode(sink)

@@ -126,16 +126,16 @@ impl<'a, A: Allocator + Copy, G: Grammar, T: Readable<'a, A, G>> Readable<'a, A,
 ///
 /// # Proved
 ///
-/// - After `Ok`, `ok`: the sink gains the minimal encoding.
+/// - After `Ok`, `ok`: the sink gains the encoding that is minimal in the `grammars` of the type.
 /// - `front`: The new bytes begin with the old ones.
 /// - `too_long`: a value that has an encoding never gives `TooLong`.
 ///
 /// ```text
 /// ensures ok { OnOk result
-///     (AppendsMinimal (members T.format)
+///     (AppendsMinimal T.grammars (members T.format)
 ///         (map T.view items.now) sink.old.items sink.new.items) }
 /// ensures front { IsFrontOf sink.old.items sink.new.items }
-/// ensures too_long { HasEncoding (members T.format) (map T.view items.now)
+/// ensures too_long { HasEncoding T.grammars (members T.format) (map T.view items.now)
 ///     → result ≢ Err TooLong }
 /// ```
 ///
@@ -154,7 +154,7 @@ fn write_all<T: Shorten, B: Sink>(items: &[T], sink: &mut B) -> Result<()> {
 /// # Errors
 ///
 /// Returns [`Refused`](crate::base::Refused), and leaves the bytes of the sink unchanged, if an
-/// allocation fails. Decoded values never cause `TooLong`.
+/// allocation fails. Values that were decoded in one of the `grammars` never cause `TooLong`.
 ///
 /// # Examples
 ///
@@ -169,14 +169,14 @@ fn write_all<T: Shorten, B: Sink>(items: &[T], sink: &mut B) -> Result<()> {
 ///
 /// # Proved
 ///
-/// After `Ok`: `ok`, the sink gains the minimal encoding. After an error: `err`, the bytes of the sink are unchanged. In any case: `too_long`, a value that has an encoding never gives `TooLong`.
+/// After `Ok`: `ok`, the sink gains the encoding that is minimal in the `grammars` of the type. After an error: `err`, the bytes of the sink are unchanged. In any case: `too_long`, a value that has an encoding never gives `TooLong`.
 ///
 /// ```text
 /// ensures ok { OnOk result
-///     (AppendsMinimal (members T.format)
+///     (AppendsMinimal T.grammars (members T.format)
 ///         (map T.view items.now) sink.old.items sink.new.items) }
 /// ensures err { OnErr result (sink.new.items ≡ sink.old.items) }
-/// ensures too_long { HasEncoding (members T.format) (map T.view items.now)
+/// ensures too_long { HasEncoding T.grammars (members T.format) (map T.view items.now)
 ///     → result ≢ Err TooLong }
 /// ```
 ///
@@ -191,6 +191,14 @@ pub fn append_all<T: Shorten, B: Sink>(items: &[T], sink: &mut B) -> Result<()> 
 }
 
 /// Writes the number of values, and the values.
+///
+/// # Defined
+///
+/// ```text
+/// grammars = { T.grammars }
+/// ```
+///
+/// [How to read clauses](crate::definitions).
 impl<T: Shorten, A: Allocator> Shorten for Vec<T, A> {
     fn write_minimal<B: Sink>(&self, sink: &mut B) -> Result<()> {
         self.len().encode(sink)?;
@@ -210,6 +218,14 @@ impl<G: Grammar, T: Minimize<G>, C: Allocator> Minimize<G> for Vec<T, C> {
 }
 
 /// Skips the members one by one, and keeps none.
+///
+/// # Defined
+///
+/// ```text
+/// may_allocate = { P.may_allocate }
+/// ```
+///
+/// [How to read clauses](crate::definitions).
 impl<'a, A: Allocator + Copy, G: Grammar, P: Skip<'a, A, G>, C: Allocator> Skip<'a, A, G>
     for Vec<P, C> {
     fn skip(bytes: &'a [u8], alloc: A) -> Result<&'a [u8], DecodeError> {

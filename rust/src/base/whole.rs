@@ -33,6 +33,7 @@ use crate::alloc::Allocator;
 /// ensures found { IfOk result (λ x. T.format (padded_of G.grammar) bytes.now (T.view x)) }
 /// ensures none { IfErr result
 ///     (λ e. e.cause ≢ Memory → RejectsWhole T.format (padded_of G.grammar) bytes.now) }
+/// ensures no_memory { IfErr result (λ e. e.cause ≡ Memory → T.may_allocate) }
 /// ```
 ///
 /// Definitions: [`padded_of`](crate::definitions::base::numbers::padded_of), [`RejectsWhole`](crate::definitions::base::continuing::RejectsWhole). [How to read clauses](crate::definitions).
@@ -83,6 +84,7 @@ pub fn read_whole<'a, T: Readable<'a, A, G>, A: Allocator + Copy, G: Grammar>(
 /// ensures found { IfOk result (λ x. T.format (padded_of G.grammar) bytes.now (T.view x)) }
 /// ensures none { IfErr result
 ///     (λ e. e.cause ≢ Memory → RejectsWhole T.format (padded_of G.grammar) bytes.now) }
+/// ensures no_memory { IfErr result (λ e. e.cause ≡ Memory → T.may_allocate) }
 /// ensures left { IfErr result (λ e. min (length rest.now) longest ≤ e.left) }
 /// ```
 ///

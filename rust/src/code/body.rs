@@ -63,20 +63,20 @@ pub fn read_code<'a, A: Allocator + Copy, G: Grammar>(
 ///
 /// # Proved
 ///
-/// - After `Ok`, `ok`: the sink gains the minimal encoding.
+/// - After `Ok`, `ok`: the sink gains the encoding that is minimal in the builders' grammar.
 /// - `front`: The new bytes begin with the old ones.
 /// - `too_long`: a value that has an encoding never gives `TooLong`.
 ///
 /// ```text
 /// ensures ok { OnOk result
-///     (AppendsMinimal (members (instruction table))
+///     (AppendsMinimal builders_alone (members (instruction table))
 ///         (map plain_view code.now) sink.old.items sink.new.items) }
 /// ensures front { IsFrontOf sink.old.items sink.new.items }
-/// ensures too_long { HasEncoding (members (instruction table)) (map plain_view code.now)
-///     → result ≢ Err TooLong }
+/// ensures too_long { HasEncoding builders_alone (members (instruction table))
+///     (map plain_view code.now) → result ≢ Err TooLong }
 /// ```
 ///
-/// Definitions: [`AppendsMinimal`](crate::definitions::base::minimal::AppendsMinimal), [`members`](crate::definitions::base::formats::members), [`instruction`](crate::definitions::insn::plain::instruction), [`table`](crate::definitions::insn::table::table), [`plain_view`](crate::definitions::insn::views::plain_view), [`IsFrontOf`](crate::definitions::base::minimal::IsFrontOf), [`HasEncoding`](crate::definitions::base::minimal::HasEncoding). [How to read clauses](crate::definitions).
+/// Definitions: [`AppendsMinimal`](crate::definitions::base::minimal::AppendsMinimal), [`builders_alone`](crate::definitions::base::minimal::Grammars), [`members`](crate::definitions::base::formats::members), [`instruction`](crate::definitions::insn::plain::instruction), [`table`](crate::definitions::insn::table::table), [`plain_view`](crate::definitions::insn::views::plain_view), [`IsFrontOf`](crate::definitions::base::minimal::IsFrontOf), [`HasEncoding`](crate::definitions::base::minimal::HasEncoding). [How to read clauses](crate::definitions).
 pub(crate) fn append_code<A: Allocator, B: Sink>(
     code: &[Plain<A>],
     sink: &mut B,
@@ -175,6 +175,13 @@ impl<'a, A: Allocator + Copy, G: Grammar> Readable<'a, A, G> for Body<A> {
     }
 }
 
+/// # Defined
+///
+/// ```text
+/// grammars = { builders_alone }
+/// ```
+///
+/// Definitions: [`builders_alone`](crate::definitions::base::minimal::Grammars). [How to read clauses](crate::definitions).
 impl<A: Allocator> Shorten for Body<A> {
     fn write_minimal<B: Sink>(&self, sink: &mut B) -> Result<()> {
         let start = sink.len();
@@ -215,20 +222,21 @@ fn minimize_content<'a, A: Allocator + Copy, G: Grammar, B: Sink>(
 ///
 /// # Proved
 ///
-/// - After `Ok`, `found`: the bytes encode a body, and the sink gains its minimal encoding, with the size prefix.
+/// - After `Ok`, `found`: the bytes encode a body, and the sink gains its minimal encoding in the builders' grammar, with the size prefix.
 /// - After an error, `none`: the bytes as a whole are no such encoding, unless the cause is `Memory`.
 /// - `front`: The new bytes begin with the old ones.
 ///
 /// ```text
 /// ensures found { OnOk result
 ///     ((x : BodyModel) × body padded bytes.now x
-///         × AppendsMinimal (size_prefixed body) x sink.old.items sink.new.items) }
+///         × AppendsMinimal builders_alone
+///         (size_prefixed body) x sink.old.items sink.new.items) }
 /// ensures none { IfErr result
 ///     (λ e. e.cause ≢ Memory → RejectsWhole body padded bytes.now) }
 /// ensures front { IsFrontOf sink.old.items sink.new.items }
 /// ```
 ///
-/// Definitions: [`BodyModel`](crate::definitions::code::bodies::Body), [`body`](crate::definitions::code::bodies::body), [`padded`](crate::definitions::base::numbers::Mode), [`AppendsMinimal`](crate::definitions::base::minimal::AppendsMinimal), [`size_prefixed`](crate::definitions::base::formats::size_prefixed), [`RejectsWhole`](crate::definitions::base::continuing::RejectsWhole), [`IsFrontOf`](crate::definitions::base::minimal::IsFrontOf). [How to read clauses](crate::definitions).
+/// Definitions: [`BodyModel`](crate::definitions::code::bodies::Body), [`body`](crate::definitions::code::bodies::body), [`padded`](crate::definitions::base::numbers::Mode), [`AppendsMinimal`](crate::definitions::base::minimal::AppendsMinimal), [`builders_alone`](crate::definitions::base::minimal::Grammars), [`size_prefixed`](crate::definitions::base::formats::size_prefixed), [`RejectsWhole`](crate::definitions::base::continuing::RejectsWhole), [`IsFrontOf`](crate::definitions::base::minimal::IsFrontOf). [How to read clauses](crate::definitions).
 fn write_body<A: Allocator + Copy, B: Sink>(
     bytes: &[u8],
     alloc: A,
@@ -264,18 +272,19 @@ fn write_body<A: Allocator + Copy, B: Sink>(
 ///
 /// # Proved
 ///
-/// After `Ok`: `found`, the bytes encode a body, and the sink gains its minimal encoding, with the size prefix. After an error: `none`, the bytes as a whole are no such encoding, unless the cause is `Memory`; `err`, the bytes of the sink are unchanged.
+/// After `Ok`: `found`, the bytes encode a body, and the sink gains its minimal encoding in the builders' grammar, with the size prefix. After an error: `none`, the bytes as a whole are no such encoding, unless the cause is `Memory`; `err`, the bytes of the sink are unchanged.
 ///
 /// ```text
 /// ensures found { OnOk result
 ///     ((x : BodyModel) × body padded bytes.now x
-///         × AppendsMinimal (size_prefixed body) x sink.old.items sink.new.items) }
+///         × AppendsMinimal builders_alone
+///         (size_prefixed body) x sink.old.items sink.new.items) }
 /// ensures none { IfErr result
 ///     (λ e. e.cause ≢ Memory → RejectsWhole body padded bytes.now) }
 /// ensures err { OnErr result (sink.new.items ≡ sink.old.items) }
 /// ```
 ///
-/// Definitions: [`BodyModel`](crate::definitions::code::bodies::Body), [`body`](crate::definitions::code::bodies::body), [`padded`](crate::definitions::base::numbers::Mode), [`AppendsMinimal`](crate::definitions::base::minimal::AppendsMinimal), [`size_prefixed`](crate::definitions::base::formats::size_prefixed), [`RejectsWhole`](crate::definitions::base::continuing::RejectsWhole). [How to read clauses](crate::definitions).
+/// Definitions: [`BodyModel`](crate::definitions::code::bodies::Body), [`body`](crate::definitions::code::bodies::body), [`padded`](crate::definitions::base::numbers::Mode), [`AppendsMinimal`](crate::definitions::base::minimal::AppendsMinimal), [`builders_alone`](crate::definitions::base::minimal::Grammars), [`size_prefixed`](crate::definitions::base::formats::size_prefixed), [`RejectsWhole`](crate::definitions::base::continuing::RejectsWhole). [How to read clauses](crate::definitions).
 pub fn shorten_body<A: Allocator + Copy, B: Sink>(
     bytes: &[u8],
     alloc: A,
@@ -311,7 +320,7 @@ impl<G: Grammar, C: Allocator> Minimize<G> for Body<C> {
 ///
 /// # Proved
 ///
-/// After `Ok`: `found`. After an error: `none`, the bytes as a whole are no such encoding, unless the cause is `Memory`.
+/// After `Ok`: `found`, the bytes as a whole are such an encoding. After an error: `none`, the bytes as a whole are no such encoding, unless the cause is `Memory`.
 ///
 /// ```text
 /// ensures found { OnOk result
@@ -320,6 +329,7 @@ impl<G: Grammar, C: Allocator> Minimize<G> for Body<C> {
 /// ensures none { IfErr result
 ///     (λ e. e.cause ≢ Memory → RejectsWhole (members (instruction table))
 ///         (padded_of G.grammar) bytes.now) }
+/// ensures no_memory { IfErr result (λ e. e.cause ≢ Memory) }
 /// ```
 ///
 /// Definitions: [`PlainInstruction`](crate::definitions::insn::plain::Plain), [`members`](crate::definitions::base::formats::members), [`instruction`](crate::definitions::insn::plain::instruction), [`table`](crate::definitions::insn::table::table), [`padded_of`](crate::definitions::base::numbers::padded_of), [`RejectsWhole`](crate::definitions::base::continuing::RejectsWhole). [How to read clauses](crate::definitions).
@@ -340,12 +350,13 @@ fn skip_code<'a, A: Allocator + Copy, G: Grammar>(
 ///
 /// # Proved
 ///
-/// After `Ok`: `found`. After an error: `none`, the bytes as a whole are no such encoding, unless the cause is `Memory`.
+/// After `Ok`: `found`, the bytes as a whole are such an encoding. After an error: `none`, the bytes as a whole are no such encoding, unless the cause is `Memory`.
 ///
 /// ```text
 /// ensures found { OnOk result ((x : BodyModel) × body (padded_of G.grammar) bytes.now x) }
 /// ensures none { IfErr result
 ///     (λ e. e.cause ≢ Memory → RejectsWhole body (padded_of G.grammar) bytes.now) }
+/// ensures no_memory { IfErr result (λ e. e.cause ≢ Memory) }
 /// ```
 ///
 /// Definitions: [`BodyModel`](crate::definitions::code::bodies::Body), [`body`](crate::definitions::code::bodies::body), [`padded_of`](crate::definitions::base::numbers::padded_of), [`RejectsWhole`](crate::definitions::base::continuing::RejectsWhole). [How to read clauses](crate::definitions).

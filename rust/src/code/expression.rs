@@ -78,6 +78,13 @@ impl<'a, A: Allocator + Copy, G: Grammar> Readable<'a, A, G> for Expression<A> {
     }
 }
 
+/// # Defined
+///
+/// ```text
+/// grammars = { builders_alone }
+/// ```
+///
+/// Definitions: [`builders_alone`](crate::definitions::base::minimal::Grammars). [How to read clauses](crate::definitions).
 impl<A: Allocator> Shorten for Expression<A> {
     fn write_minimal<B: Sink>(&self, sink: &mut B) -> Result<()> {
         append_code(&self.0, sink)?;

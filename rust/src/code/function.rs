@@ -347,7 +347,7 @@ impl<A: Allocator> Buffer for Function<A> {
 ///
 /// # Proved
 ///
-/// After `Ok`: `ok`. After an error: `err`, the bytes of the sink are unchanged. In any case: `memory`, no error is `TooLong`.
+/// After an error: `err`, the bytes of the sink are unchanged. In any case: `memory`, no error is `TooLong`.
 ///
 /// ```text
 /// ensures ok { OnOk result ((it : I.IntoIter) × (xs : List ℕ)

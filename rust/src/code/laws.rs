@@ -61,7 +61,7 @@ pub fn bodies() {}
 /// # Proved
 ///
 /// - `begins`: The length of a raw body is the offset of the next instruction. If more bytes follow and the whole encodes a body, an instruction begins at that offset.
-/// - In any case: `added`.
+/// - `added`: If a well-formed instruction is appended to a raw body, it is the instruction that begins at the raw body's length.
 ///
 /// ```text
 /// ensures begins { HasOffsets }
@@ -106,7 +106,7 @@ pub fn padded_payloads() {}
 /// # Proved
 ///
 /// - `code`: A code section without entries holds no bodies. An entry with a raw body adds the body that it minimally encodes. `add_all` adds its entries as if one by one.
-/// - In any case: `instruction`.
+/// - `instruction`: A body that gains the encoding of a well-formed instruction gains the instruction.
 /// - `labels`: A body that gains the encoding of `br_table`, with labels in range that fit their count and a default label in range, gains the instruction.
 ///
 /// ```text
@@ -125,7 +125,7 @@ pub fn calls<A: Allocator>() {}
 ///
 /// - `code`: A code section holds, padded, all that it holds in minimal encodings. An entry with a raw body adds the body that it encodes, possibly padded. `add_all` adds its entries as if one by one.
 /// - `body`: A minimal encoding of a body is a possibly padded one, and gains the instructions that raw bytes encode, possibly padded.
-/// - In any case: `instruction`.
+/// - `instruction`: A possibly padded body that gains the encoding of a well-formed instruction gains the instruction.
 /// - `expression`: A minimal expression is a possibly padded one. Two stored expressions, one after another, store the instructions of both. With `end` they are an expression.
 ///
 /// ```text
@@ -160,6 +160,8 @@ pub fn padded() {}
 /// one type.
 ///
 /// # Proved
+///
+/// Two canonical lists of runs with the same types are the same.
 ///
 /// ```text
 /// ensures { (xs ys : List Run) → HaveOneExpansion xs ys }

@@ -56,8 +56,7 @@ fn continues(last: ValType, ty: ValType) -> bool {
 ///
 /// # Proved
 ///
-/// - After `Ok`, `more`: The new runs have one more local of this type, and are canonical if the old ones are.
-/// - In any case: `counted`, `full`, `too_many`.
+/// After `Ok`, `more`: The new runs have one more local of this type, and are canonical if the old ones are.
 ///
 /// ```text
 /// ensures more { OnOk result (MoreRuns ty runs.old.items runs.new.items) }

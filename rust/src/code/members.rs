@@ -48,7 +48,7 @@ impl<'a, T: Readable<'a, A, G>, A: Allocator + Copy, G: Grammar> Members<'a, T, 
     ///
     /// # Errors
     ///
-    /// Any error but `Memory` means that the bytes do not begin with a number.
+    /// An error means that the bytes do not begin with a number.
     ///
     /// # Proved
     ///
@@ -60,6 +60,7 @@ impl<'a, T: Readable<'a, A, G>, A: Allocator + Copy, G: Grammar> Members<'a, T, 
     ///     (λ it. Decodes u32 (padded_of G.grammar) bytes.now it.left it.rest) }
     /// ensures none { IfErr result
     ///     (λ e. e.cause ≢ Memory → Rejects u32 (padded_of G.grammar) bytes.now) }
+    /// ensures no_memory { IfErr result (λ e. e.cause ≢ Memory) }
     /// ```
     ///
     /// Definitions: [`Decodes`](crate::definitions::base::decoding::Decodes), [`u32`](crate::definitions::base::formats::u32), [`padded_of`](crate::definitions::base::numbers::padded_of), [`Rejects`](crate::definitions::base::decoding::Rejects). [How to read clauses](crate::definitions).
@@ -105,7 +106,7 @@ impl<'a, T: Readable<'a, A, G>, A: Allocator + Copy, G: Grammar> Members<'a, T, 
 /// # Defined
 ///
 /// ```text
-/// next_gives = { NextMember T.format T.view (padded_of G.grammar) }
+/// next_gives = { NextMember T.may_allocate T.format T.view (padded_of G.grammar) }
 /// remaining = { λ it. at_most it.left }
 /// ```
 ///

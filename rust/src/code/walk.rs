@@ -228,7 +228,7 @@ impl<'a, A: Allocator + Copy, G: Grammar> Instructions<'a, A, G> {
     /// # Proved
     ///
     /// - After `Ok`, `found`: The visitor returned this instruction of the format, which lies between the offsets before and after.
-    /// - After an error, `none`: The visitor returned this error, and did not move. For any cause but `Memory`, no value of the format decodes from the next bytes.
+    /// - After an error, `none`: The visitor returned this error, and did not move. No value of the format decodes from the next bytes. The cause is not `Memory`.
     ///
     /// ```text
     /// ensures found { IfOk result

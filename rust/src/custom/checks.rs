@@ -19,7 +19,7 @@ use crate::base::{DecodeError, Dropped, Grammar, ReadFault, Readable, Skip, chec
 ///
 /// # Proved
 ///
-/// After `Ok`: `found`. After an error: `none`, the bytes as a whole are no such encoding, unless the cause is `Memory`.
+/// After `Ok`: `found`, the bytes as a whole are such an encoding. After an error: `none`, the bytes as a whole are no such encoding, unless the cause is `Memory`.
 ///
 /// ```text
 /// ensures found { OnOk result
@@ -28,6 +28,7 @@ use crate::base::{DecodeError, Dropped, Grammar, ReadFault, Readable, Skip, chec
 /// ensures none { IfErr result
 ///     (λ e. e.cause ≢ Memory → RejectsWhole (counted_payload name.now P.format)
 ///         (padded_of G.grammar) bytes.now) }
+/// ensures no_memory { IfErr result (λ e. e.cause ≡ Memory → P.may_allocate) }
 /// ```
 ///
 /// Definitions: [`counted_payload`](crate::definitions::custom::entries::counted_payload), [`padded_of`](crate::definitions::base::numbers::padded_of), [`RejectsWhole`](crate::definitions::base::continuing::RejectsWhole). [How to read clauses](crate::definitions).
@@ -45,7 +46,7 @@ fn check_counted<'a, P: Skip<'a, A, G>, A: Allocator + Copy, G: Grammar>(
 ///
 /// # Errors
 ///
-/// Any error but `Memory` means that the bytes are not such a payload.
+/// An error means that the bytes are not such a payload.
 ///
 /// # Examples
 ///
@@ -63,7 +64,7 @@ fn check_counted<'a, P: Skip<'a, A, G>, A: Allocator + Copy, G: Grammar>(
 ///
 /// # Proved
 ///
-/// After `Ok`: `found`. After an error: `none`, the bytes as a whole are no such encoding, unless the cause is `Memory`.
+/// After `Ok`: `found`, the bytes as a whole are such an encoding. After an error: `none`, the bytes as a whole are no such encoding, unless the cause is `Memory`.
 ///
 /// ```text
 /// ensures found { OnOk result
@@ -71,6 +72,7 @@ fn check_counted<'a, P: Skip<'a, A, G>, A: Allocator + Copy, G: Grammar>(
 /// ensures none { IfErr result
 ///     (λ e. e.cause ≢ Memory → RejectsWhole name_payload (padded_of G.grammar) bytes.now)
 ///     }
+/// ensures no_memory { IfErr result (λ e. e.cause ≢ Memory) }
 /// ```
 ///
 /// Definitions: [`NameModel`](crate::definitions::custom::names::NameItem), [`name_payload`](crate::definitions::custom::names::name_payload), [`padded_of`](crate::definitions::base::numbers::padded_of), [`RejectsWhole`](crate::definitions::base::continuing::RejectsWhole). [How to read clauses](crate::definitions).
@@ -87,7 +89,7 @@ pub fn check_names<'a, A: Allocator + Copy, G: Grammar>(
 ///
 /// # Errors
 ///
-/// Any error but `Memory` means that the bytes are not such a payload.
+/// An error means that the bytes are not such a payload.
 ///
 /// # Examples
 ///
@@ -105,7 +107,7 @@ pub fn check_names<'a, A: Allocator + Copy, G: Grammar>(
 ///
 /// # Proved
 ///
-/// After `Ok`: `found`. After an error: `none`, the bytes as a whole are no such encoding, unless the cause is `Memory`.
+/// After `Ok`: `found`, the bytes as a whole are such an encoding. After an error: `none`, the bytes as a whole are no such encoding, unless the cause is `Memory`.
 ///
 /// ```text
 /// ensures found { OnOk result
@@ -113,6 +115,7 @@ pub fn check_names<'a, A: Allocator + Copy, G: Grammar>(
 /// ensures none { IfErr result
 ///     (λ e. e.cause ≢ Memory → RejectsWhole linking_payload
 ///         (padded_of G.grammar) bytes.now) }
+/// ensures no_memory { IfErr result (λ e. e.cause ≢ Memory) }
 /// ```
 ///
 /// Definitions: [`LinkModel`](crate::definitions::custom::linking::LinkItem), [`linking_payload`](crate::definitions::custom::linking::linking_payload), [`padded_of`](crate::definitions::base::numbers::padded_of), [`RejectsWhole`](crate::definitions::base::continuing::RejectsWhole). [How to read clauses](crate::definitions).
@@ -131,7 +134,7 @@ pub fn check_links<'a, A: Allocator + Copy, G: Grammar>(
 ///
 /// # Errors
 ///
-/// Any error but `Memory` means that the bytes are not such a payload.
+/// An error means that the bytes are not such a payload.
 ///
 /// # Examples
 ///
@@ -149,7 +152,7 @@ pub fn check_links<'a, A: Allocator + Copy, G: Grammar>(
 ///
 /// # Proved
 ///
-/// After `Ok`: `found`. After an error: `none`, the bytes as a whole are no such encoding, unless the cause is `Memory`.
+/// After `Ok`: `found`, the bytes as a whole are such an encoding. After an error: `none`, the bytes as a whole are no such encoding, unless the cause is `Memory`.
 ///
 /// ```text
 /// ensures found { OnOk result
@@ -157,6 +160,7 @@ pub fn check_links<'a, A: Allocator + Copy, G: Grammar>(
 /// ensures none { IfErr result
 ///     (λ e. e.cause ≢ Memory → RejectsWhole dylink_payload
 ///         (padded_of G.grammar) bytes.now) }
+/// ensures no_memory { IfErr result (λ e. e.cause ≢ Memory) }
 /// ```
 ///
 /// Definitions: [`DylinkModel`](crate::definitions::custom::dylink::DylinkItem), [`dylink_payload`](crate::definitions::custom::dylink::dylink_payload), [`padded_of`](crate::definitions::base::numbers::padded_of), [`RejectsWhole`](crate::definitions::base::continuing::RejectsWhole). [How to read clauses](crate::definitions).
@@ -174,7 +178,7 @@ pub fn check_dylink<'a, A: Allocator + Copy, G: Grammar>(
 ///
 /// # Errors
 ///
-/// Any error but `Memory` means that the bytes are not such a payload.
+/// An error means that the bytes are not such a payload.
 ///
 /// # Examples
 ///
@@ -192,7 +196,7 @@ pub fn check_dylink<'a, A: Allocator + Copy, G: Grammar>(
 ///
 /// # Proved
 ///
-/// After `Ok`: `found`. After an error: `none`, the bytes as a whole are no such encoding, unless the cause is `Memory`.
+/// After `Ok`: `found`, the bytes as a whole are such an encoding. After an error: `none`, the bytes as a whole are no such encoding, unless the cause is `Memory`.
 ///
 /// ```text
 /// ensures found { OnOk result
@@ -200,6 +204,7 @@ pub fn check_dylink<'a, A: Allocator + Copy, G: Grammar>(
 /// ensures none { IfErr result
 ///     (λ e. e.cause ≢ Memory → RejectsWhole producers_payload
 ///         (padded_of G.grammar) bytes.now) }
+/// ensures no_memory { IfErr result (λ e. e.cause ≢ Memory) }
 /// ```
 ///
 /// Definitions: [`Field`](crate::definitions::custom::producers::Field), [`producers_payload`](crate::definitions::custom::producers::producers_payload), [`padded_of`](crate::definitions::base::numbers::padded_of), [`RejectsWhole`](crate::definitions::base::continuing::RejectsWhole). [How to read clauses](crate::definitions).
@@ -219,7 +224,7 @@ pub fn check_producers<'a, A: Allocator + Copy, G: Grammar>(
 ///
 /// # Errors
 ///
-/// Any error but `Memory` means that the bytes are not such a payload.
+/// An error means that the bytes are not such a payload.
 ///
 /// # Examples
 ///
@@ -237,7 +242,7 @@ pub fn check_producers<'a, A: Allocator + Copy, G: Grammar>(
 ///
 /// # Proved
 ///
-/// After `Ok`: `found`. After an error: `none`, the bytes as a whole are no such encoding, unless the cause is `Memory`.
+/// After `Ok`: `found`, the bytes as a whole are such an encoding. After an error: `none`, the bytes as a whole are no such encoding, unless the cause is `Memory`.
 ///
 /// ```text
 /// ensures found { OnOk result
@@ -245,6 +250,7 @@ pub fn check_producers<'a, A: Allocator + Copy, G: Grammar>(
 /// ensures none { IfErr result
 ///     (λ e. e.cause ≢ Memory → RejectsWhole features_payload
 ///         (padded_of G.grammar) bytes.now) }
+/// ensures no_memory { IfErr result (λ e. e.cause ≢ Memory) }
 /// ```
 ///
 /// Definitions: [`Feature`](crate::definitions::custom::target_features::Feature), [`features_payload`](crate::definitions::custom::target_features::features_payload), [`padded_of`](crate::definitions::base::numbers::padded_of), [`RejectsWhole`](crate::definitions::base::continuing::RejectsWhole). [How to read clauses](crate::definitions).
@@ -260,7 +266,7 @@ pub fn check_features<'a, A: Allocator + Copy, G: Grammar>(
 ///
 /// # Errors
 ///
-/// Any error but `Memory` means that the bytes are not such a payload.
+/// An error means that the bytes are not such a payload.
 ///
 /// # Examples
 ///
@@ -278,7 +284,7 @@ pub fn check_features<'a, A: Allocator + Copy, G: Grammar>(
 ///
 /// # Proved
 ///
-/// After `Ok`: `found`. After an error: `none`, the bytes as a whole are no such encoding, unless the cause is `Memory`.
+/// After `Ok`: `found`, the bytes as a whole are such an encoding. After an error: `none`, the bytes as a whole are no such encoding, unless the cause is `Memory`.
 ///
 /// ```text
 /// ensures found { OnOk result
@@ -286,6 +292,7 @@ pub fn check_features<'a, A: Allocator + Copy, G: Grammar>(
 /// ensures none { IfErr result
 ///     (λ e. e.cause ≢ Memory → RejectsWhole hints_payload (padded_of G.grammar) bytes.now)
 ///     }
+/// ensures no_memory { IfErr result (λ e. e.cause ≢ Memory) }
 /// ```
 ///
 /// Definitions: [`Hints`](crate::definitions::custom::hints::Hints), [`hints_payload`](crate::definitions::custom::hints::hints_payload), [`padded_of`](crate::definitions::base::numbers::padded_of), [`RejectsWhole`](crate::definitions::base::continuing::RejectsWhole). [How to read clauses](crate::definitions).
@@ -305,7 +312,7 @@ pub fn check_hints<'a, A: Allocator + Copy, G: Grammar>(
 ///
 /// # Errors
 ///
-/// Any error but `Memory` means that the bytes are not such a payload.
+/// An error means that the bytes are not such a payload.
 ///
 /// # Examples
 ///
@@ -323,7 +330,7 @@ pub fn check_hints<'a, A: Allocator + Copy, G: Grammar>(
 ///
 /// # Proved
 ///
-/// After `Ok`: `found`. After an error: `none`, the bytes as a whole are no such encoding, unless the cause is `Memory`.
+/// After `Ok`: `found`, the bytes as a whole are such an encoding. After an error: `none`, the bytes as a whole are no such encoding, unless the cause is `Memory`.
 ///
 /// ```text
 /// ensures found { OnOk result
@@ -331,6 +338,7 @@ pub fn check_hints<'a, A: Allocator + Copy, G: Grammar>(
 /// ensures none { IfErr result
 ///     (λ e. e.cause ≢ Memory → RejectsWhole relocations_payload
 ///         (padded_of G.grammar) bytes.now) }
+/// ensures no_memory { IfErr result (λ e. e.cause ≢ Memory) }
 /// ```
 ///
 /// Definitions: [`Relocations`](crate::definitions::custom::relocations::Relocations), [`relocations_payload`](crate::definitions::custom::relocations::relocations_payload), [`padded_of`](crate::definitions::base::numbers::padded_of), [`RejectsWhole`](crate::definitions::base::continuing::RejectsWhole). [How to read clauses](crate::definitions).
@@ -351,7 +359,7 @@ pub fn check_relocations<'a, A: Allocator + Copy, G: Grammar>(
 ///
 /// # Errors
 ///
-/// Any error but `Memory` means that the bytes are not such a payload.
+/// An error means that the bytes are not such a payload.
 ///
 /// # Examples
 ///
@@ -369,7 +377,7 @@ pub fn check_relocations<'a, A: Allocator + Copy, G: Grammar>(
 ///
 /// # Proved
 ///
-/// After `Ok`: `found`. After an error: `none`, the bytes as a whole are no such encoding, unless the cause is `Memory`.
+/// After `Ok`: `found`, the bytes as a whole are such an encoding. After an error: `none`, the bytes as a whole are no such encoding, unless the cause is `Memory`.
 ///
 /// ```text
 /// ensures found { OnOk result
@@ -377,6 +385,7 @@ pub fn check_relocations<'a, A: Allocator + Copy, G: Grammar>(
 /// ensures none { IfErr result
 ///     (λ e. e.cause ≢ Memory → RejectsWhole modules_payload
 ///         (padded_of G.grammar) bytes.now) }
+/// ensures no_memory { IfErr result (λ e. e.cause ≢ Memory) }
 /// ```
 ///
 /// Definitions: [`modules_payload`](crate::definitions::custom::core_dumps::modules_payload), [`padded_of`](crate::definitions::base::numbers::padded_of), [`RejectsWhole`](crate::definitions::base::continuing::RejectsWhole). [How to read clauses](crate::definitions).
@@ -392,7 +401,7 @@ pub fn check_modules<'a, A: Allocator + Copy, G: Grammar>(
 ///
 /// # Errors
 ///
-/// Any error but `Memory` means that the bytes are not such a payload.
+/// An error means that the bytes are not such a payload.
 ///
 /// # Examples
 ///
@@ -410,7 +419,7 @@ pub fn check_modules<'a, A: Allocator + Copy, G: Grammar>(
 ///
 /// # Proved
 ///
-/// After `Ok`: `found`. After an error: `none`, the bytes as a whole are no such encoding, unless the cause is `Memory`.
+/// After `Ok`: `found`, the bytes as a whole are such an encoding. After an error: `none`, the bytes as a whole are no such encoding, unless the cause is `Memory`.
 ///
 /// ```text
 /// ensures found { OnOk result
@@ -418,6 +427,7 @@ pub fn check_modules<'a, A: Allocator + Copy, G: Grammar>(
 /// ensures none { IfErr result
 ///     (λ e. e.cause ≢ Memory → RejectsWhole instances_payload
 ///         (padded_of G.grammar) bytes.now) }
+/// ensures no_memory { IfErr result (λ e. e.cause ≢ Memory) }
 /// ```
 ///
 /// Definitions: [`Instance`](crate::definitions::custom::core_dumps::Instance), [`instances_payload`](crate::definitions::custom::core_dumps::instances_payload), [`padded_of`](crate::definitions::base::numbers::padded_of), [`RejectsWhole`](crate::definitions::base::continuing::RejectsWhole). [How to read clauses](crate::definitions).
@@ -433,7 +443,7 @@ pub fn check_instances<'a, A: Allocator + Copy, G: Grammar>(
 ///
 /// # Errors
 ///
-/// Any error but `Memory` means that the bytes are not such a payload.
+/// An error means that the bytes are not such a payload.
 ///
 /// # Examples
 ///
@@ -451,7 +461,7 @@ pub fn check_instances<'a, A: Allocator + Copy, G: Grammar>(
 ///
 /// # Proved
 ///
-/// After `Ok`: `found`. After an error: `none`, the bytes as a whole are no such encoding, unless the cause is `Memory`.
+/// After `Ok`: `found`, the bytes as a whole are such an encoding. After an error: `none`, the bytes as a whole are no such encoding, unless the cause is `Memory`.
 ///
 /// ```text
 /// ensures found { OnOk result
@@ -459,6 +469,7 @@ pub fn check_instances<'a, A: Allocator + Copy, G: Grammar>(
 /// ensures none { IfErr result
 ///     (λ e. e.cause ≢ Memory → RejectsWhole stack_payload (padded_of G.grammar) bytes.now)
 ///     }
+/// ensures no_memory { IfErr result (λ e. e.cause ≢ Memory) }
 /// ```
 ///
 /// Definitions: [`StackFrame`](crate::definitions::custom::core_stacks::StackFrame), [`stack_payload`](crate::definitions::custom::core_stacks::stack_payload), [`padded_of`](crate::definitions::base::numbers::padded_of), [`RejectsWhole`](crate::definitions::base::continuing::RejectsWhole). [How to read clauses](crate::definitions).

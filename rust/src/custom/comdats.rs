@@ -202,6 +202,13 @@ impl Layout for ComdatSymbol {
     fn laws() {}
 }
 
+/// # Defined
+///
+/// ```text
+/// may_allocate = { ⊥ }
+/// ```
+///
+/// [How to read clauses](crate::definitions).
 impl<'a, A: Allocator + Copy, G: Grammar> Readable<'a, A, G> for ComdatSymbol {
     fn read(bytes: &'a [u8], alloc: A) -> Result<(ComdatSymbol, &'a [u8]), DecodeError> {
         let ((kind, index), rest) = <(u8, u32) as Readable<'a, A, G>>::read(bytes, alloc)?;
@@ -209,6 +216,13 @@ impl<'a, A: Allocator + Copy, G: Grammar> Readable<'a, A, G> for ComdatSymbol {
     }
 }
 
+/// # Defined
+///
+/// ```text
+/// grammars = { both_grammars }
+/// ```
+///
+/// Definitions: [`both_grammars`](crate::definitions::base::minimal::Grammars). [How to read clauses](crate::definitions).
 impl Shorten for ComdatSymbol {
     fn write_minimal<B: Sink>(&self, sink: &mut B) -> Result<()> {
         self.kind.encode(sink)?;
@@ -284,6 +298,13 @@ impl<'a, A: Allocator + Copy + 'a, G: Grammar> Readable<'a, A, G> for Comdat<'a,
     }
 }
 
+/// # Defined
+///
+/// ```text
+/// grammars = { both_grammars }
+/// ```
+///
+/// Definitions: [`both_grammars`](crate::definitions::base::minimal::Grammars). [How to read clauses](crate::definitions).
 impl<'a, A: Allocator> Shorten for Comdat<'a, A> {
     fn write_minimal<B: Sink>(&self, sink: &mut B) -> Result<()> {
         self.name.write_minimal(sink)?;

@@ -44,9 +44,9 @@ impl<A: Allocator> CoreDumpSection<A> {
     ///
     /// # Proved
     ///
-    /// - After `Ok`: `is`.
+    /// - After `Ok`, `is`: the section is that of a process of this name.
     /// - After `Ok`, `was_encodable`: The size of the bytes is at most 2^32 - 1.
-    /// - In any case: `too_long`.
+    /// - `too_long`: a name of at most 4294967295 bytes never gives `TooLong`.
     ///
     /// ```text
     /// ensures is { IfOk result (λ s. s ≡ marked_encoding name.now) }
@@ -231,7 +231,7 @@ impl<A: Allocator> CoreDumpModulesSection<A> {
     ///
     /// # Proved
     ///
-    /// After `Ok`: `same`. In any case: `memory`, no error is `TooLong`.
+    /// After `Ok`: `same`, the result has the name and the data of the section. In any case: `memory`, no error is `TooLong`.
     ///
     /// ```text
     /// ensures same { IfOk result
@@ -383,7 +383,7 @@ impl<A: Allocator> CoreDumpInstancesSection<A> {
     ///
     /// # Proved
     ///
-    /// After `Ok`: `same`. In any case: `memory`, no error is `TooLong`.
+    /// After `Ok`: `same`, the result has the name and the data of the section. In any case: `memory`, no error is `TooLong`.
     ///
     /// ```text
     /// ensures same { IfOk result
@@ -402,7 +402,7 @@ impl<A: Allocator> CoreDumpInstancesSection<A> {
 ///
 /// # Errors
 ///
-/// Any error but `Memory` means that the bytes are not such a payload.
+/// An error means that the bytes are not such a payload.
 ///
 /// # Examples
 ///
@@ -418,13 +418,14 @@ impl<A: Allocator> CoreDumpInstancesSection<A> {
 ///
 /// # Proved
 ///
-/// After `Ok`: `found`. After an error: `none`, the bytes as a whole are no such encoding, unless the cause is `Memory`.
+/// After `Ok`: `found`, the bytes as a whole encode the value. After an error: `none`, the bytes as a whole are no such encoding, unless the cause is `Memory`.
 ///
 /// ```text
 /// ensures found { IfOk result (λ x. core_payload (padded_of G.grammar) bytes.now x.now) }
 /// ensures none { IfErr result
 ///     (λ e. e.cause ≢ Memory → RejectsWhole core_payload (padded_of G.grammar) bytes.now)
 ///     }
+/// ensures no_memory { IfErr result (λ e. e.cause ≢ Memory) }
 /// ```
 ///
 /// Definitions: [`core_payload`](crate::definitions::custom::core_dumps::core_payload), [`padded_of`](crate::definitions::base::numbers::padded_of), [`RejectsWhole`](crate::definitions::base::continuing::RejectsWhole). [How to read clauses](crate::definitions).
@@ -490,7 +491,7 @@ impl<'a, A: Allocator + Copy, G: Grammar> DecodesItems<'a, &'a str, A, G> for Mo
 ///
 /// # Proved
 ///
-/// After `Ok`: `found`. After an error: `none`, the bytes as a whole are no such encoding, unless the cause is `Memory`.
+/// After `Ok`: `found`, the bytes as a whole encode the value. After an error: `none`, the bytes as a whole are no such encoding, unless the cause is `Memory`.
 ///
 /// ```text
 /// ensures found { IfOk result
@@ -598,7 +599,7 @@ impl<'a, A: Allocator + Copy, G: Grammar> DecodesItems<'a, (u32, Vec<u32, A>, Ve
 ///
 /// # Proved
 ///
-/// After `Ok`: `found`. After an error: `none`, the bytes as a whole are no such encoding, unless the cause is `Memory`.
+/// After `Ok`: `found`, the bytes as a whole encode the value. After an error: `none`, the bytes as a whole are no such encoding, unless the cause is `Memory`.
 ///
 /// ```text
 /// ensures found { IfOk result
@@ -621,18 +622,19 @@ pub fn read_instances<'a, A: Allocator + Copy, G: Grammar>(
 ///
 /// # Proved
 ///
-/// - After `Ok`, `ok`: the sink gains the minimal encoding.
+/// - After `Ok`, `ok`: the sink gains the encoding that is minimal in both grammars.
 /// - `front`: The new bytes begin with the old ones.
 /// - `too_long`: a value that has an encoding never gives `TooLong`.
 ///
 /// ```text
 /// ensures ok { OnOk result
-///     (AppendsMinimal marked_name name.now sink.old.items sink.new.items) }
+///     (AppendsMinimal both_grammars marked_name name.now sink.old.items sink.new.items) }
 /// ensures front { IsFrontOf sink.old.items sink.new.items }
-/// ensures too_long { HasEncoding marked_name name.now → result ≢ Err TooLong }
+/// ensures too_long { HasEncoding both_grammars marked_name name.now
+///     → result ≢ Err TooLong }
 /// ```
 ///
-/// Definitions: [`AppendsMinimal`](crate::definitions::base::minimal::AppendsMinimal), [`marked_name`](crate::definitions::custom::core_dumps::marked_name), [`IsFrontOf`](crate::definitions::base::minimal::IsFrontOf), [`HasEncoding`](crate::definitions::base::minimal::HasEncoding). [How to read clauses](crate::definitions).
+/// Definitions: [`AppendsMinimal`](crate::definitions::base::minimal::AppendsMinimal), [`both_grammars`](crate::definitions::base::minimal::Grammars), [`marked_name`](crate::definitions::custom::core_dumps::marked_name), [`IsFrontOf`](crate::definitions::base::minimal::IsFrontOf), [`HasEncoding`](crate::definitions::base::minimal::HasEncoding). [How to read clauses](crate::definitions).
 pub(crate) fn append_marked<B: Sink>(name: &str, sink: &mut B) -> Result<()> {
     0x00u8.encode(sink)?;
     name.write_minimal(sink)
@@ -643,18 +645,19 @@ pub(crate) fn append_marked<B: Sink>(name: &str, sink: &mut B) -> Result<()> {
 ///
 /// # Proved
 ///
-/// - After `Ok`, `ok`: the sink gains the minimal encoding.
+/// - After `Ok`, `ok`: the sink gains the encoding that is minimal in both grammars.
 /// - `front`: The new bytes begin with the old ones.
 /// - `too_long`: a value that has an encoding never gives `TooLong`.
 ///
 /// ```text
 /// ensures ok { OnOk result
-///     (AppendsMinimal core_payload name.now sink.old.items sink.new.items) }
+///     (AppendsMinimal both_grammars core_payload name.now sink.old.items sink.new.items) }
 /// ensures front { IsFrontOf sink.old.items sink.new.items }
-/// ensures too_long { HasEncoding core_payload name.now → result ≢ Err TooLong }
+/// ensures too_long { HasEncoding both_grammars core_payload name.now
+///     → result ≢ Err TooLong }
 /// ```
 ///
-/// Definitions: [`AppendsMinimal`](crate::definitions::base::minimal::AppendsMinimal), [`core_payload`](crate::definitions::custom::core_dumps::core_payload), [`IsFrontOf`](crate::definitions::base::minimal::IsFrontOf), [`HasEncoding`](crate::definitions::base::minimal::HasEncoding). [How to read clauses](crate::definitions).
+/// Definitions: [`AppendsMinimal`](crate::definitions::base::minimal::AppendsMinimal), [`both_grammars`](crate::definitions::base::minimal::Grammars), [`core_payload`](crate::definitions::custom::core_dumps::core_payload), [`IsFrontOf`](crate::definitions::base::minimal::IsFrontOf), [`HasEncoding`](crate::definitions::base::minimal::HasEncoding). [How to read clauses](crate::definitions).
 fn write_process<B: Sink>(name: &str, sink: &mut B) -> Result<()> {
     "core".encode(sink)?;
     append_marked(name, sink)
@@ -682,16 +685,17 @@ fn write_process<B: Sink>(name: &str, sink: &mut B) -> Result<()> {
 ///
 /// # Proved
 ///
-/// After `Ok`: `ok`, the sink gains the minimal encoding. After an error: `err`, the bytes of the sink are unchanged. In any case: `too_long`, a value that has an encoding never gives `TooLong`.
+/// After `Ok`: `ok`, the sink gains the encoding that is minimal in both grammars. After an error: `err`, the bytes of the sink are unchanged. In any case: `too_long`, a value that has an encoding never gives `TooLong`.
 ///
 /// ```text
 /// ensures ok { OnOk result
-///     (AppendsMinimal core_payload name.now sink.old.items sink.new.items) }
+///     (AppendsMinimal both_grammars core_payload name.now sink.old.items sink.new.items) }
 /// ensures err { OnErr result (sink.new.items ≡ sink.old.items) }
-/// ensures too_long { HasEncoding core_payload name.now → result ≢ Err TooLong }
+/// ensures too_long { HasEncoding both_grammars core_payload name.now
+///     → result ≢ Err TooLong }
 /// ```
 ///
-/// Definitions: [`AppendsMinimal`](crate::definitions::base::minimal::AppendsMinimal), [`core_payload`](crate::definitions::custom::core_dumps::core_payload), [`HasEncoding`](crate::definitions::base::minimal::HasEncoding). [How to read clauses](crate::definitions).
+/// Definitions: [`AppendsMinimal`](crate::definitions::base::minimal::AppendsMinimal), [`both_grammars`](crate::definitions::base::minimal::Grammars), [`core_payload`](crate::definitions::custom::core_dumps::core_payload), [`HasEncoding`](crate::definitions::base::minimal::HasEncoding). [How to read clauses](crate::definitions).
 pub fn append_process<B: Sink>(name: &str, sink: &mut B) -> Result<()> {
     let start = sink.len();
     let written = write_process(name, sink);
@@ -723,18 +727,18 @@ pub fn append_process<B: Sink>(name: &str, sink: &mut B) -> Result<()> {
 ///
 /// # Proved
 ///
-/// After `Ok`: `ok`, the sink gains the minimal encoding. After an error: `err`, the bytes of the sink are unchanged. In any case: `too_long`, a value that has an encoding never gives `TooLong`.
+/// After `Ok`: `ok`, the sink gains the encoding that is minimal in both grammars. After an error: `err`, the bytes of the sink are unchanged. In any case: `too_long`, a value that has an encoding never gives `TooLong`.
 ///
 /// ```text
 /// ensures ok { OnOk result
-///     (AppendsMinimal modules_payload
+///     (AppendsMinimal both_grammars modules_payload
 ///         (map (λ n. n.now) names.now) sink.old.items sink.new.items) }
 /// ensures err { OnErr result (sink.new.items ≡ sink.old.items) }
-/// ensures too_long { HasEncoding modules_payload (map (λ n. n.now) names.now)
-///     → result ≢ Err TooLong }
+/// ensures too_long { HasEncoding both_grammars modules_payload
+///     (map (λ n. n.now) names.now) → result ≢ Err TooLong }
 /// ```
 ///
-/// Definitions: [`AppendsMinimal`](crate::definitions::base::minimal::AppendsMinimal), [`modules_payload`](crate::definitions::custom::core_dumps::modules_payload), [`HasEncoding`](crate::definitions::base::minimal::HasEncoding). [How to read clauses](crate::definitions).
+/// Definitions: [`AppendsMinimal`](crate::definitions::base::minimal::AppendsMinimal), [`both_grammars`](crate::definitions::base::minimal::Grammars), [`modules_payload`](crate::definitions::custom::core_dumps::modules_payload), [`HasEncoding`](crate::definitions::base::minimal::HasEncoding). [How to read clauses](crate::definitions).
 pub fn append_modules<B: Sink>(names: &[&str], sink: &mut B) -> Result<()> {
     append_counted::<ModuleItems, &str, _>(names, sink)
 }
@@ -761,18 +765,18 @@ pub fn append_modules<B: Sink>(names: &[&str], sink: &mut B) -> Result<()> {
 ///
 /// # Proved
 ///
-/// After `Ok`: `ok`, the sink gains the minimal encoding. After an error: `err`, the bytes of the sink are unchanged. In any case: `too_long`, a value that has an encoding never gives `TooLong`.
+/// After `Ok`: `ok`, the sink gains the encoding that is minimal in both grammars. After an error: `err`, the bytes of the sink are unchanged. In any case: `too_long`, a value that has an encoding never gives `TooLong`.
 ///
 /// ```text
 /// ensures ok { OnOk result
-///     (AppendsMinimal instances_payload
+///     (AppendsMinimal both_grammars instances_payload
 ///         (map instance_view instances.now) sink.old.items sink.new.items) }
 /// ensures err { OnErr result (sink.new.items ≡ sink.old.items) }
-/// ensures too_long { HasEncoding instances_payload (map instance_view instances.now)
-///     → result ≢ Err TooLong }
+/// ensures too_long { HasEncoding both_grammars instances_payload
+///     (map instance_view instances.now) → result ≢ Err TooLong }
 /// ```
 ///
-/// Definitions: [`AppendsMinimal`](crate::definitions::base::minimal::AppendsMinimal), [`instances_payload`](crate::definitions::custom::core_dumps::instances_payload), [`instance_view`](crate::definitions::custom::core_dumps::instance_view), [`HasEncoding`](crate::definitions::base::minimal::HasEncoding). [How to read clauses](crate::definitions).
+/// Definitions: [`AppendsMinimal`](crate::definitions::base::minimal::AppendsMinimal), [`both_grammars`](crate::definitions::base::minimal::Grammars), [`instances_payload`](crate::definitions::custom::core_dumps::instances_payload), [`instance_view`](crate::definitions::custom::core_dumps::instance_view), [`HasEncoding`](crate::definitions::base::minimal::HasEncoding). [How to read clauses](crate::definitions).
 pub fn append_instances<A: Allocator, B: Sink>(
     instances: &[(u32, Vec<u32, A>, Vec<u32, A>)],
     sink: &mut B,

@@ -46,9 +46,9 @@ impl<A: Allocator + Copy> CoreDumpStackSection<A> {
     ///
     /// # Proved
     ///
-    /// - After `Ok`: `is`.
+    /// - After `Ok`, `is`: the section has this name of a thread, and no frames.
     /// - After `Ok`, `was_encodable`: The size of the bytes is at most 2^32 - 1.
-    /// - In any case: `too_long`.
+    /// - `too_long`: a name of at most 4294967295 bytes never gives `TooLong`.
     ///
     /// ```text
     /// ensures is { IfOk result (λ s. s ≡ (marked_encoding thread_name.now, [])) }
@@ -120,7 +120,7 @@ impl<A: Allocator> CoreDumpStackSection<A> {
     /// # Proved
     ///
     /// - `adds`: The builder gains one entry of the items that both iterators yield, or the call returns an error and changes nothing. It returns `TooLong` if either has too many items, and never if all items fit and items and entries are few enough.
-    /// - In any case: `same_thread`.
+    /// - `same_thread`: the part before the entries is unchanged.
     ///
     /// ```text
     /// ensures adds { AddsTwoLists L.into_iter_gives L.IntoIter.next_gives L.IntoIter.remaining
@@ -156,7 +156,7 @@ impl<A: Allocator> CoreDumpStackSection<A> {
     ///
     /// # Proved
     ///
-    /// After `Ok`: `same`. In any case: `memory`, no error is `TooLong`.
+    /// After `Ok`: `same`, the result has the name and the data of the section. In any case: `memory`, no error is `TooLong`.
     ///
     /// ```text
     /// ensures same { IfOk result
@@ -301,7 +301,7 @@ impl<'a, A: Allocator + Copy, G: Grammar> Readable<'a, A, G> for CoreFrame<A> {
 ///
 /// # Proved
 ///
-/// After `Ok`: `found`. After an error: `none`, the bytes as a whole are no such encoding, unless the cause is `Memory`.
+/// After `Ok`: `found`, the bytes as a whole encode the value. After an error: `none`, the bytes as a whole are no such encoding, unless the cause is `Memory`.
 ///
 /// ```text
 /// ensures found { IfOk result
@@ -323,6 +323,13 @@ pub fn read_stack<'a, A: Allocator + Copy, G: Grammar>(
     Ok((thread, frames))
 }
 
+/// # Defined
+///
+/// ```text
+/// grammars = { both_grammars }
+/// ```
+///
+/// Definitions: [`both_grammars`](crate::definitions::base::minimal::Grammars). [How to read clauses](crate::definitions).
 impl<A: Allocator> Shorten for CoreFrame<A> {
     fn write_minimal<B: Sink>(&self, sink: &mut B) -> Result<()> {
         0x00u8.encode(sink)?;
@@ -339,21 +346,21 @@ impl<A: Allocator> Shorten for CoreFrame<A> {
 ///
 /// # Proved
 ///
-/// - After `Ok`, `ok`: the sink gains the minimal encoding.
+/// - After `Ok`, `ok`: the sink gains the encoding that is minimal in both grammars.
 /// - `front`: The new bytes begin with the old ones.
 /// - `too_long`: a value that has an encoding never gives `TooLong`.
 ///
 /// ```text
 /// ensures ok { OnOk result
-///     (AppendsMinimal stack_payload
+///     (AppendsMinimal both_grammars stack_payload
 ///         (thread.now, map stack_frame_view frames.now.items) sink.old.items
 ///         sink.new.items) }
 /// ensures front { IsFrontOf sink.old.items sink.new.items }
-/// ensures too_long { HasEncoding stack_payload
+/// ensures too_long { HasEncoding both_grammars stack_payload
 ///     (thread.now, map stack_frame_view frames.now.items) → result ≢ Err TooLong }
 /// ```
 ///
-/// Definitions: [`AppendsMinimal`](crate::definitions::base::minimal::AppendsMinimal), [`stack_payload`](crate::definitions::custom::core_stacks::stack_payload), [`stack_frame_view`](crate::definitions::custom::core_stacks::stack_frame_view), [`IsFrontOf`](crate::definitions::base::minimal::IsFrontOf), [`HasEncoding`](crate::definitions::base::minimal::HasEncoding). [How to read clauses](crate::definitions).
+/// Definitions: [`AppendsMinimal`](crate::definitions::base::minimal::AppendsMinimal), [`both_grammars`](crate::definitions::base::minimal::Grammars), [`stack_payload`](crate::definitions::custom::core_stacks::stack_payload), [`stack_frame_view`](crate::definitions::custom::core_stacks::stack_frame_view), [`IsFrontOf`](crate::definitions::base::minimal::IsFrontOf), [`HasEncoding`](crate::definitions::base::minimal::HasEncoding). [How to read clauses](crate::definitions).
 fn write_stack<A: Allocator, B: Sink>(
     thread: &str,
     frames: &Vec<CoreFrame<A>, A>,
@@ -386,19 +393,19 @@ fn write_stack<A: Allocator, B: Sink>(
 ///
 /// # Proved
 ///
-/// After `Ok`: `ok`, the sink gains the minimal encoding. After an error: `err`, the bytes of the sink are unchanged. In any case: `too_long`, a value that has an encoding never gives `TooLong`.
+/// After `Ok`: `ok`, the sink gains the encoding that is minimal in both grammars. After an error: `err`, the bytes of the sink are unchanged. In any case: `too_long`, a value that has an encoding never gives `TooLong`.
 ///
 /// ```text
 /// ensures ok { OnOk result
-///     (AppendsMinimal stack_payload
+///     (AppendsMinimal both_grammars stack_payload
 ///         (thread.now, map stack_frame_view frames.now.items) sink.old.items
 ///         sink.new.items) }
 /// ensures err { OnErr result (sink.new.items ≡ sink.old.items) }
-/// ensures too_long { HasEncoding stack_payload
+/// ensures too_long { HasEncoding both_grammars stack_payload
 ///     (thread.now, map stack_frame_view frames.now.items) → result ≢ Err TooLong }
 /// ```
 ///
-/// Definitions: [`AppendsMinimal`](crate::definitions::base::minimal::AppendsMinimal), [`stack_payload`](crate::definitions::custom::core_stacks::stack_payload), [`stack_frame_view`](crate::definitions::custom::core_stacks::stack_frame_view), [`HasEncoding`](crate::definitions::base::minimal::HasEncoding). [How to read clauses](crate::definitions).
+/// Definitions: [`AppendsMinimal`](crate::definitions::base::minimal::AppendsMinimal), [`both_grammars`](crate::definitions::base::minimal::Grammars), [`stack_payload`](crate::definitions::custom::core_stacks::stack_payload), [`stack_frame_view`](crate::definitions::custom::core_stacks::stack_frame_view), [`HasEncoding`](crate::definitions::base::minimal::HasEncoding). [How to read clauses](crate::definitions).
 pub fn append_stack<A: Allocator, B: Sink>(
     thread: &str,
     frames: &Vec<CoreFrame<A>, A>,

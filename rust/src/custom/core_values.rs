@@ -75,6 +75,13 @@ impl Layout for CoreDumpValue {
     fn laws() {}
 }
 
+/// # Defined
+///
+/// ```text
+/// may_allocate = { ⊥ }
+/// ```
+///
+/// [How to read clauses](crate::definitions).
 impl<'a, A: Allocator + Copy, G: Grammar> Readable<'a, A, G> for CoreDumpValue {
     fn read(bytes: &'a [u8], alloc: A) -> Result<(CoreDumpValue, &'a [u8]), DecodeError> {
         let (tag, rest) = <u8 as Readable<'a, A, G>>::read(bytes, alloc)?;

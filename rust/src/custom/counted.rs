@@ -47,18 +47,20 @@ pub(crate) trait ItemsAs<T>: CustomKind {
     ///
     /// # Proved
     ///
-    /// - After `Ok`, `ok`: the sink gains the minimal encoding.
+    /// - After `Ok`, `ok`: the sink gains the encoding that is minimal in both grammars.
     /// - `front`: The new bytes begin with the old ones.
     /// - `too_long`: a value that has an encoding never gives `TooLong`.
     ///
     /// ```text
     /// ensures ok { OnOk result
-    ///     (AppendsMinimal format (view item.now) sink.old.items sink.new.items) }
+    ///     (AppendsMinimal both_grammars format (view item.now) sink.old.items sink.new.items)
+    ///     }
     /// ensures front { IsFrontOf sink.old.items sink.new.items }
-    /// ensures too_long { HasEncoding format (view item.now) → result ≢ Err TooLong }
+    /// ensures too_long { HasEncoding both_grammars format (view item.now)
+    ///     → result ≢ Err TooLong }
     /// ```
     ///
-    /// Definitions: [`AppendsMinimal`](crate::definitions::base::minimal::AppendsMinimal), [`IsFrontOf`](crate::definitions::base::minimal::IsFrontOf), [`HasEncoding`](crate::definitions::base::minimal::HasEncoding). [How to read clauses](crate::definitions).
+    /// Definitions: [`AppendsMinimal`](crate::definitions::base::minimal::AppendsMinimal), [`both_grammars`](crate::definitions::base::minimal::Grammars), [`IsFrontOf`](crate::definitions::base::minimal::IsFrontOf), [`HasEncoding`](crate::definitions::base::minimal::HasEncoding). [How to read clauses](crate::definitions).
     fn append_item<B: Sink>(item: &T, sink: &mut B) -> Result<()>;
 }
 
@@ -116,7 +118,7 @@ fn read_items<'a, K: DecodesItems<'a, T, A, G>, T, A: Allocator + Copy, G: Gramm
 ///
 /// # Proved
 ///
-/// After `Ok`: `found`. After an error: `none`, the bytes as a whole are no such encoding, unless the cause is `Memory`.
+/// After `Ok`: `found`, the bytes as a whole encode the value. After an error: `none`, the bytes as a whole are no such encoding, unless the cause is `Memory`.
 ///
 /// ```text
 /// ensures found { IfOk result
@@ -149,20 +151,20 @@ pub(crate) fn read_counted<
 ///
 /// # Proved
 ///
-/// - After `Ok`, `ok`: the sink gains the minimal encoding.
+/// - After `Ok`, `ok`: the sink gains the encoding that is minimal in both grammars.
 /// - `front`: The new bytes begin with the old ones.
 /// - `too_long`: a value that has an encoding never gives `TooLong`.
 ///
 /// ```text
 /// ensures ok { OnOk result
-///     (AppendsMinimal (vec K.format) (map K.view items.now) sink.old.items sink.new.items)
-///     }
+///     (AppendsMinimal both_grammars (vec K.format)
+///         (map K.view items.now) sink.old.items sink.new.items) }
 /// ensures front { IsFrontOf sink.old.items sink.new.items }
-/// ensures too_long { HasEncoding (vec K.format) (map K.view items.now)
+/// ensures too_long { HasEncoding both_grammars (vec K.format) (map K.view items.now)
 ///     → result ≢ Err TooLong }
 /// ```
 ///
-/// Definitions: [`AppendsMinimal`](crate::definitions::base::minimal::AppendsMinimal), [`vec`](crate::definitions::base::formats::vec), [`IsFrontOf`](crate::definitions::base::minimal::IsFrontOf), [`HasEncoding`](crate::definitions::base::minimal::HasEncoding). [How to read clauses](crate::definitions).
+/// Definitions: [`AppendsMinimal`](crate::definitions::base::minimal::AppendsMinimal), [`both_grammars`](crate::definitions::base::minimal::Grammars), [`vec`](crate::definitions::base::formats::vec), [`IsFrontOf`](crate::definitions::base::minimal::IsFrontOf), [`HasEncoding`](crate::definitions::base::minimal::HasEncoding). [How to read clauses](crate::definitions).
 fn append_items<K: ItemsAs<T>, T, B: Sink>(items: &[T], sink: &mut B) -> Result<()> {
     items.len().encode(sink)?;
     for item in items {
@@ -176,20 +178,20 @@ fn append_items<K: ItemsAs<T>, T, B: Sink>(items: &[T], sink: &mut B) -> Result<
 ///
 /// # Proved
 ///
-/// - After `Ok`, `ok`: the sink gains the minimal encoding.
+/// - After `Ok`, `ok`: the sink gains the encoding that is minimal in both grammars.
 /// - `front`: The new bytes begin with the old ones.
 /// - `too_long`: a value that has an encoding never gives `TooLong`.
 ///
 /// ```text
 /// ensures ok { OnOk result
-///     (AppendsMinimal (counted_payload K.name K.format)
+///     (AppendsMinimal both_grammars (counted_payload K.name K.format)
 ///         (map K.view items.now) sink.old.items sink.new.items) }
 /// ensures front { IsFrontOf sink.old.items sink.new.items }
-/// ensures too_long { HasEncoding (counted_payload K.name K.format) (map K.view items.now)
-///     → result ≢ Err TooLong }
+/// ensures too_long { HasEncoding both_grammars (counted_payload K.name K.format)
+///     (map K.view items.now) → result ≢ Err TooLong }
 /// ```
 ///
-/// Definitions: [`AppendsMinimal`](crate::definitions::base::minimal::AppendsMinimal), [`counted_payload`](crate::definitions::custom::entries::counted_payload), [`IsFrontOf`](crate::definitions::base::minimal::IsFrontOf), [`HasEncoding`](crate::definitions::base::minimal::HasEncoding). [How to read clauses](crate::definitions).
+/// Definitions: [`AppendsMinimal`](crate::definitions::base::minimal::AppendsMinimal), [`both_grammars`](crate::definitions::base::minimal::Grammars), [`counted_payload`](crate::definitions::custom::entries::counted_payload), [`IsFrontOf`](crate::definitions::base::minimal::IsFrontOf), [`HasEncoding`](crate::definitions::base::minimal::HasEncoding). [How to read clauses](crate::definitions).
 fn write_counted<K: ItemsAs<T>, T, B: Sink>(items: &[T], sink: &mut B) -> Result<()> {
     K::name().encode(sink)?;
     append_items::<K, T, _>(items, sink)
@@ -200,18 +202,18 @@ fn write_counted<K: ItemsAs<T>, T, B: Sink>(items: &[T], sink: &mut B) -> Result
 ///
 /// # Proved
 ///
-/// After `Ok`: `ok`, the sink gains the minimal encoding. After an error: `err`, the bytes of the sink are unchanged. In any case: `too_long`, a value that has an encoding never gives `TooLong`.
+/// After `Ok`: `ok`, the sink gains the encoding that is minimal in both grammars. After an error: `err`, the bytes of the sink are unchanged. In any case: `too_long`, a value that has an encoding never gives `TooLong`.
 ///
 /// ```text
 /// ensures ok { OnOk result
-///     (AppendsMinimal (counted_payload K.name K.format)
+///     (AppendsMinimal both_grammars (counted_payload K.name K.format)
 ///         (map K.view items.now) sink.old.items sink.new.items) }
 /// ensures err { OnErr result (sink.new.items ≡ sink.old.items) }
-/// ensures too_long { HasEncoding (counted_payload K.name K.format) (map K.view items.now)
-///     → result ≢ Err TooLong }
+/// ensures too_long { HasEncoding both_grammars (counted_payload K.name K.format)
+///     (map K.view items.now) → result ≢ Err TooLong }
 /// ```
 ///
-/// Definitions: [`AppendsMinimal`](crate::definitions::base::minimal::AppendsMinimal), [`counted_payload`](crate::definitions::custom::entries::counted_payload), [`HasEncoding`](crate::definitions::base::minimal::HasEncoding). [How to read clauses](crate::definitions).
+/// Definitions: [`AppendsMinimal`](crate::definitions::base::minimal::AppendsMinimal), [`both_grammars`](crate::definitions::base::minimal::Grammars), [`counted_payload`](crate::definitions::custom::entries::counted_payload), [`HasEncoding`](crate::definitions::base::minimal::HasEncoding). [How to read clauses](crate::definitions).
 pub(crate) fn append_counted<K: ItemsAs<T>, T, B: Sink>(
     items: &[T],
     sink: &mut B,

@@ -10,7 +10,7 @@ use crate::base::{CowSlice, CowStr, Encode, Refused, Result, Section, SectionId,
 ///
 /// # Proved
 ///
-/// After `Ok`: `ok`; `reserved`, the sink has spare capacity for the payload; `was_encodable`. After an error: `err`, the bytes of the sink are unchanged. In any case: `too_long`; `too_many`, more than 4294967295 give `TooLong`; `spare`; `capacity`, the capacity does not shrink.
+/// After `Ok`: `reserved`, the sink has spare capacity for the payload. After an error: `err`, the bytes of the sink are unchanged. In any case: `too_many`, more than 4294967295 give `TooLong`; `spare`, the call succeeds if the size fits 32 bits and the bytes fit the spare capacity; `capacity`, the capacity does not shrink.
 ///
 /// ```text
 /// ensures ok { OnOk result
@@ -85,7 +85,7 @@ impl<'a, A: Allocator + Copy> CustomSection<'a, A> {
     ///
     /// # Proved
     ///
-    /// After `Ok`: `same`. In any case: `memory`, no error is `TooLong`.
+    /// After `Ok`: `same`, the result has the same name and data. In any case: `memory`, no error is `TooLong`.
     ///
     /// ```text
     /// ensures same { IfOk result

@@ -80,7 +80,7 @@ impl Section for SourceMappingUrl<'_> {
 ///
 /// # Errors
 ///
-/// Any error but `Memory` means that the bytes are not such a payload.
+/// An error means that the bytes are not such a payload.
 ///
 /// # Examples
 ///
@@ -95,7 +95,7 @@ impl Section for SourceMappingUrl<'_> {
 ///
 /// # Proved
 ///
-/// After `Ok`: `found`. After an error: `none`, the bytes as a whole are no such encoding, unless the cause is `Memory`.
+/// After `Ok`: `found`, the bytes as a whole encode the value. After an error: `none`, the bytes as a whole are no such encoding, unless the cause is `Memory`.
 ///
 /// ```text
 /// ensures found { IfOk result
@@ -103,6 +103,7 @@ impl Section for SourceMappingUrl<'_> {
 /// ensures none { IfErr result
 ///     (λ e. e.cause ≢ Memory → RejectsWhole source_map_payload
 ///         (padded_of G.grammar) bytes.now) }
+/// ensures no_memory { IfErr result (λ e. e.cause ≢ Memory) }
 /// ```
 ///
 /// Definitions: [`source_map_payload`](crate::definitions::custom::debug_files::source_map_payload), [`padded_of`](crate::definitions::base::numbers::padded_of), [`RejectsWhole`](crate::definitions::base::continuing::RejectsWhole). [How to read clauses](crate::definitions).
@@ -135,16 +136,18 @@ pub fn read_source_map<'a, A: Allocator + Copy, G: Grammar>(
 ///
 /// # Proved
 ///
-/// After `Ok`: `ok`, the sink gains the minimal encoding. After an error: `err`, the bytes of the sink are unchanged. In any case: `too_long`, a value that has an encoding never gives `TooLong`.
+/// After `Ok`: `ok`, the sink gains the encoding that is minimal in both grammars. After an error: `err`, the bytes of the sink are unchanged. In any case: `too_long`, a value that has an encoding never gives `TooLong`.
 ///
 /// ```text
 /// ensures ok { OnOk result
-///     (AppendsMinimal source_map_payload url.now sink.old.items sink.new.items) }
+///     (AppendsMinimal both_grammars source_map_payload url.now sink.old.items
+///         sink.new.items) }
 /// ensures err { OnErr result (sink.new.items ≡ sink.old.items) }
-/// ensures too_long { HasEncoding source_map_payload url.now → result ≢ Err TooLong }
+/// ensures too_long { HasEncoding both_grammars source_map_payload url.now
+///     → result ≢ Err TooLong }
 /// ```
 ///
-/// Definitions: [`AppendsMinimal`](crate::definitions::base::minimal::AppendsMinimal), [`source_map_payload`](crate::definitions::custom::debug_files::source_map_payload), [`HasEncoding`](crate::definitions::base::minimal::HasEncoding). [How to read clauses](crate::definitions).
+/// Definitions: [`AppendsMinimal`](crate::definitions::base::minimal::AppendsMinimal), [`both_grammars`](crate::definitions::base::minimal::Grammars), [`source_map_payload`](crate::definitions::custom::debug_files::source_map_payload), [`HasEncoding`](crate::definitions::base::minimal::HasEncoding). [How to read clauses](crate::definitions).
 pub fn append_source_map<B: Sink>(url: &str, sink: &mut B) -> Result<()> {
     append_single("sourceMappingURL", &url, sink)
 }
@@ -223,7 +226,7 @@ impl Section for ExternalDebugInfo<'_> {
 ///
 /// # Errors
 ///
-/// Any error but `Memory` means that the bytes are not such a payload.
+/// An error means that the bytes are not such a payload.
 ///
 /// # Examples
 ///
@@ -238,7 +241,7 @@ impl Section for ExternalDebugInfo<'_> {
 ///
 /// # Proved
 ///
-/// After `Ok`: `found`. After an error: `none`, the bytes as a whole are no such encoding, unless the cause is `Memory`.
+/// After `Ok`: `found`, the bytes as a whole encode the value. After an error: `none`, the bytes as a whole are no such encoding, unless the cause is `Memory`.
 ///
 /// ```text
 /// ensures found { IfOk result
@@ -246,6 +249,7 @@ impl Section for ExternalDebugInfo<'_> {
 /// ensures none { IfErr result
 ///     (λ e. e.cause ≢ Memory → RejectsWhole debug_file_payload
 ///         (padded_of G.grammar) bytes.now) }
+/// ensures no_memory { IfErr result (λ e. e.cause ≢ Memory) }
 /// ```
 ///
 /// Definitions: [`debug_file_payload`](crate::definitions::custom::debug_files::debug_file_payload), [`padded_of`](crate::definitions::base::numbers::padded_of), [`RejectsWhole`](crate::definitions::base::continuing::RejectsWhole). [How to read clauses](crate::definitions).
@@ -278,16 +282,18 @@ pub fn read_debug_file<'a, A: Allocator + Copy, G: Grammar>(
 ///
 /// # Proved
 ///
-/// After `Ok`: `ok`, the sink gains the minimal encoding. After an error: `err`, the bytes of the sink are unchanged. In any case: `too_long`, a value that has an encoding never gives `TooLong`.
+/// After `Ok`: `ok`, the sink gains the encoding that is minimal in both grammars. After an error: `err`, the bytes of the sink are unchanged. In any case: `too_long`, a value that has an encoding never gives `TooLong`.
 ///
 /// ```text
 /// ensures ok { OnOk result
-///     (AppendsMinimal debug_file_payload path.now sink.old.items sink.new.items) }
+///     (AppendsMinimal both_grammars debug_file_payload path.now sink.old.items
+///         sink.new.items) }
 /// ensures err { OnErr result (sink.new.items ≡ sink.old.items) }
-/// ensures too_long { HasEncoding debug_file_payload path.now → result ≢ Err TooLong }
+/// ensures too_long { HasEncoding both_grammars debug_file_payload path.now
+///     → result ≢ Err TooLong }
 /// ```
 ///
-/// Definitions: [`AppendsMinimal`](crate::definitions::base::minimal::AppendsMinimal), [`debug_file_payload`](crate::definitions::custom::debug_files::debug_file_payload), [`HasEncoding`](crate::definitions::base::minimal::HasEncoding). [How to read clauses](crate::definitions).
+/// Definitions: [`AppendsMinimal`](crate::definitions::base::minimal::AppendsMinimal), [`both_grammars`](crate::definitions::base::minimal::Grammars), [`debug_file_payload`](crate::definitions::custom::debug_files::debug_file_payload), [`HasEncoding`](crate::definitions::base::minimal::HasEncoding). [How to read clauses](crate::definitions).
 pub fn append_debug_file<B: Sink>(path: &str, sink: &mut B) -> Result<()> {
     append_single("external_debug_info", &path, sink)
 }
@@ -371,7 +377,7 @@ impl Section for BuildId<'_> {
 ///
 /// # Errors
 ///
-/// Any error but `Memory` means that the bytes are not such a payload.
+/// An error means that the bytes are not such a payload.
 ///
 /// # Examples
 ///
@@ -386,7 +392,7 @@ impl Section for BuildId<'_> {
 ///
 /// # Proved
 ///
-/// After `Ok`: `found`. After an error: `none`, the bytes as a whole are no such encoding, unless the cause is `Memory`.
+/// After `Ok`: `found`, the bytes as a whole encode the value. After an error: `none`, the bytes as a whole are no such encoding, unless the cause is `Memory`.
 ///
 /// ```text
 /// ensures found { IfOk result
@@ -394,6 +400,7 @@ impl Section for BuildId<'_> {
 /// ensures none { IfErr result
 ///     (λ e. e.cause ≢ Memory → RejectsWhole build_id_payload
 ///         (padded_of G.grammar) bytes.now) }
+/// ensures no_memory { IfErr result (λ e. e.cause ≢ Memory) }
 /// ```
 ///
 /// Definitions: [`build_id_payload`](crate::definitions::custom::debug_files::build_id_payload), [`padded_of`](crate::definitions::base::numbers::padded_of), [`RejectsWhole`](crate::definitions::base::continuing::RejectsWhole). [How to read clauses](crate::definitions).
@@ -426,16 +433,18 @@ pub fn read_build_id<'a, A: Allocator + Copy, G: Grammar>(
 ///
 /// # Proved
 ///
-/// After `Ok`: `ok`, the sink gains the minimal encoding. After an error: `err`, the bytes of the sink are unchanged. In any case: `too_long`, a value that has an encoding never gives `TooLong`.
+/// After `Ok`: `ok`, the sink gains the encoding that is minimal in both grammars. After an error: `err`, the bytes of the sink are unchanged. In any case: `too_long`, a value that has an encoding never gives `TooLong`.
 ///
 /// ```text
 /// ensures ok { OnOk result
-///     (AppendsMinimal build_id_payload bytes.now sink.old.items sink.new.items) }
+///     (AppendsMinimal both_grammars build_id_payload bytes.now sink.old.items
+///         sink.new.items) }
 /// ensures err { OnErr result (sink.new.items ≡ sink.old.items) }
-/// ensures too_long { HasEncoding build_id_payload bytes.now → result ≢ Err TooLong }
+/// ensures too_long { HasEncoding both_grammars build_id_payload bytes.now
+///     → result ≢ Err TooLong }
 /// ```
 ///
-/// Definitions: [`AppendsMinimal`](crate::definitions::base::minimal::AppendsMinimal), [`build_id_payload`](crate::definitions::custom::debug_files::build_id_payload), [`HasEncoding`](crate::definitions::base::minimal::HasEncoding). [How to read clauses](crate::definitions).
+/// Definitions: [`AppendsMinimal`](crate::definitions::base::minimal::AppendsMinimal), [`both_grammars`](crate::definitions::base::minimal::Grammars), [`build_id_payload`](crate::definitions::custom::debug_files::build_id_payload), [`HasEncoding`](crate::definitions::base::minimal::HasEncoding). [How to read clauses](crate::definitions).
 pub fn append_build_id<B: Sink>(bytes: &[u8], sink: &mut B) -> Result<()> {
     append_single("build_id", &bytes, sink)
 }

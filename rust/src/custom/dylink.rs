@@ -400,7 +400,7 @@ impl<'a, A: Allocator + Copy + 'a, G: Grammar> Readable<'a, A, G> for DylinkItem
 ///
 /// # Proved
 ///
-/// After `Ok`: `found`. After an error: `none`, the bytes as a whole are no such encoding, unless the cause is `Memory`.
+/// After `Ok`: `found`, the bytes as a whole encode the value. After an error: `none`, the bytes as a whole are no such encoding, unless the cause is `Memory`.
 ///
 /// ```text
 /// ensures found { IfOk result
@@ -424,25 +424,33 @@ pub fn read_dylink<'a, A: Allocator + Copy + 'a, G: Grammar>(
 ///
 /// # Proved
 ///
-/// - After `Ok`, `ok`: the sink gains the minimal encoding.
+/// - After `Ok`, `ok`: the sink gains the encoding that is minimal in both grammars.
 /// - `front`: The new bytes begin with the old ones.
 /// - `too_long`: a value that has an encoding never gives `TooLong`.
 ///
 /// ```text
 /// ensures ok { OnOk result
-///     (AppendsMinimal (prefixed (1 ∷ []) (size_prefixed needs)) memory sink.old.items
-///         sink.new.items) }
+///     (AppendsMinimal both_grammars
+///         (prefixed (1 ∷ []) (size_prefixed needs)) memory sink.old.items sink.new.items)
+///     }
 /// ensures front { IsFrontOf sink.old.items sink.new.items }
-/// ensures too_long { HasEncoding (prefixed (1 ∷ []) (size_prefixed needs)) memory
-///     → result ≢ Err TooLong }
+/// ensures too_long { HasEncoding both_grammars
+///     (prefixed (1 ∷ []) (size_prefixed needs)) memory → result ≢ Err TooLong }
 /// ```
 ///
-/// Definitions: [`AppendsMinimal`](crate::definitions::base::minimal::AppendsMinimal), [`prefixed`](crate::definitions::base::formats::prefixed), [`size_prefixed`](crate::definitions::base::formats::size_prefixed), [`needs`](crate::definitions::custom::dylink::needs), [`IsFrontOf`](crate::definitions::base::minimal::IsFrontOf), [`HasEncoding`](crate::definitions::base::minimal::HasEncoding). [How to read clauses](crate::definitions).
+/// Definitions: [`AppendsMinimal`](crate::definitions::base::minimal::AppendsMinimal), [`both_grammars`](crate::definitions::base::minimal::Grammars), [`prefixed`](crate::definitions::base::formats::prefixed), [`size_prefixed`](crate::definitions::base::formats::size_prefixed), [`needs`](crate::definitions::custom::dylink::needs), [`IsFrontOf`](crate::definitions::base::minimal::IsFrontOf), [`HasEncoding`](crate::definitions::base::minimal::HasEncoding). [How to read clauses](crate::definitions).
 fn append_memory<B: Sink>(memory: DylinkMemory, sink: &mut B) -> Result<()> {
     1u8.encode(sink)?;
     SizePrefixed(memory).write_minimal(sink)
 }
 
+/// # Defined
+///
+/// ```text
+/// grammars = { both_grammars }
+/// ```
+///
+/// Definitions: [`both_grammars`](crate::definitions::base::minimal::Grammars). [How to read clauses](crate::definitions).
 impl<'a, A: Allocator> Shorten for DylinkItem<'a, A> {
     fn write_minimal<B: Sink>(&self, sink: &mut B) -> Result<()> {
         match self {
@@ -461,20 +469,20 @@ impl<'a, A: Allocator> Shorten for DylinkItem<'a, A> {
 ///
 /// # Proved
 ///
-/// - After `Ok`, `ok`: the sink gains the minimal encoding.
+/// - After `Ok`, `ok`: the sink gains the encoding that is minimal in both grammars.
 /// - `front`: The new bytes begin with the old ones.
 /// - `too_long`: a value that has an encoding never gives `TooLong`.
 ///
 /// ```text
 /// ensures ok { OnOk result
-///     (AppendsMinimal dylink_payload
+///     (AppendsMinimal both_grammars dylink_payload
 ///         (map dylink_view items.now) sink.old.items sink.new.items) }
 /// ensures front { IsFrontOf sink.old.items sink.new.items }
-/// ensures too_long { HasEncoding dylink_payload (map dylink_view items.now)
+/// ensures too_long { HasEncoding both_grammars dylink_payload (map dylink_view items.now)
 ///     → result ≢ Err TooLong }
 /// ```
 ///
-/// Definitions: [`AppendsMinimal`](crate::definitions::base::minimal::AppendsMinimal), [`dylink_payload`](crate::definitions::custom::dylink::dylink_payload), [`dylink_view`](crate::definitions::custom::dylink::dylink_view), [`IsFrontOf`](crate::definitions::base::minimal::IsFrontOf), [`HasEncoding`](crate::definitions::base::minimal::HasEncoding). [How to read clauses](crate::definitions).
+/// Definitions: [`AppendsMinimal`](crate::definitions::base::minimal::AppendsMinimal), [`both_grammars`](crate::definitions::base::minimal::Grammars), [`dylink_payload`](crate::definitions::custom::dylink::dylink_payload), [`dylink_view`](crate::definitions::custom::dylink::dylink_view), [`IsFrontOf`](crate::definitions::base::minimal::IsFrontOf), [`HasEncoding`](crate::definitions::base::minimal::HasEncoding). [How to read clauses](crate::definitions).
 fn write_dylink<A: Allocator, B: Sink>(
     items: &[DylinkItem<'_, A>],
     sink: &mut B,
@@ -506,18 +514,18 @@ fn write_dylink<A: Allocator, B: Sink>(
 ///
 /// # Proved
 ///
-/// After `Ok`: `ok`, the sink gains the minimal encoding. After an error: `err`, the bytes of the sink are unchanged. In any case: `too_long`, a value that has an encoding never gives `TooLong`.
+/// After `Ok`: `ok`, the sink gains the encoding that is minimal in both grammars. After an error: `err`, the bytes of the sink are unchanged. In any case: `too_long`, a value that has an encoding never gives `TooLong`.
 ///
 /// ```text
 /// ensures ok { OnOk result
-///     (AppendsMinimal dylink_payload
+///     (AppendsMinimal both_grammars dylink_payload
 ///         (map dylink_view items.now) sink.old.items sink.new.items) }
 /// ensures err { OnErr result (sink.new.items ≡ sink.old.items) }
-/// ensures too_long { HasEncoding dylink_payload (map dylink_view items.now)
+/// ensures too_long { HasEncoding both_grammars dylink_payload (map dylink_view items.now)
 ///     → result ≢ Err TooLong }
 /// ```
 ///
-/// Definitions: [`AppendsMinimal`](crate::definitions::base::minimal::AppendsMinimal), [`dylink_payload`](crate::definitions::custom::dylink::dylink_payload), [`dylink_view`](crate::definitions::custom::dylink::dylink_view), [`HasEncoding`](crate::definitions::base::minimal::HasEncoding). [How to read clauses](crate::definitions).
+/// Definitions: [`AppendsMinimal`](crate::definitions::base::minimal::AppendsMinimal), [`both_grammars`](crate::definitions::base::minimal::Grammars), [`dylink_payload`](crate::definitions::custom::dylink::dylink_payload), [`dylink_view`](crate::definitions::custom::dylink::dylink_view), [`HasEncoding`](crate::definitions::base::minimal::HasEncoding). [How to read clauses](crate::definitions).
 pub fn append_dylink<A: Allocator, B: Sink>(
     items: &[DylinkItem<'_, A>],
     sink: &mut B,

@@ -81,6 +81,13 @@ impl Layout for DylinkMemory {
     fn laws() {}
 }
 
+/// # Defined
+///
+/// ```text
+/// may_allocate = { ⊥ }
+/// ```
+///
+/// [How to read clauses](crate::definitions).
 impl<'a, A: Allocator + Copy, G: Grammar> Readable<'a, A, G> for DylinkMemory {
     fn read(bytes: &'a [u8], alloc: A) -> Result<(DylinkMemory, &'a [u8]), DecodeError> {
         let (((memory_size, memory_alignment), (table_size, table_alignment)), rest) = <(
@@ -97,6 +104,13 @@ impl<'a, A: Allocator + Copy, G: Grammar> Readable<'a, A, G> for DylinkMemory {
     }
 }
 
+/// # Defined
+///
+/// ```text
+/// grammars = { both_grammars }
+/// ```
+///
+/// Definitions: [`both_grammars`](crate::definitions::base::minimal::Grammars). [How to read clauses](crate::definitions).
 impl Shorten for DylinkMemory {
     fn write_minimal<B: Sink>(&self, sink: &mut B) -> Result<()> {
         self.memory_size.write_minimal(sink)?;
@@ -387,6 +401,13 @@ impl<'a> Layout for DylinkExport<'a> {
     fn laws() {}
 }
 
+/// # Defined
+///
+/// ```text
+/// may_allocate = { ⊥ }
+/// ```
+///
+/// [How to read clauses](crate::definitions).
 impl<'a, A: Allocator + Copy, G: Grammar> Readable<'a, A, G> for DylinkExport<'a> {
     fn read(bytes: &'a [u8], alloc: A) -> Result<(DylinkExport<'a>, &'a [u8]), DecodeError> {
         let ((name, flags), rest) = <(&'a str, u32) as Readable<'a, A, G>>::read(bytes, alloc)?;
@@ -394,6 +415,13 @@ impl<'a, A: Allocator + Copy, G: Grammar> Readable<'a, A, G> for DylinkExport<'a
     }
 }
 
+/// # Defined
+///
+/// ```text
+/// grammars = { both_grammars }
+/// ```
+///
+/// Definitions: [`both_grammars`](crate::definitions::base::minimal::Grammars). [How to read clauses](crate::definitions).
 impl<'a> Shorten for DylinkExport<'a> {
     fn write_minimal<B: Sink>(&self, sink: &mut B) -> Result<()> {
         self.name.write_minimal(sink)?;
@@ -530,6 +558,13 @@ impl<'a> Layout for DylinkImport<'a> {
     fn laws() {}
 }
 
+/// # Defined
+///
+/// ```text
+/// may_allocate = { ⊥ }
+/// ```
+///
+/// [How to read clauses](crate::definitions).
 impl<'a, A: Allocator + Copy, G: Grammar> Readable<'a, A, G> for DylinkImport<'a> {
     fn read(bytes: &'a [u8], alloc: A) -> Result<(DylinkImport<'a>, &'a [u8]), DecodeError> {
         let ((module_name, (name, flags)), rest) = <(&'a str, (&'a str, u32)) as Readable<
@@ -546,6 +581,13 @@ impl<'a, A: Allocator + Copy, G: Grammar> Readable<'a, A, G> for DylinkImport<'a
     }
 }
 
+/// # Defined
+///
+/// ```text
+/// grammars = { both_grammars }
+/// ```
+///
+/// Definitions: [`both_grammars`](crate::definitions::base::minimal::Grammars). [How to read clauses](crate::definitions).
 impl<'a> Shorten for DylinkImport<'a> {
     fn write_minimal<B: Sink>(&self, sink: &mut B) -> Result<()> {
         self.module_name.write_minimal(sink)?;

@@ -252,7 +252,7 @@ impl<K: CustomKind, A: Allocator> CustomEntries<K, A> {
     ///
     /// # Proved
     ///
-    /// After `Ok`: `same`. In any case: `memory`, no error is `TooLong`.
+    /// After `Ok`: `same`, the result has the name and the data of the section. In any case: `memory`, no error is `TooLong`.
     ///
     /// ```text
     /// ensures same { IfOk result
@@ -349,7 +349,6 @@ fn data_size<B: Allocator>(front: &[u8], count: Count, pieces: &Pieces<B>) -> us
 /// # Proved
 ///
 /// - `appends`: The call appends the encoding, or returns an error and leaves the bytes as they were. If the value fits, the call never returns `TooLong`, and it succeeds within the spare capacity.
-/// - In any case: `few`.
 /// - `too_many`: more than 4294967295 give `TooLong`.
 ///
 /// ```text
@@ -387,7 +386,7 @@ pub(crate) fn encode_entries<A: Sink, B: Allocator>(
 ///
 /// # Proved
 ///
-/// After `Ok`: `same`. In any case: `memory`, no error is `TooLong`.
+/// In any case: `memory`, no error is `TooLong`.
 ///
 /// ```text
 /// ensures same { IfOk result

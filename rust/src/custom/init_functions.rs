@@ -115,6 +115,13 @@ impl Layout for InitFunction {
     fn laws() {}
 }
 
+/// # Defined
+///
+/// ```text
+/// may_allocate = { ⊥ }
+/// ```
+///
+/// [How to read clauses](crate::definitions).
 impl<'a, A: Allocator + Copy, G: Grammar> Readable<'a, A, G> for InitFunction {
     fn read(bytes: &'a [u8], alloc: A) -> Result<(InitFunction, &'a [u8]), DecodeError> {
         let ((priority, symbol), rest) = <(u32, u32) as Readable<'a, A, G>>::read(bytes, alloc)?;
@@ -122,6 +129,13 @@ impl<'a, A: Allocator + Copy, G: Grammar> Readable<'a, A, G> for InitFunction {
     }
 }
 
+/// # Defined
+///
+/// ```text
+/// grammars = { both_grammars }
+/// ```
+///
+/// Definitions: [`both_grammars`](crate::definitions::base::minimal::Grammars). [How to read clauses](crate::definitions).
 impl Shorten for InitFunction {
     fn write_minimal<B: Sink>(&self, sink: &mut B) -> Result<()> {
         self.priority.write_minimal(sink)?;

@@ -288,6 +288,7 @@ impl<'a, A: Allocator + Copy + 'a, G: Grammar> Readable<'a, A, G> for LinkItem<'
 /// ensures none { IfErr result
 ///     (λ e. e.cause ≢ Memory → Rejects (just version u32_format)
 ///         (padded_of G.grammar) bytes.now) }
+/// ensures no_memory { IfErr result (λ e. e.cause ≢ Memory) }
 /// ```
 ///
 /// Definitions: [`Decodes`](crate::definitions::base::decoding::Decodes), [`just`](crate::definitions::base::formats::just), [`version`](crate::definitions::custom::linking::version), [`u32_format`](crate::definitions::base::formats::u32), [`padded_of`](crate::definitions::base::numbers::padded_of), [`Rejects`](crate::definitions::base::decoding::Rejects). [How to read clauses](crate::definitions).
@@ -323,7 +324,7 @@ pub(crate) fn after_version<'a, A: Allocator + Copy, G: Grammar>(
 ///
 /// # Proved
 ///
-/// After `Ok`: `found`. After an error: `none`, the bytes as a whole are no such encoding, unless the cause is `Memory`.
+/// After `Ok`: `found`, the bytes as a whole encode the value. After an error: `none`, the bytes as a whole are no such encoding, unless the cause is `Memory`.
 ///
 /// ```text
 /// ensures found { IfOk result
@@ -348,17 +349,18 @@ pub fn read_links<'a, A: Allocator + Copy + 'a, G: Grammar>(
 ///
 /// # Proved
 ///
-/// - After `Ok`, `ok`: the sink gains the minimal encoding.
+/// - After `Ok`, `ok`: the sink gains the encoding that is minimal in the `grammars` of the type.
 /// - `front`: The new bytes begin with the old ones.
 /// - `too_long`: a value that has an encoding never gives `TooLong`.
 ///
 /// ```text
 /// ensures ok { OnOk result
-///     (AppendsMinimal (prefixed (id ∷ []) (size_prefixed (vec T.format)))
+///     (AppendsMinimal T.grammars (prefixed (id ∷ []) (size_prefixed (vec T.format)))
 ///         (map T.view items.now.items) sink.old.items sink.new.items) }
 /// ensures front { IsFrontOf sink.old.items sink.new.items }
-/// ensures too_long { HasEncoding (prefixed (id ∷ []) (size_prefixed (vec T.format)))
-///     (map T.view items.now.items) → result ≢ Err TooLong }
+/// ensures too_long { HasEncoding T.grammars
+///     (prefixed (id ∷ []) (size_prefixed (vec T.format))) (map T.view items.now.items)
+///     → result ≢ Err TooLong }
 /// ```
 ///
 /// Definitions: [`AppendsMinimal`](crate::definitions::base::minimal::AppendsMinimal), [`prefixed`](crate::definitions::base::formats::prefixed), [`size_prefixed`](crate::definitions::base::formats::size_prefixed), [`vec`](crate::definitions::base::formats::vec), [`IsFrontOf`](crate::definitions::base::minimal::IsFrontOf), [`HasEncoding`](crate::definitions::base::minimal::HasEncoding). [How to read clauses](crate::definitions).
@@ -378,20 +380,21 @@ pub(crate) fn append_vector<T: Shorten, A: Allocator, B: Sink>(
 ///
 /// # Proved
 ///
-/// - After `Ok`, `ok`: the sink gains the minimal encoding.
+/// - After `Ok`, `ok`: the sink gains the encoding that is minimal in both grammars.
 /// - `front`: The new bytes begin with the old ones.
 /// - `too_long`: a value that has an encoding never gives `TooLong`.
 ///
 /// ```text
 /// ensures ok { OnOk result
-///     (AppendsMinimal (prefixed (id ∷ []) (size_prefixed any_bytes)) content.now
-///         sink.old.items sink.new.items) }
+///     (AppendsMinimal both_grammars
+///         (prefixed (id ∷ []) (size_prefixed any_bytes)) content.now sink.old.items
+///         sink.new.items) }
 /// ensures front { IsFrontOf sink.old.items sink.new.items }
-/// ensures too_long { HasEncoding
+/// ensures too_long { HasEncoding both_grammars
 ///     (prefixed (id ∷ []) (size_prefixed any_bytes)) content.now → result ≢ Err TooLong }
 /// ```
 ///
-/// Definitions: [`AppendsMinimal`](crate::definitions::base::minimal::AppendsMinimal), [`prefixed`](crate::definitions::base::formats::prefixed), [`size_prefixed`](crate::definitions::base::formats::size_prefixed), [`any_bytes`](crate::definitions::base::formats::any_bytes), [`IsFrontOf`](crate::definitions::base::minimal::IsFrontOf), [`HasEncoding`](crate::definitions::base::minimal::HasEncoding). [How to read clauses](crate::definitions).
+/// Definitions: [`AppendsMinimal`](crate::definitions::base::minimal::AppendsMinimal), [`both_grammars`](crate::definitions::base::minimal::Grammars), [`prefixed`](crate::definitions::base::formats::prefixed), [`size_prefixed`](crate::definitions::base::formats::size_prefixed), [`any_bytes`](crate::definitions::base::formats::any_bytes), [`IsFrontOf`](crate::definitions::base::minimal::IsFrontOf), [`HasEncoding`](crate::definitions::base::minimal::HasEncoding). [How to read clauses](crate::definitions).
 pub(crate) fn append_other<B: Sink>(
     id: u8,
     content: &[u8],
@@ -405,25 +408,33 @@ pub(crate) fn append_other<B: Sink>(
 ///
 /// # Proved
 ///
-/// - After `Ok`, `ok`: the sink gains the minimal encoding.
+/// - After `Ok`, `ok`: the sink gains the encoding that is minimal in both grammars.
 /// - `front`: The new bytes begin with the old ones.
 /// - `too_long`: a value that has an encoding never gives `TooLong`.
 ///
 /// ```text
 /// ensures ok { OnOk result
-///     (AppendsMinimal (prefixed (9 ∷ []) (size_prefixed name_format)) name.now
-///         sink.old.items sink.new.items) }
+///     (AppendsMinimal both_grammars
+///         (prefixed (9 ∷ []) (size_prefixed name_format)) name.now sink.old.items
+///         sink.new.items) }
 /// ensures front { IsFrontOf sink.old.items sink.new.items }
-/// ensures too_long { HasEncoding (prefixed (9 ∷ []) (size_prefixed name_format)) name.now
-///     → result ≢ Err TooLong }
+/// ensures too_long { HasEncoding both_grammars
+///     (prefixed (9 ∷ []) (size_prefixed name_format)) name.now → result ≢ Err TooLong }
 /// ```
 ///
-/// Definitions: [`AppendsMinimal`](crate::definitions::base::minimal::AppendsMinimal), [`prefixed`](crate::definitions::base::formats::prefixed), [`size_prefixed`](crate::definitions::base::formats::size_prefixed), [`name_format`](crate::definitions::base::formats::name), [`IsFrontOf`](crate::definitions::base::minimal::IsFrontOf), [`HasEncoding`](crate::definitions::base::minimal::HasEncoding). [How to read clauses](crate::definitions).
+/// Definitions: [`AppendsMinimal`](crate::definitions::base::minimal::AppendsMinimal), [`both_grammars`](crate::definitions::base::minimal::Grammars), [`prefixed`](crate::definitions::base::formats::prefixed), [`size_prefixed`](crate::definitions::base::formats::size_prefixed), [`name_format`](crate::definitions::base::formats::name), [`IsFrontOf`](crate::definitions::base::minimal::IsFrontOf), [`HasEncoding`](crate::definitions::base::minimal::HasEncoding). [How to read clauses](crate::definitions).
 fn append_target<B: Sink>(name: &str, sink: &mut B) -> Result<()> {
     9u8.encode(sink)?;
     SizePrefixed(name).write_minimal(sink)
 }
 
+/// # Defined
+///
+/// ```text
+/// grammars = { both_grammars }
+/// ```
+///
+/// Definitions: [`both_grammars`](crate::definitions::base::minimal::Grammars). [How to read clauses](crate::definitions).
 impl<'a, A: Allocator> Shorten for LinkItem<'a, A> {
     fn write_minimal<B: Sink>(&self, sink: &mut B) -> Result<()> {
         match self {
@@ -442,20 +453,20 @@ impl<'a, A: Allocator> Shorten for LinkItem<'a, A> {
 ///
 /// # Proved
 ///
-/// - After `Ok`, `ok`: the sink gains the minimal encoding.
+/// - After `Ok`, `ok`: the sink gains the encoding that is minimal in both grammars.
 /// - `front`: The new bytes begin with the old ones.
 /// - `too_long`: a value that has an encoding never gives `TooLong`.
 ///
 /// ```text
 /// ensures ok { OnOk result
-///     (AppendsMinimal linking_payload
+///     (AppendsMinimal both_grammars linking_payload
 ///         (map link_view items.now) sink.old.items sink.new.items) }
 /// ensures front { IsFrontOf sink.old.items sink.new.items }
-/// ensures too_long { HasEncoding linking_payload (map link_view items.now)
+/// ensures too_long { HasEncoding both_grammars linking_payload (map link_view items.now)
 ///     → result ≢ Err TooLong }
 /// ```
 ///
-/// Definitions: [`AppendsMinimal`](crate::definitions::base::minimal::AppendsMinimal), [`linking_payload`](crate::definitions::custom::linking::linking_payload), [`link_view`](crate::definitions::custom::linking::link_view), [`IsFrontOf`](crate::definitions::base::minimal::IsFrontOf), [`HasEncoding`](crate::definitions::base::minimal::HasEncoding). [How to read clauses](crate::definitions).
+/// Definitions: [`AppendsMinimal`](crate::definitions::base::minimal::AppendsMinimal), [`both_grammars`](crate::definitions::base::minimal::Grammars), [`linking_payload`](crate::definitions::custom::linking::linking_payload), [`link_view`](crate::definitions::custom::linking::link_view), [`IsFrontOf`](crate::definitions::base::minimal::IsFrontOf), [`HasEncoding`](crate::definitions::base::minimal::HasEncoding). [How to read clauses](crate::definitions).
 fn write_links<A: Allocator, B: Sink>(
     items: &[LinkItem<'_, A>],
     sink: &mut B,
@@ -487,18 +498,18 @@ fn write_links<A: Allocator, B: Sink>(
 ///
 /// # Proved
 ///
-/// After `Ok`: `ok`, the sink gains the minimal encoding. After an error: `err`, the bytes of the sink are unchanged. In any case: `too_long`, a value that has an encoding never gives `TooLong`.
+/// After `Ok`: `ok`, the sink gains the encoding that is minimal in both grammars. After an error: `err`, the bytes of the sink are unchanged. In any case: `too_long`, a value that has an encoding never gives `TooLong`.
 ///
 /// ```text
 /// ensures ok { OnOk result
-///     (AppendsMinimal linking_payload
+///     (AppendsMinimal both_grammars linking_payload
 ///         (map link_view items.now) sink.old.items sink.new.items) }
 /// ensures err { OnErr result (sink.new.items ≡ sink.old.items) }
-/// ensures too_long { HasEncoding linking_payload (map link_view items.now)
+/// ensures too_long { HasEncoding both_grammars linking_payload (map link_view items.now)
 ///     → result ≢ Err TooLong }
 /// ```
 ///
-/// Definitions: [`AppendsMinimal`](crate::definitions::base::minimal::AppendsMinimal), [`linking_payload`](crate::definitions::custom::linking::linking_payload), [`link_view`](crate::definitions::custom::linking::link_view), [`HasEncoding`](crate::definitions::base::minimal::HasEncoding). [How to read clauses](crate::definitions).
+/// Definitions: [`AppendsMinimal`](crate::definitions::base::minimal::AppendsMinimal), [`both_grammars`](crate::definitions::base::minimal::Grammars), [`linking_payload`](crate::definitions::custom::linking::linking_payload), [`link_view`](crate::definitions::custom::linking::link_view), [`HasEncoding`](crate::definitions::base::minimal::HasEncoding). [How to read clauses](crate::definitions).
 pub fn append_links<A: Allocator, B: Sink>(
     items: &[LinkItem<'_, A>],
     sink: &mut B,

@@ -18,6 +18,7 @@ use crate::base::{DecodeError, Encode, Grammar, Layout, Minimize, ReadFault, Rea
 /// ensures none { IfErr result
 ///     (λ e. e.cause ≢ Memory → Rejects (prefixed (mark ∷ []) T.format)
 ///         (padded_of G.grammar) bytes.now) }
+/// ensures no_memory { IfErr result (λ e. e.cause ≡ Memory → T.may_allocate) }
 /// ```
 ///
 /// Definitions: [`Decodes`](crate::definitions::base::decoding::Decodes), [`prefixed`](crate::definitions::base::formats::prefixed), [`padded_of`](crate::definitions::base::numbers::padded_of), [`Rejects`](crate::definitions::base::decoding::Rejects). [How to read clauses](crate::definitions).
@@ -38,7 +39,7 @@ pub(crate) fn read_marked<'a, T: Readable<'a, A, G>, A: Allocator + Copy, G: Gra
 ///
 /// # Proved
 ///
-/// After `Ok`: `found`. After an error: `none`, the bytes do not begin with such an encoding, unless the cause is `Memory`.
+/// After `Ok`: `found`, the bytes begin with such an encoding, and the returned bytes follow it. After an error: `none`, the bytes do not begin with such an encoding, unless the cause is `Memory`.
 ///
 /// ```text
 /// ensures found { IfOk result
@@ -47,6 +48,7 @@ pub(crate) fn read_marked<'a, T: Readable<'a, A, G>, A: Allocator + Copy, G: Gra
 /// ensures none { IfErr result
 ///     (λ e. e.cause ≢ Memory → Rejects (prefixed (mark ∷ []) P.format)
 ///         (padded_of G.grammar) bytes.now) }
+/// ensures no_memory { IfErr result (λ e. e.cause ≡ Memory → P.may_allocate) }
 /// ```
 ///
 /// Definitions: [`Decodes`](crate::definitions::base::decoding::Decodes), [`prefixed`](crate::definitions::base::formats::prefixed), [`padded_of`](crate::definitions::base::numbers::padded_of), [`Rejects`](crate::definitions::base::decoding::Rejects). [How to read clauses](crate::definitions).
@@ -124,6 +126,13 @@ impl<'a> Layout for MarkedName<'a> {
     fn laws() {}
 }
 
+/// # Defined
+///
+/// ```text
+/// may_allocate = { ⊥ }
+/// ```
+///
+/// [How to read clauses](crate::definitions).
 impl<'a, A: Allocator + Copy, G: Grammar> Readable<'a, A, G> for MarkedName<'a> {
     fn read(bytes: &'a [u8], alloc: A) -> Result<(MarkedName<'a>, &'a [u8]), DecodeError> {
         let (name, rest) = read_marked::<'a, &'a str, A, G>(0x00, bytes, alloc)?;

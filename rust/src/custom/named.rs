@@ -43,6 +43,7 @@ fn other_name(name: &str, known: &str, rest: &[u8]) -> DecodeError {
 /// ensures none { IfErr result
 ///     (λ e. e.cause ≢ Memory → Rejects (just name.now name_format)
 ///         (padded_of G.grammar) bytes.now) }
+/// ensures no_memory { IfErr result (λ e. e.cause ≢ Memory) }
 /// ```
 ///
 /// Definitions: [`Decodes`](crate::definitions::base::decoding::Decodes), [`just`](crate::definitions::base::formats::just), [`name_format`](crate::definitions::base::formats::name), [`padded_of`](crate::definitions::base::numbers::padded_of), [`Rejects`](crate::definitions::base::decoding::Rejects). [How to read clauses](crate::definitions).

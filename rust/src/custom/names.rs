@@ -807,7 +807,7 @@ pub(crate) fn name_kind_of(id: u8) -> NameKind {
 ///
 /// # Proved
 ///
-/// After `Ok`: `found`. After an error: `none`, the bytes as a whole are no such encoding, unless the cause is `Memory`.
+/// After `Ok`: `found`, the bytes as a whole encode the value. After an error: `none`, the bytes as a whole are no such encoding, unless the cause is `Memory`.
 ///
 /// ```text
 /// ensures found { IfOk result
@@ -895,7 +895,7 @@ impl<'a, A: Allocator + Copy + 'a, G: Grammar> Readable<'a, A, G> for NameItem<'
 ///
 /// # Proved
 ///
-/// After `Ok`: `found`. After an error: `none`, the bytes as a whole are no such encoding, unless the cause is `Memory`.
+/// After `Ok`: `found`, the bytes as a whole encode the value. After an error: `none`, the bytes as a whole are no such encoding, unless the cause is `Memory`.
 ///
 /// ```text
 /// ensures found { IfOk result
@@ -938,22 +938,22 @@ impl<'a, A: Allocator> NameItem<'a, A> {
     ///
     /// # Proved
     ///
-    /// - After `Ok`, `ok`: the sink gains the minimal encoding.
+    /// - After `Ok`, `ok`: the sink gains the encoding that is minimal in both grammars.
     /// - `front`: The new bytes begin with the old ones.
     /// - `too_long`: a value that has an encoding never gives `TooLong`.
     ///
     /// ```text
     /// ensures ok { OnOk result
-    ///     (AppendsMinimal (inside (held_by (name_item_view self.now))
-    ///             (id_of (name_item_view self.now)))
+    ///     (AppendsMinimal both_grammars
+    ///         (inside (held_by (name_item_view self.now)) (id_of (name_item_view self.now)))
     ///         (name_item_view self.now) sink.old.items sink.new.items) }
     /// ensures front { IsFrontOf sink.old.items sink.new.items }
-    /// ensures too_long { HasEncoding
+    /// ensures too_long { HasEncoding both_grammars
     ///     (inside (held_by (name_item_view self.now)) (id_of (name_item_view self.now)))
     ///     (name_item_view self.now) → result ≢ Err TooLong }
     /// ```
     ///
-    /// Definitions: [`AppendsMinimal`](crate::definitions::base::minimal::AppendsMinimal), [`inside`](crate::definitions::custom::names::inside), [`held_by`](crate::definitions::custom::names::held_by), [`name_item_view`](crate::definitions::custom::names::name_item_view), [`id_of`](crate::definitions::custom::names::id_of), [`IsFrontOf`](crate::definitions::base::minimal::IsFrontOf), [`HasEncoding`](crate::definitions::base::minimal::HasEncoding). [How to read clauses](crate::definitions).
+    /// Definitions: [`AppendsMinimal`](crate::definitions::base::minimal::AppendsMinimal), [`both_grammars`](crate::definitions::base::minimal::Grammars), [`inside`](crate::definitions::custom::names::inside), [`held_by`](crate::definitions::custom::names::held_by), [`name_item_view`](crate::definitions::custom::names::name_item_view), [`id_of`](crate::definitions::custom::names::id_of), [`IsFrontOf`](crate::definitions::base::minimal::IsFrontOf), [`HasEncoding`](crate::definitions::base::minimal::HasEncoding). [How to read clauses](crate::definitions).
     fn append_content<B: Sink>(&self, sink: &mut B) -> Result<()> {
         match self {
             NameItem::Module(name) => name.write_minimal(sink),
@@ -967,6 +967,13 @@ impl<'a, A: Allocator> NameItem<'a, A> {
     }
 }
 
+/// # Defined
+///
+/// ```text
+/// grammars = { both_grammars }
+/// ```
+///
+/// Definitions: [`both_grammars`](crate::definitions::base::minimal::Grammars). [How to read clauses](crate::definitions).
 impl<'a, A: Allocator> Shorten for NameItem<'a, A> {
     fn write_minimal<B: Sink>(&self, sink: &mut B) -> Result<()> {
         self.id().encode(sink)?;
@@ -981,20 +988,20 @@ impl<'a, A: Allocator> Shorten for NameItem<'a, A> {
 ///
 /// # Proved
 ///
-/// - After `Ok`, `ok`: the sink gains the minimal encoding.
+/// - After `Ok`, `ok`: the sink gains the encoding that is minimal in both grammars.
 /// - `front`: The new bytes begin with the old ones.
 /// - `too_long`: a value that has an encoding never gives `TooLong`.
 ///
 /// ```text
 /// ensures ok { OnOk result
-///     (AppendsMinimal name_payload
+///     (AppendsMinimal both_grammars name_payload
 ///         (map name_item_view items.now) sink.old.items sink.new.items) }
 /// ensures front { IsFrontOf sink.old.items sink.new.items }
-/// ensures too_long { HasEncoding name_payload (map name_item_view items.now)
+/// ensures too_long { HasEncoding both_grammars name_payload (map name_item_view items.now)
 ///     → result ≢ Err TooLong }
 /// ```
 ///
-/// Definitions: [`AppendsMinimal`](crate::definitions::base::minimal::AppendsMinimal), [`name_payload`](crate::definitions::custom::names::name_payload), [`name_item_view`](crate::definitions::custom::names::name_item_view), [`IsFrontOf`](crate::definitions::base::minimal::IsFrontOf), [`HasEncoding`](crate::definitions::base::minimal::HasEncoding). [How to read clauses](crate::definitions).
+/// Definitions: [`AppendsMinimal`](crate::definitions::base::minimal::AppendsMinimal), [`both_grammars`](crate::definitions::base::minimal::Grammars), [`name_payload`](crate::definitions::custom::names::name_payload), [`name_item_view`](crate::definitions::custom::names::name_item_view), [`IsFrontOf`](crate::definitions::base::minimal::IsFrontOf), [`HasEncoding`](crate::definitions::base::minimal::HasEncoding). [How to read clauses](crate::definitions).
 fn write_names<A: Allocator, B: Sink>(
     items: &[NameItem<'_, A>],
     sink: &mut B,
@@ -1026,18 +1033,18 @@ fn write_names<A: Allocator, B: Sink>(
 ///
 /// # Proved
 ///
-/// After `Ok`: `ok`, the sink gains the minimal encoding. After an error: `err`, the bytes of the sink are unchanged. In any case: `too_long`, a value that has an encoding never gives `TooLong`.
+/// After `Ok`: `ok`, the sink gains the encoding that is minimal in both grammars. After an error: `err`, the bytes of the sink are unchanged. In any case: `too_long`, a value that has an encoding never gives `TooLong`.
 ///
 /// ```text
 /// ensures ok { OnOk result
-///     (AppendsMinimal name_payload
+///     (AppendsMinimal both_grammars name_payload
 ///         (map name_item_view items.now) sink.old.items sink.new.items) }
 /// ensures err { OnErr result (sink.new.items ≡ sink.old.items) }
-/// ensures too_long { HasEncoding name_payload (map name_item_view items.now)
+/// ensures too_long { HasEncoding both_grammars name_payload (map name_item_view items.now)
 ///     → result ≢ Err TooLong }
 /// ```
 ///
-/// Definitions: [`AppendsMinimal`](crate::definitions::base::minimal::AppendsMinimal), [`name_payload`](crate::definitions::custom::names::name_payload), [`name_item_view`](crate::definitions::custom::names::name_item_view), [`HasEncoding`](crate::definitions::base::minimal::HasEncoding). [How to read clauses](crate::definitions).
+/// Definitions: [`AppendsMinimal`](crate::definitions::base::minimal::AppendsMinimal), [`both_grammars`](crate::definitions::base::minimal::Grammars), [`name_payload`](crate::definitions::custom::names::name_payload), [`name_item_view`](crate::definitions::custom::names::name_item_view), [`HasEncoding`](crate::definitions::base::minimal::HasEncoding). [How to read clauses](crate::definitions).
 pub fn append_names<A: Allocator, B: Sink>(
     items: &[NameItem<'_, A>],
     sink: &mut B,

@@ -250,7 +250,7 @@ impl<'a, A: Allocator + Copy + 'a, G: Grammar> DecodesItems<
 ///
 /// # Proved
 ///
-/// After `Ok`: `found`. After an error: `none`, the bytes as a whole are no such encoding, unless the cause is `Memory`.
+/// After `Ok`: `found`, the bytes as a whole encode the value. After an error: `none`, the bytes as a whole are no such encoding, unless the cause is `Memory`.
 ///
 /// ```text
 /// ensures found { IfOk result
@@ -291,18 +291,18 @@ pub fn read_producers<'a, A: Allocator + Copy + 'a, G: Grammar>(
 ///
 /// # Proved
 ///
-/// After `Ok`: `ok`, the sink gains the minimal encoding. After an error: `err`, the bytes of the sink are unchanged. In any case: `too_long`, a value that has an encoding never gives `TooLong`.
+/// After `Ok`: `ok`, the sink gains the encoding that is minimal in both grammars. After an error: `err`, the bytes of the sink are unchanged. In any case: `too_long`, a value that has an encoding never gives `TooLong`.
 ///
 /// ```text
 /// ensures ok { OnOk result
-///     (AppendsMinimal producers_payload
+///     (AppendsMinimal both_grammars producers_payload
 ///         (map field_view fields.now.items) sink.old.items sink.new.items) }
 /// ensures err { OnErr result (sink.new.items ≡ sink.old.items) }
-/// ensures too_long { HasEncoding producers_payload (map field_view fields.now.items)
-///     → result ≢ Err TooLong }
+/// ensures too_long { HasEncoding both_grammars producers_payload
+///     (map field_view fields.now.items) → result ≢ Err TooLong }
 /// ```
 ///
-/// Definitions: [`AppendsMinimal`](crate::definitions::base::minimal::AppendsMinimal), [`producers_payload`](crate::definitions::custom::producers::producers_payload), [`field_view`](crate::definitions::custom::producers::field_view), [`HasEncoding`](crate::definitions::base::minimal::HasEncoding). [How to read clauses](crate::definitions).
+/// Definitions: [`AppendsMinimal`](crate::definitions::base::minimal::AppendsMinimal), [`both_grammars`](crate::definitions::base::minimal::Grammars), [`producers_payload`](crate::definitions::custom::producers::producers_payload), [`field_view`](crate::definitions::custom::producers::field_view), [`HasEncoding`](crate::definitions::base::minimal::HasEncoding). [How to read clauses](crate::definitions).
 pub fn append_producers<'a, A: Allocator, B: Sink>(
     fields: &Vec<(&'a str, Vec<(&'a str, &'a str), A>), A>,
     sink: &mut B,

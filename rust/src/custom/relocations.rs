@@ -317,7 +317,7 @@ impl<A: Allocator + Copy> RelocationSection<A> {
     ///
     /// # Proved
     ///
-    /// After `Ok`: `is`. In any case: `memory`, no error is `TooLong`.
+    /// After `Ok`: `is`, the section is that of this section name and index, without relocations. In any case: `memory`, no error is `TooLong`.
     ///
     /// ```text
     /// ensures is { IfOk result
@@ -396,7 +396,7 @@ impl<A: Allocator> RelocationSection<A> {
     /// # Proved
     ///
     /// - `adds`: The builder gains one entry with this encoding, or the call returns an error and changes nothing. A full builder, with 2^32 - 1 entries, returns `TooLong`.
-    /// - In any case: `same_section`.
+    /// - `same_section`: the part before the entries is unchanged.
     ///
     /// ```text
     /// ensures adds { Adds (relocation_encoding relocation) ⊤ self.old.1 self.new.1 result }
@@ -416,7 +416,7 @@ impl<A: Allocator> RelocationSection<A> {
     ///
     /// # Proved
     ///
-    /// After `Ok`: `same`. In any case: `memory`, no error is `TooLong`.
+    /// After `Ok`: `same`, the result has the name and the data of the section. In any case: `memory`, no error is `TooLong`.
     ///
     /// ```text
     /// ensures same { IfOk result
@@ -519,6 +519,13 @@ impl Layout for RelocationKind {
     fn laws() {}
 }
 
+/// # Defined
+///
+/// ```text
+/// may_allocate = { ⊥ }
+/// ```
+///
+/// [How to read clauses](crate::definitions).
 impl<'a, A: Allocator + Copy, G: Grammar> Readable<'a, A, G> for RelocationKind {
     fn read(bytes: &'a [u8], alloc: A) -> Result<(RelocationKind, &'a [u8]), DecodeError> {
         let (code, rest) = <u8 as Readable<'a, A, G>>::read(bytes, alloc)?;
@@ -569,6 +576,13 @@ impl Layout for Relocation {
     fn laws() {}
 }
 
+/// # Defined
+///
+/// ```text
+/// may_allocate = { ⊥ }
+/// ```
+///
+/// [How to read clauses](crate::definitions).
 impl<'a, A: Allocator + Copy, G: Grammar> Readable<'a, A, G> for Relocation {
     fn read(bytes: &'a [u8], alloc: A) -> Result<(Relocation, &'a [u8]), DecodeError> {
         let (kind, rest) = <RelocationKind as Readable<'a, A, G>>::read(bytes, alloc)?;
@@ -606,6 +620,13 @@ impl<'a, A: Allocator + Copy, G: Grammar> Readable<'a, A, G> for Relocation {
     }
 }
 
+/// # Defined
+///
+/// ```text
+/// grammars = { both_grammars }
+/// ```
+///
+/// Definitions: [`both_grammars`](crate::definitions::base::minimal::Grammars). [How to read clauses](crate::definitions).
 impl Shorten for Relocation {
     fn write_minimal<B: Sink>(&self, sink: &mut B) -> Result<()> {
         self.encode(sink)
@@ -637,7 +658,7 @@ impl Shorten for Relocation {
 ///
 /// # Proved
 ///
-/// After `Ok`: `found`. After an error: `none`, the bytes as a whole are no such encoding, unless the cause is `Memory`.
+/// After `Ok`: `found`, the bytes as a whole encode the value. After an error: `none`, the bytes as a whole are no such encoding, unless the cause is `Memory`.
 ///
 /// ```text
 /// ensures found { IfOk result
@@ -667,20 +688,20 @@ pub fn read_relocations<'a, A: Allocator + Copy, G: Grammar>(
 ///
 /// # Proved
 ///
-/// - After `Ok`, `ok`: the sink gains the minimal encoding.
+/// - After `Ok`, `ok`: the sink gains the encoding that is minimal in both grammars.
 /// - `front`: The new bytes begin with the old ones.
 /// - `too_long`: a value that has an encoding never gives `TooLong`.
 ///
 /// ```text
 /// ensures ok { OnOk result
-///     (AppendsMinimal relocations_payload
+///     (AppendsMinimal both_grammars relocations_payload
 ///         (name.now, (section, relocations.now.items)) sink.old.items sink.new.items) }
 /// ensures front { IsFrontOf sink.old.items sink.new.items }
-/// ensures too_long { HasEncoding relocations_payload
+/// ensures too_long { HasEncoding both_grammars relocations_payload
 ///     (name.now, (section, relocations.now.items)) → result ≢ Err TooLong }
 /// ```
 ///
-/// Definitions: [`AppendsMinimal`](crate::definitions::base::minimal::AppendsMinimal), [`relocations_payload`](crate::definitions::custom::relocations::relocations_payload), [`IsFrontOf`](crate::definitions::base::minimal::IsFrontOf), [`HasEncoding`](crate::definitions::base::minimal::HasEncoding). [How to read clauses](crate::definitions).
+/// Definitions: [`AppendsMinimal`](crate::definitions::base::minimal::AppendsMinimal), [`both_grammars`](crate::definitions::base::minimal::Grammars), [`relocations_payload`](crate::definitions::custom::relocations::relocations_payload), [`IsFrontOf`](crate::definitions::base::minimal::IsFrontOf), [`HasEncoding`](crate::definitions::base::minimal::HasEncoding). [How to read clauses](crate::definitions).
 fn write_relocations<A: Allocator, B: Sink>(
     name: &str,
     section: u32,
@@ -715,18 +736,18 @@ fn write_relocations<A: Allocator, B: Sink>(
 ///
 /// # Proved
 ///
-/// After `Ok`: `ok`, the sink gains the minimal encoding. After an error: `err`, the bytes of the sink are unchanged. In any case: `too_long`, a value that has an encoding never gives `TooLong`.
+/// After `Ok`: `ok`, the sink gains the encoding that is minimal in both grammars. After an error: `err`, the bytes of the sink are unchanged. In any case: `too_long`, a value that has an encoding never gives `TooLong`.
 ///
 /// ```text
 /// ensures ok { OnOk result
-///     (AppendsMinimal relocations_payload
+///     (AppendsMinimal both_grammars relocations_payload
 ///         (name.now, (section, relocations.now.items)) sink.old.items sink.new.items) }
 /// ensures err { OnErr result (sink.new.items ≡ sink.old.items) }
-/// ensures too_long { HasEncoding relocations_payload
+/// ensures too_long { HasEncoding both_grammars relocations_payload
 ///     (name.now, (section, relocations.now.items)) → result ≢ Err TooLong }
 /// ```
 ///
-/// Definitions: [`AppendsMinimal`](crate::definitions::base::minimal::AppendsMinimal), [`relocations_payload`](crate::definitions::custom::relocations::relocations_payload), [`HasEncoding`](crate::definitions::base::minimal::HasEncoding). [How to read clauses](crate::definitions).
+/// Definitions: [`AppendsMinimal`](crate::definitions::base::minimal::AppendsMinimal), [`both_grammars`](crate::definitions::base::minimal::Grammars), [`relocations_payload`](crate::definitions::custom::relocations::relocations_payload), [`HasEncoding`](crate::definitions::base::minimal::HasEncoding). [How to read clauses](crate::definitions).
 pub fn append_relocations<A: Allocator, B: Sink>(
     name: &str,
     section: u32,

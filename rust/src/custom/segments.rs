@@ -129,6 +129,13 @@ impl<'a> Layout for SegmentInfo<'a> {
     fn laws() {}
 }
 
+/// # Defined
+///
+/// ```text
+/// may_allocate = { ⊥ }
+/// ```
+///
+/// [How to read clauses](crate::definitions).
 impl<'a, A: Allocator + Copy, G: Grammar> Readable<'a, A, G> for SegmentInfo<'a> {
     fn read(bytes: &'a [u8], alloc: A) -> Result<(SegmentInfo<'a>, &'a [u8]), DecodeError> {
         let ((name, (alignment, flags)), rest) = <(&'a str, (u32, u32)) as Readable<
@@ -145,6 +152,13 @@ impl<'a, A: Allocator + Copy, G: Grammar> Readable<'a, A, G> for SegmentInfo<'a>
     }
 }
 
+/// # Defined
+///
+/// ```text
+/// grammars = { both_grammars }
+/// ```
+///
+/// Definitions: [`both_grammars`](crate::definitions::base::minimal::Grammars). [How to read clauses](crate::definitions).
 impl<'a> Shorten for SegmentInfo<'a> {
     fn write_minimal<B: Sink>(&self, sink: &mut B) -> Result<()> {
         self.name.write_minimal(sink)?;

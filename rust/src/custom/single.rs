@@ -39,7 +39,7 @@ pub(crate) fn encode_single<A: Sink>(
 ///
 /// # Proved
 ///
-/// After `Ok`: `found`. After an error: `none`, the bytes as a whole are no such encoding, unless the cause is `Memory`.
+/// After `Ok`: `found`, the bytes as a whole encode the value. After an error: `none`, the bytes as a whole are no such encoding, unless the cause is `Memory`.
 ///
 /// ```text
 /// ensures found { IfOk result
@@ -47,6 +47,7 @@ pub(crate) fn encode_single<A: Sink>(
 /// ensures none { IfErr result
 ///     (λ e. e.cause ≢ Memory → RejectsWhole (named_payload name.now T.format)
 ///         (padded_of G.grammar) bytes.now) }
+/// ensures no_memory { IfErr result (λ e. e.cause ≡ Memory → T.may_allocate) }
 /// ```
 ///
 /// Definitions: [`named_payload`](crate::definitions::custom::customs::named_payload), [`padded_of`](crate::definitions::base::numbers::padded_of), [`RejectsWhole`](crate::definitions::base::continuing::RejectsWhole). [How to read clauses](crate::definitions).
@@ -65,17 +66,17 @@ pub(crate) fn read_single<'a, T: Readable<'a, A, G>, A: Allocator + Copy, G: Gra
 ///
 /// # Proved
 ///
-/// - After `Ok`, `ok`: the sink gains the minimal encoding.
+/// - After `Ok`, `ok`: the sink gains the encoding that is minimal in the `grammars` of the type.
 /// - `front`: The new bytes begin with the old ones.
 /// - `too_long`: a value that has an encoding never gives `TooLong`.
 ///
 /// ```text
 /// ensures ok { OnOk result
-///     (AppendsMinimal (named_payload name.now T.format)
+///     (AppendsMinimal T.grammars (named_payload name.now T.format)
 ///         (T.view value.now) sink.old.items sink.new.items) }
 /// ensures front { IsFrontOf sink.old.items sink.new.items }
-/// ensures too_long { HasEncoding (named_payload name.now T.format) (T.view value.now)
-///     → result ≢ Err TooLong }
+/// ensures too_long { HasEncoding T.grammars (named_payload name.now T.format)
+///     (T.view value.now) → result ≢ Err TooLong }
 /// ```
 ///
 /// Definitions: [`AppendsMinimal`](crate::definitions::base::minimal::AppendsMinimal), [`named_payload`](crate::definitions::custom::customs::named_payload), [`IsFrontOf`](crate::definitions::base::minimal::IsFrontOf), [`HasEncoding`](crate::definitions::base::minimal::HasEncoding). [How to read clauses](crate::definitions).
@@ -93,15 +94,15 @@ fn write_single<T: Shorten, B: Sink>(
 ///
 /// # Proved
 ///
-/// After `Ok`: `ok`, the sink gains the minimal encoding. After an error: `err`, the bytes of the sink are unchanged. In any case: `too_long`, a value that has an encoding never gives `TooLong`.
+/// After `Ok`: `ok`, the sink gains the encoding that is minimal in the `grammars` of the type. After an error: `err`, the bytes of the sink are unchanged. In any case: `too_long`, a value that has an encoding never gives `TooLong`.
 ///
 /// ```text
 /// ensures ok { OnOk result
-///     (AppendsMinimal (named_payload name.now T.format)
+///     (AppendsMinimal T.grammars (named_payload name.now T.format)
 ///         (T.view value.now) sink.old.items sink.new.items) }
 /// ensures err { OnErr result (sink.new.items ≡ sink.old.items) }
-/// ensures too_long { HasEncoding (named_payload name.now T.format) (T.view value.now)
-///     → result ≢ Err TooLong }
+/// ensures too_long { HasEncoding T.grammars (named_payload name.now T.format)
+///     (T.view value.now) → result ≢ Err TooLong }
 /// ```
 ///
 /// Definitions: [`AppendsMinimal`](crate::definitions::base::minimal::AppendsMinimal), [`named_payload`](crate::definitions::custom::customs::named_payload), [`HasEncoding`](crate::definitions::base::minimal::HasEncoding). [How to read clauses](crate::definitions).

@@ -23,7 +23,7 @@ use crate::base::{DecodeError, Dropped, Grammar, Readable, SizePrefixed, Skip};
 ///
 /// # Proved
 ///
-/// After `Ok`: `found`. After an error: `none`, the bytes do not begin with such an encoding, unless the cause is `Memory`.
+/// After `Ok`: `found`, the bytes begin with such an encoding, and the returned bytes follow it. After an error: `none`, the bytes do not begin with such an encoding, unless the cause is `Memory`.
 ///
 /// ```text
 /// ensures found { IfOk result
@@ -33,6 +33,7 @@ use crate::base::{DecodeError, Dropped, Grammar, Readable, SizePrefixed, Skip};
 /// ensures none { IfErr result
 ///     (λ e. e.cause ≢ Memory → Rejects (size_prefixed (vec P.format))
 ///         (padded_of G.grammar) bytes.now) }
+/// ensures no_memory { IfErr result (λ e. e.cause ≡ Memory → P.may_allocate) }
 /// ```
 ///
 /// Definitions: [`Decodes`](crate::definitions::base::decoding::Decodes), [`size_prefixed`](crate::definitions::base::formats::size_prefixed), [`vec`](crate::definitions::base::formats::vec), [`padded_of`](crate::definitions::base::numbers::padded_of), [`Rejects`](crate::definitions::base::decoding::Rejects). [How to read clauses](crate::definitions).
@@ -47,7 +48,7 @@ fn skip_vector<'a, P: Skip<'a, A, G>, A: Allocator + Copy, G: Grammar>(
 ///
 /// # Proved
 ///
-/// After `Ok`: `found`. After an error: `none`, the bytes do not begin with such an encoding, unless the cause is `Memory`.
+/// After `Ok`: `found`, the bytes begin with such an encoding, and the returned bytes follow it. After an error: `none`, the bytes do not begin with such an encoding, unless the cause is `Memory`.
 ///
 /// ```text
 /// ensures found { IfOk result
@@ -57,6 +58,7 @@ fn skip_vector<'a, P: Skip<'a, A, G>, A: Allocator + Copy, G: Grammar>(
 /// ensures none { IfErr result
 ///     (λ e. e.cause ≢ Memory → Rejects (after_id (kind_as kind) id)
 ///         (padded_of G.grammar) bytes.now) }
+/// ensures no_memory { IfErr result (λ e. e.cause ≢ Memory) }
 /// ```
 ///
 /// Definitions: [`NameModel`](crate::definitions::custom::names::NameItem), [`Decodes`](crate::definitions::base::decoding::Decodes), [`after_id`](crate::definitions::custom::names::after_id), [`kind_as`](crate::definitions::custom::names::kind_as), [`padded_of`](crate::definitions::base::numbers::padded_of), [`Rejects`](crate::definitions::base::decoding::Rejects). [How to read clauses](crate::definitions).

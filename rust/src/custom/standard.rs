@@ -8,11 +8,12 @@ use crate::base::{DecodeError, Grammar, ReadFault};
 ///
 /// # Proved
 ///
-/// After `Ok`: `found`. After an error: `none`.
+/// After `Ok`: `found`, the grammar is the standard's. After an error: `none`, the grammar is the builders'.
 ///
 /// ```text
 /// ensures found { IfOk result (λ _. is_admitted G.grammar ≡ true) }
 /// ensures none { IfErr result (λ _. is_admitted G.grammar ≡ false) }
+/// ensures no_memory { IfErr result (λ e. e.cause ≢ Memory) }
 /// ```
 ///
 /// Definitions: [`is_admitted`](crate::definitions::base::numbers::is_admitted). [How to read clauses](crate::definitions).

@@ -87,7 +87,7 @@ fn encode_content<T: Content, A: Sink>(sink: &mut A, content: &T) -> Result<()> 
 ///
 /// # Proved
 ///
-/// In any case: `same`; `memory`, no error is `TooLong`; `spare`; `capacity`, the capacity does not shrink.
+/// In any case: `memory`, no error is `TooLong`; `spare`, the call succeeds if the size fits 32 bits and the bytes fit the spare capacity; `capacity`, the capacity does not shrink.
 ///
 /// ```text
 /// ensures same { sink.new.items ≡ sink.old.items }

@@ -475,6 +475,7 @@ fn has_definition(flags: u32) -> bool {
 /// ensures none { IfErr result
 ///     (λ e. e.cause ≢ Memory → Rejects (indexed_symbol kind)
 ///         (padded_of G.grammar) bytes.now) }
+/// ensures no_memory { IfErr result (λ e. e.cause ≢ Memory) }
 /// ```
 ///
 /// Definitions: [`Decodes`](crate::definitions::base::decoding::Decodes), [`indexed_symbol`](crate::definitions::custom::symbols::indexed_symbol), [`padded_of`](crate::definitions::base::numbers::padded_of), [`symbol_view`](crate::definitions::custom::symbols::symbol_view), [`Rejects`](crate::definitions::base::decoding::Rejects). [How to read clauses](crate::definitions).
@@ -508,6 +509,13 @@ impl Layout for DataSymbolDefinition {
     fn laws() {}
 }
 
+/// # Defined
+///
+/// ```text
+/// may_allocate = { ⊥ }
+/// ```
+///
+/// [How to read clauses](crate::definitions).
 impl<'a, A: Allocator + Copy, G: Grammar> Readable<'a, A, G> for DataSymbolDefinition {
     fn read(bytes: &'a [u8], alloc: A) -> Result<(DataSymbolDefinition, &'a [u8]), DecodeError> {
         let ((index, (offset, size)), rest) = <(u32, (u32, u32)) as Readable<'a, A, G>>::read(
@@ -535,6 +543,7 @@ impl<'a, A: Allocator + Copy, G: Grammar> Readable<'a, A, G> for DataSymbolDefin
 /// ensures none { IfErr result
 ///     (λ e. e.cause ≢ Memory → Rejects (optional given definition_format)
 ///         (padded_of G.grammar) bytes.now) }
+/// ensures no_memory { IfErr result (λ e. e.cause ≢ Memory) }
 /// ```
 ///
 /// Definitions: [`Decodes`](crate::definitions::base::decoding::Decodes), [`optional`](crate::definitions::base::formats::optional), [`definition_format`](crate::definitions::custom::symbols::definition), [`padded_of`](crate::definitions::base::numbers::padded_of), [`Rejects`](crate::definitions::base::decoding::Rejects). [How to read clauses](crate::definitions).
@@ -563,6 +572,7 @@ fn read_definition<'a, A: Allocator + Copy, G: Grammar>(
 ///     }
 /// ensures none { IfErr result
 ///     (λ e. e.cause ≢ Memory → Rejects data_symbol (padded_of G.grammar) bytes.now) }
+/// ensures no_memory { IfErr result (λ e. e.cause ≢ Memory) }
 /// ```
 ///
 /// Definitions: [`Decodes`](crate::definitions::base::decoding::Decodes), [`data_symbol`](crate::definitions::custom::symbols::data_symbol), [`padded_of`](crate::definitions::base::numbers::padded_of), [`symbol_view`](crate::definitions::custom::symbols::symbol_view), [`Rejects`](crate::definitions::base::decoding::Rejects). [How to read clauses](crate::definitions).
@@ -595,6 +605,7 @@ fn read_data<'a, A: Allocator + Copy, G: Grammar>(
 ///         (symbol_view x.0) x.1.now) }
 /// ensures none { IfErr result
 ///     (λ e. e.cause ≢ Memory → Rejects section_symbol (padded_of G.grammar) bytes.now) }
+/// ensures no_memory { IfErr result (λ e. e.cause ≢ Memory) }
 /// ```
 ///
 /// Definitions: [`Decodes`](crate::definitions::base::decoding::Decodes), [`section_symbol`](crate::definitions::custom::symbols::section_symbol), [`padded_of`](crate::definitions::base::numbers::padded_of), [`symbol_view`](crate::definitions::custom::symbols::symbol_view), [`Rejects`](crate::definitions::base::decoding::Rejects). [How to read clauses](crate::definitions).
@@ -629,6 +640,13 @@ impl<'a> Layout for Symbol<'a> {
     fn laws() {}
 }
 
+/// # Defined
+///
+/// ```text
+/// may_allocate = { ⊥ }
+/// ```
+///
+/// [How to read clauses](crate::definitions).
 impl<'a, A: Allocator + Copy, G: Grammar> Readable<'a, A, G> for Symbol<'a> {
     fn read(bytes: &'a [u8], alloc: A) -> Result<(Symbol<'a>, &'a [u8]), DecodeError> {
         let (kind, rest) = <u8 as Readable<'a, A, G>>::read(bytes, alloc)?;
@@ -668,20 +686,20 @@ impl<'a, A: Allocator + Copy, G: Grammar> Readable<'a, A, G> for Symbol<'a> {
 ///
 /// # Proved
 ///
-/// - After `Ok`, `ok`: the sink gains the minimal encoding.
+/// - After `Ok`, `ok`: the sink gains the encoding that is minimal in both grammars.
 /// - `front`: The new bytes begin with the old ones.
 /// - `too_long`: a value that has an encoding never gives `TooLong`.
 ///
 /// ```text
 /// ensures ok { OnOk result
-///     (AppendsMinimal (optional (flags_name flags) name_format)
+///     (AppendsMinimal both_grammars (optional (flags_name flags) name_format)
 ///         (option_map (λ n. n.now) name.entry) sink.old.items sink.new.items) }
 /// ensures front { IsFrontOf sink.old.items sink.new.items }
-/// ensures too_long { HasEncoding (optional (flags_name flags) name_format)
+/// ensures too_long { HasEncoding both_grammars (optional (flags_name flags) name_format)
 ///     (option_map (λ n. n.now) name.entry) → result ≢ Err TooLong }
 /// ```
 ///
-/// Definitions: [`AppendsMinimal`](crate::definitions::base::minimal::AppendsMinimal), [`optional`](crate::definitions::base::formats::optional), [`flags_name`](crate::definitions::custom::symbols::has_name), [`name_format`](crate::definitions::base::formats::name), [`IsFrontOf`](crate::definitions::base::minimal::IsFrontOf), [`HasEncoding`](crate::definitions::base::minimal::HasEncoding). [How to read clauses](crate::definitions).
+/// Definitions: [`AppendsMinimal`](crate::definitions::base::minimal::AppendsMinimal), [`both_grammars`](crate::definitions::base::minimal::Grammars), [`optional`](crate::definitions::base::formats::optional), [`flags_name`](crate::definitions::custom::symbols::has_name), [`name_format`](crate::definitions::base::formats::name), [`IsFrontOf`](crate::definitions::base::minimal::IsFrontOf), [`HasEncoding`](crate::definitions::base::minimal::HasEncoding). [How to read clauses](crate::definitions).
 fn append_name<B: Sink>(flags: u32, name: Option<&str>, sink: &mut B) -> Result<()> {
     match name {
         Some(name) => name.write_minimal(sink),
@@ -693,22 +711,23 @@ fn append_name<B: Sink>(flags: u32, name: Option<&str>, sink: &mut B) -> Result<
 ///
 /// # Proved
 ///
-/// - After `Ok`, `ok`: the sink gains the minimal encoding.
+/// - After `Ok`, `ok`: the sink gains the encoding that is minimal in both grammars.
 /// - `front`: The new bytes begin with the old ones.
 /// - `too_long`: a value that has an encoding never gives `TooLong`.
 ///
 /// ```text
 /// ensures ok { OnOk result
-///     (AppendsMinimal (prefixed (kind_code kind ∷ []) (indexed_symbol kind))
+///     (AppendsMinimal both_grammars (prefixed (kind_code kind ∷ []) (indexed_symbol kind))
 ///         (indexed kind flags index (option_map (λ n. n.now) name.entry)) sink.old.items
 ///         sink.new.items) }
 /// ensures front { IsFrontOf sink.old.items sink.new.items }
-/// ensures too_long { HasEncoding (prefixed (kind_code kind ∷ []) (indexed_symbol kind))
+/// ensures too_long { HasEncoding both_grammars
+///     (prefixed (kind_code kind ∷ []) (indexed_symbol kind))
 ///     (indexed kind flags index (option_map (λ n. n.now) name.entry))
 ///     → result ≢ Err TooLong }
 /// ```
 ///
-/// Definitions: [`AppendsMinimal`](crate::definitions::base::minimal::AppendsMinimal), [`prefixed`](crate::definitions::base::formats::prefixed), [`kind_code`](crate::definitions::custom::symbols::kind_code), [`indexed_symbol`](crate::definitions::custom::symbols::indexed_symbol), [`indexed`](crate::definitions::custom::symbols::Symbol), [`IsFrontOf`](crate::definitions::base::minimal::IsFrontOf), [`HasEncoding`](crate::definitions::base::minimal::HasEncoding). [How to read clauses](crate::definitions).
+/// Definitions: [`AppendsMinimal`](crate::definitions::base::minimal::AppendsMinimal), [`both_grammars`](crate::definitions::base::minimal::Grammars), [`prefixed`](crate::definitions::base::formats::prefixed), [`kind_code`](crate::definitions::custom::symbols::kind_code), [`indexed_symbol`](crate::definitions::custom::symbols::indexed_symbol), [`indexed`](crate::definitions::custom::symbols::Symbol), [`IsFrontOf`](crate::definitions::base::minimal::IsFrontOf), [`HasEncoding`](crate::definitions::base::minimal::HasEncoding). [How to read clauses](crate::definitions).
 fn append_indexed<B: Sink>(
     kind: SymbolKind,
     flags: u32,
@@ -726,21 +745,22 @@ fn append_indexed<B: Sink>(
 ///
 /// # Proved
 ///
-/// - After `Ok`, `ok`: the sink gains the minimal encoding.
+/// - After `Ok`, `ok`: the sink gains the encoding that is minimal in both grammars.
 /// - `front`: The new bytes begin with the old ones.
 /// - `too_long`: a value that has an encoding never gives `TooLong`.
 ///
 /// ```text
 /// ensures ok { OnOk result
-///     (AppendsMinimal (optional (flags_definition flags) definition_format) definition
-///         sink.old.items sink.new.items) }
+///     (AppendsMinimal both_grammars
+///         (optional (flags_definition flags) definition_format) definition sink.old.items
+///         sink.new.items) }
 /// ensures front { IsFrontOf sink.old.items sink.new.items }
-/// ensures too_long { HasEncoding
+/// ensures too_long { HasEncoding both_grammars
 ///     (optional (flags_definition flags) definition_format) definition
 ///     → result ≢ Err TooLong }
 /// ```
 ///
-/// Definitions: [`AppendsMinimal`](crate::definitions::base::minimal::AppendsMinimal), [`optional`](crate::definitions::base::formats::optional), [`flags_definition`](crate::definitions::custom::symbols::has_definition), [`definition_format`](crate::definitions::custom::symbols::definition), [`IsFrontOf`](crate::definitions::base::minimal::IsFrontOf), [`HasEncoding`](crate::definitions::base::minimal::HasEncoding). [How to read clauses](crate::definitions).
+/// Definitions: [`AppendsMinimal`](crate::definitions::base::minimal::AppendsMinimal), [`both_grammars`](crate::definitions::base::minimal::Grammars), [`optional`](crate::definitions::base::formats::optional), [`flags_definition`](crate::definitions::custom::symbols::has_definition), [`definition_format`](crate::definitions::custom::symbols::definition), [`IsFrontOf`](crate::definitions::base::minimal::IsFrontOf), [`HasEncoding`](crate::definitions::base::minimal::HasEncoding). [How to read clauses](crate::definitions).
 fn append_definition<B: Sink>(
     flags: u32,
     definition: Option<DataSymbolDefinition>,
@@ -756,20 +776,20 @@ fn append_definition<B: Sink>(
 ///
 /// # Proved
 ///
-/// - After `Ok`, `ok`: the sink gains the minimal encoding.
+/// - After `Ok`, `ok`: the sink gains the encoding that is minimal in both grammars.
 /// - `front`: The new bytes begin with the old ones.
 /// - `too_long`: a value that has an encoding never gives `TooLong`.
 ///
 /// ```text
 /// ensures ok { OnOk result
-///     (AppendsMinimal (prefixed (0x01 ∷ []) data_symbol)
+///     (AppendsMinimal both_grammars (prefixed (0x01 ∷ []) data_symbol)
 ///         (of_data flags name.now definition) sink.old.items sink.new.items) }
 /// ensures front { IsFrontOf sink.old.items sink.new.items }
-/// ensures too_long { HasEncoding (prefixed (0x01 ∷ []) data_symbol)
+/// ensures too_long { HasEncoding both_grammars (prefixed (0x01 ∷ []) data_symbol)
 ///     (of_data flags name.now definition) → result ≢ Err TooLong }
 /// ```
 ///
-/// Definitions: [`AppendsMinimal`](crate::definitions::base::minimal::AppendsMinimal), [`prefixed`](crate::definitions::base::formats::prefixed), [`data_symbol`](crate::definitions::custom::symbols::data_symbol), [`of_data`](crate::definitions::custom::symbols::Symbol), [`IsFrontOf`](crate::definitions::base::minimal::IsFrontOf), [`HasEncoding`](crate::definitions::base::minimal::HasEncoding). [How to read clauses](crate::definitions).
+/// Definitions: [`AppendsMinimal`](crate::definitions::base::minimal::AppendsMinimal), [`both_grammars`](crate::definitions::base::minimal::Grammars), [`prefixed`](crate::definitions::base::formats::prefixed), [`data_symbol`](crate::definitions::custom::symbols::data_symbol), [`of_data`](crate::definitions::custom::symbols::Symbol), [`IsFrontOf`](crate::definitions::base::minimal::IsFrontOf), [`HasEncoding`](crate::definitions::base::minimal::HasEncoding). [How to read clauses](crate::definitions).
 fn append_data<B: Sink>(
     flags: u32,
     name: &str,
@@ -786,19 +806,19 @@ fn append_data<B: Sink>(
 ///
 /// # Proved
 ///
-/// - After `Ok`, `ok`: the sink gains the minimal encoding.
+/// - After `Ok`, `ok`: the sink gains the encoding that is minimal in both grammars.
 /// - `front`: The new bytes begin with the old ones.
 /// - `too_long`: no error is `TooLong`.
 ///
 /// ```text
 /// ensures ok { OnOk result
-///     (AppendsMinimal (prefixed (0x03 ∷ []) section_symbol)
+///     (AppendsMinimal both_grammars (prefixed (0x03 ∷ []) section_symbol)
 ///         (of_section flags section) sink.old.items sink.new.items) }
 /// ensures front { IsFrontOf sink.old.items sink.new.items }
 /// ensures too_long { result ≢ Err TooLong }
 /// ```
 ///
-/// Definitions: [`AppendsMinimal`](crate::definitions::base::minimal::AppendsMinimal), [`prefixed`](crate::definitions::base::formats::prefixed), [`section_symbol`](crate::definitions::custom::symbols::section_symbol), [`of_section`](crate::definitions::custom::symbols::Symbol), [`IsFrontOf`](crate::definitions::base::minimal::IsFrontOf). [How to read clauses](crate::definitions).
+/// Definitions: [`AppendsMinimal`](crate::definitions::base::minimal::AppendsMinimal), [`both_grammars`](crate::definitions::base::minimal::Grammars), [`prefixed`](crate::definitions::base::formats::prefixed), [`section_symbol`](crate::definitions::custom::symbols::section_symbol), [`of_section`](crate::definitions::custom::symbols::Symbol), [`IsFrontOf`](crate::definitions::base::minimal::IsFrontOf). [How to read clauses](crate::definitions).
 fn append_section<B: Sink>(flags: u32, section: u32, sink: &mut B) -> Result<()> {
     0x03u8.encode(sink)?;
     flags.write_minimal(sink)?;
@@ -811,20 +831,20 @@ impl Symbol<'_> {
     ///
     /// # Proved
     ///
-    /// - After `Ok`, `ok`, `full`: the sink gains the minimal encoding.
+    /// - After `Ok`, `ok`: the sink gains the encoding that is minimal in both grammars.
     /// - `front`: The new bytes begin with the old ones.
     /// - `too_long`: a value that has an encoding never gives `TooLong`.
     ///
     /// ```text
     /// ensures ok { OnOk result
-    ///     (AppendsMinimal symbol (symbol_view self.now) sink.old.items sink.new.items) }
-    /// ensures full { OnOk result
-    ///     (AppendsMinimal full_symbol (symbol_view self.now) sink.old.items sink.new.items) }
+    ///     (AppendsMinimal both_grammars symbol
+    ///         (symbol_view self.now) sink.old.items sink.new.items) }
     /// ensures front { IsFrontOf sink.old.items sink.new.items }
-    /// ensures too_long { HasEncoding symbol (symbol_view self.now) → result ≢ Err TooLong }
+    /// ensures too_long { HasEncoding both_grammars symbol (symbol_view self.now)
+    ///     → result ≢ Err TooLong }
     /// ```
     ///
-    /// Definitions: [`AppendsMinimal`](crate::definitions::base::minimal::AppendsMinimal), [`symbol`](crate::definitions::custom::symbols::symbol), [`symbol_view`](crate::definitions::custom::symbols::symbol_view), [`full_symbol`](crate::definitions::custom::symbols::full_symbol), [`IsFrontOf`](crate::definitions::base::minimal::IsFrontOf), [`HasEncoding`](crate::definitions::base::minimal::HasEncoding). [How to read clauses](crate::definitions).
+    /// Definitions: [`AppendsMinimal`](crate::definitions::base::minimal::AppendsMinimal), [`both_grammars`](crate::definitions::base::minimal::Grammars), [`symbol`](crate::definitions::custom::symbols::symbol), [`symbol_view`](crate::definitions::custom::symbols::symbol_view), [`IsFrontOf`](crate::definitions::base::minimal::IsFrontOf), [`HasEncoding`](crate::definitions::base::minimal::HasEncoding). [How to read clauses](crate::definitions).
     pub(crate) fn append<B: Sink>(&self, sink: &mut B) -> Result<()> {
         match self.clone() {
             Symbol::Function { flags, index, name } => {
@@ -849,6 +869,13 @@ impl Symbol<'_> {
     }
 }
 
+/// # Defined
+///
+/// ```text
+/// grammars = { both_grammars }
+/// ```
+///
+/// Definitions: [`both_grammars`](crate::definitions::base::minimal::Grammars). [How to read clauses](crate::definitions).
 impl<'a> Shorten for Symbol<'a> {
     fn write_minimal<B: Sink>(&self, sink: &mut B) -> Result<()> {
         self.append(sink)

@@ -184,6 +184,13 @@ impl Layout for FeaturePrefix {
     fn laws() {}
 }
 
+/// # Defined
+///
+/// ```text
+/// may_allocate = { ⊥ }
+/// ```
+///
+/// [How to read clauses](crate::definitions).
 impl<'a, A: Allocator + Copy, G: Grammar> Readable<'a, A, G> for FeaturePrefix {
     fn read(bytes: &'a [u8], alloc: A) -> Result<(FeaturePrefix, &'a [u8]), DecodeError> {
         let (code, rest) = <u8 as Readable<'a, A, G>>::read(bytes, alloc)?;
@@ -196,6 +203,13 @@ impl<'a, A: Allocator + Copy, G: Grammar> Readable<'a, A, G> for FeaturePrefix {
     }
 }
 
+/// # Defined
+///
+/// ```text
+/// grammars = { both_grammars }
+/// ```
+///
+/// Definitions: [`both_grammars`](crate::definitions::base::minimal::Grammars). [How to read clauses](crate::definitions).
 impl Shorten for FeaturePrefix {
     fn write_minimal<B: Sink>(&self, sink: &mut B) -> Result<()> {
         self.encode(sink)
@@ -263,7 +277,7 @@ impl<'a, A: Allocator + Copy, G: Grammar> DecodesItems<'a, (FeaturePrefix, &'a s
 ///
 /// # Proved
 ///
-/// After `Ok`: `found`. After an error: `none`, the bytes as a whole are no such encoding, unless the cause is `Memory`.
+/// After `Ok`: `found`, the bytes as a whole encode the value. After an error: `none`, the bytes as a whole are no such encoding, unless the cause is `Memory`.
 ///
 /// ```text
 /// ensures found { IfOk result
@@ -303,18 +317,18 @@ pub fn read_features<'a, A: Allocator + Copy, G: Grammar>(
 ///
 /// # Proved
 ///
-/// After `Ok`: `ok`, the sink gains the minimal encoding. After an error: `err`, the bytes of the sink are unchanged. In any case: `too_long`, a value that has an encoding never gives `TooLong`.
+/// After `Ok`: `ok`, the sink gains the encoding that is minimal in both grammars. After an error: `err`, the bytes of the sink are unchanged. In any case: `too_long`, a value that has an encoding never gives `TooLong`.
 ///
 /// ```text
 /// ensures ok { OnOk result
-///     (AppendsMinimal features_payload
+///     (AppendsMinimal both_grammars features_payload
 ///         (map feature_view features.now) sink.old.items sink.new.items) }
 /// ensures err { OnErr result (sink.new.items ≡ sink.old.items) }
-/// ensures too_long { HasEncoding features_payload (map feature_view features.now)
-///     → result ≢ Err TooLong }
+/// ensures too_long { HasEncoding both_grammars features_payload
+///     (map feature_view features.now) → result ≢ Err TooLong }
 /// ```
 ///
-/// Definitions: [`AppendsMinimal`](crate::definitions::base::minimal::AppendsMinimal), [`features_payload`](crate::definitions::custom::target_features::features_payload), [`feature_view`](crate::definitions::custom::target_features::feature_view), [`HasEncoding`](crate::definitions::base::minimal::HasEncoding). [How to read clauses](crate::definitions).
+/// Definitions: [`AppendsMinimal`](crate::definitions::base::minimal::AppendsMinimal), [`both_grammars`](crate::definitions::base::minimal::Grammars), [`features_payload`](crate::definitions::custom::target_features::features_payload), [`feature_view`](crate::definitions::custom::target_features::feature_view), [`HasEncoding`](crate::definitions::base::minimal::HasEncoding). [How to read clauses](crate::definitions).
 pub fn append_features<'a, B: Sink>(
     features: &[(FeaturePrefix, &'a str)],
     sink: &mut B,

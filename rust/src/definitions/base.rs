@@ -1278,31 +1278,71 @@ pub trait laws {
 
 /// Calls that append the minimal encoding of a value, which was decoded before or is decoded by the call.
 ///
-/// - Formats of both grammars: [`Twins`](minimal::Twins), [`first_twin`](minimal::first_twin), [`second_twin`](minimal::second_twin), [`IsShared`](minimal::IsShared), [`AreSameInBoth`](minimal::AreSameInBoth).
-///
 /// [How to read definitions](super). The file is [`Minimal.antt`](https://github.com/dolzhytik/dolzhytik/blob/main/crates/wasm_base/specs/Minimal.antt).
 pub trait minimal {
-    /// The call appends bytes, which are the minimal encoding of `x` if any bytes decode to `x`.
+    /// The grammars whose minimal encodings a call writes.
     ///
     /// ```text
-    /// pub record AppendsMinimal {X : Type 0} (F : Format X) (x : X) (old new : List ℕ)
-    ///     : Type 0 where
+    /// pub data Grammars : Type 0 where
+    ///   builders_alone : Grammars
+    ///   both_grammars : Grammars
+    /// ```
+    type Grammars;
+    /// The grammar is one of them.
+    ///
+    /// ```text
+    /// abbrev pub Includes : Grammars → Grammar → Type 0
+    /// Includes builders_alone builders = Unit {0}
+    /// Includes builders_alone admitted = ⊥
+    /// Includes both_grammars w = Unit {0}
+    /// ```
+    ///
+    /// Definitions: [`Grammars`](minimal::Grammars), [`Grammar`](numbers::Grammar), [`builders_alone`](minimal::Grammars), [`builders`](numbers::Grammar), [`admitted`](numbers::Grammar), [`both_grammars`](minimal::Grammars).
+    type Includes;
+    /// What both of them include.
+    ///
+    /// ```text
+    /// abbrev pub common_grammars : Grammars → Grammars → Grammars
+    /// common_grammars builders_alone k = builders_alone
+    /// common_grammars both_grammars k = k
+    /// ```
+    ///
+    /// Definitions: [`Grammars`](minimal::Grammars), [`builders_alone`](minimal::Grammars), [`both_grammars`](minimal::Grammars).
+    type common_grammars;
+    /// In each of these grammars in which some bytes decode to `x`, `encoding` is the minimal encoding of `x`.
+    ///
+    /// ```text
+    /// abbrev pub IsMinimalEncoding
+    ///     : {X : Type 0} (k : Grammars) (F : Format X) (x : X) (encoding : List ℕ) → Type 0
+    /// IsMinimalEncoding k F x encoding = (w : Grammar) → Includes k w → (s : List ℕ)
+    ///     → F (padded_of w) s x → F (minimal_of w) encoding x
+    /// ```
+    ///
+    /// Definitions: [`Grammars`](minimal::Grammars), [`Format`](formats::Format), [`Grammar`](numbers::Grammar), [`Includes`](minimal::Includes), [`padded_of`](numbers::padded_of), [`minimal_of`](numbers::minimal_of).
+    type IsMinimalEncoding;
+    /// The call appends the minimal encoding of `x` in each of these grammars.
+    ///
+    /// ```text
+    /// pub record AppendsMinimal {X : Type 0} (k : Grammars) (F : Format X) (x : X)
+    ///     (old new : List ℕ) : Type 0 where
     ///   pub encoding : List ℕ
     ///   pub appended : new ≡ old ++ encoding
-    ///   pub encodes : (s : List ℕ) → F padded s x → F minimal encoding x
+    ///   pub encodes : IsMinimalEncoding k F x encoding
     /// ```
     ///
-    /// Definitions: [`Format`](formats::Format), [`padded`](numbers::Mode), [`minimal`](numbers::Mode).
+    /// Definitions: [`Grammars`](minimal::Grammars), [`Format`](formats::Format), [`IsMinimalEncoding`](minimal::IsMinimalEncoding).
     type AppendsMinimal;
-    /// Some bytes decode to the value, in minimal or padded LEB128.
+    /// Some bytes decode to the value in one of these grammars.
     ///
     /// ```text
-    /// pub record HasEncoding {X : Type 0} (F : Format X) (x : X) : Type 0 where
+    /// pub record HasEncoding {X : Type 0} (k : Grammars) (F : Format X) (x : X) : Type 0 where
+    ///   pub grammar : Grammar
+    ///   pub included : Includes k grammar
     ///   pub bytes : List ℕ
-    ///   pub decoded : F padded bytes x
+    ///   pub decoded : F (padded_of grammar) bytes x
     /// ```
     ///
-    /// Definitions: [`Format`](formats::Format), [`padded`](numbers::Mode).
+    /// Definitions: [`Grammars`](minimal::Grammars), [`Format`](formats::Format), [`Grammar`](numbers::Grammar), [`Includes`](minimal::Includes), [`padded_of`](numbers::padded_of).
     type HasEncoding;
     /// The new bytes begin with the old ones.
     ///
@@ -1350,52 +1390,6 @@ pub trait minimal {
     ///
     /// Definitions: [`Format`](formats::Format), [`Grammar`](numbers::Grammar), [`padded_of`](numbers::padded_of), [`minimal_of`](numbers::minimal_of).
     type EncodesMinimally;
-    /// Two modes with the same numbers: from minimal LEB128 in the builders' grammar to the standard's, and from padded LEB128 in the standard's grammar to the builders'.
-    ///
-    /// ```text
-    /// pub data Twins : Type 0 where
-    ///   minimal_twins : Twins
-    ///   padded_twins : Twins
-    /// ```
-    type Twins;
-    /// The mode that encodes a value.
-    ///
-    /// ```text
-    /// abbrev pub first_twin : Twins → Mode
-    /// first_twin minimal_twins = minimal
-    /// first_twin padded_twins = standard
-    /// ```
-    ///
-    /// Definitions: [`Twins`](minimal::Twins), [`Mode`](numbers::Mode), [`minimal_twins`](minimal::Twins), [`minimal`](numbers::Mode), [`padded_twins`](minimal::Twins), [`standard`](numbers::Mode).
-    type first_twin;
-    /// The mode that encodes the value too.
-    ///
-    /// ```text
-    /// abbrev pub second_twin : Twins → Mode
-    /// second_twin minimal_twins = standard_minimal
-    /// second_twin padded_twins = padded
-    /// ```
-    ///
-    /// Definitions: [`Twins`](minimal::Twins), [`Mode`](numbers::Mode), [`minimal_twins`](minimal::Twins), [`standard_minimal`](numbers::Mode), [`padded_twins`](minimal::Twins), [`padded`](numbers::Mode).
-    type second_twin;
-    /// What the first mode encodes, the second encodes too.
-    ///
-    /// ```text
-    /// pub record IsShared {X : Type 0} (p : Twins) (F : Format X) : Type 0 where
-    ///   pub same : IsIncludedIn (F (first_twin p)) (F (second_twin p))
-    /// ```
-    ///
-    /// Definitions: [`Twins`](minimal::Twins), [`Format`](formats::Format), [`IsIncludedIn`](decoding::IsIncludedIn), [`first_twin`](minimal::first_twin), [`second_twin`](minimal::second_twin).
-    type IsShared;
-    /// The standard's grammar has no other encodings than the builders', minimal or padded.
-    ///
-    /// ```text
-    /// pub record AreSameInBoth {X : Type 0} (F : Format X) : Type 0 where
-    ///   pub shared : (p : Twins) → IsShared p F
-    /// ```
-    ///
-    /// Definitions: [`Format`](formats::Format), [`Twins`](minimal::Twins), [`IsShared`](minimal::IsShared).
-    type AreSameInBoth;
 }
 
 /// The sections that a module decodes to.

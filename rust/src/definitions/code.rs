@@ -888,13 +888,14 @@ pub trait members {
     ///
     /// Definitions: [`Format`](super::base::formats::Format), [`Mode`](super::base::numbers::Mode), [`VisitingMembers`](members::VisitingMembers), [`Decodes`](super::base::decoding::Decodes).
     type GivesMember;
-    /// The iterator returned this error, and has ended: no member is at the front, for any cause but `Memory`.
+    /// The iterator returned this error, and has ended: no member is at the front, for any cause but `Memory`. For `Memory`, decoding a member may request memory.
     ///
     /// ```text
-    /// pub record EndsMembers {X : Type 0} (F : Format X) (mode : Mode) (old : VisitingMembers)
-    ///     (e : Failure) (new : VisitingMembers) : Type 0 where
+    /// pub record EndsMembers {X : Type 0} (MayAllocate : Type 0) (F : Format X) (mode : Mode)
+    ///     (old : VisitingMembers) (e : Failure) (new : VisitingMembers) : Type 0 where
     ///   pub some : old.left ≢ 0
     ///   pub none : e.cause ≢ Memory → Rejects F mode old.rest
+    ///   pub no_memory : e.cause ≡ Memory → MayAllocate
     ///   pub ended : (new.left ≡ 0) × (new.rest ≡ old.rest)
     /// ```
     ///
@@ -903,12 +904,13 @@ pub trait members {
     /// The result of `next`: `None` if no member is left, a member, or an error.
     ///
     /// ```text
-    /// abbrev pub NextMember : {T X : Type 0} → Format X → (T → X) → Mode → VisitingMembers
-    ///     → Option (Result T Failure) → VisitingMembers → Type 0
-    /// NextMember F view mode old None new = (old.left ≡ 0) × (new ≡ old)
-    /// NextMember F view mode old
+    /// abbrev pub NextMember : {T X : Type 0} → Type 0 → Format X → (T → X) → Mode
+    ///     → VisitingMembers → Option (Result T Failure) → VisitingMembers → Type 0
+    /// NextMember MayAllocate F view mode old None new = (old.left ≡ 0) × (new ≡ old)
+    /// NextMember MayAllocate F view mode old
     ///     (Some (Ok member)) new = GivesMember F view mode old member new
-    /// NextMember F view mode old (Some (Err e)) new = EndsMembers F mode old e new
+    /// NextMember MayAllocate F view mode old
+    ///     (Some (Err e)) new = EndsMembers MayAllocate F mode old e new
     /// ```
     ///
     /// Definitions: [`Format`](super::base::formats::Format), [`Mode`](super::base::numbers::Mode), [`VisitingMembers`](members::VisitingMembers), [`Failure`](super::base::faults::Failure), [`GivesMember`](members::GivesMember), [`EndsMembers`](members::EndsMembers).
@@ -985,12 +987,13 @@ pub trait walks {
     ///
     /// Definitions: [`Format`](super::base::formats::Format), [`Plain`](super::insn::plain::Plain), [`Mode`](super::base::numbers::Mode), [`Walking`](walks::Walking), [`DecodesOperation`](super::insn::operands::DecodesOperation), [`ahead`](walks::ahead).
     type GivesInstruction;
-    /// The visitor returned this error, and did not move. For any cause but `Memory`, no value of the format decodes from the next bytes.
+    /// The visitor returned this error, and did not move. No value of the format decodes from the next bytes. The cause is not `Memory`.
     ///
     /// ```text
     /// pub record GivesFailure {X : Type 0} (F : Format X) (mode : Mode) (before : Walking)
     ///     (e : Failure) (after : Walking) : Type 0 where
     ///   pub none : e.cause ≢ Memory → Rejects F mode (ahead before)
+    ///   pub no_memory : e.cause ≢ Memory
     ///   pub stays : after ≡ before
     /// ```
     ///

@@ -1598,6 +1598,14 @@ pub trait operands {
 ///
 /// [How to read definitions](super). The file is [`Parts.antt`](https://github.com/dolzhytik/dolzhytik/blob/main/crates/wasm_insn/specs/Parts.antt).
 pub trait parts {
+    /// The immediates of this type are a list. Decoding one requests memory.
+    ///
+    /// ```text
+    /// abbrev pub IsList : Part → Type 0
+    /// IsList p = (p ≡ parts.Labels)
+    ///     ⊎ ((p ≡ parts.Catches) ⊎ ((p ≡ parts.Types) ⊎ (p ≡ parts.Handles)))
+    /// ```
+    type IsList;
     /// The types of the immediates of a shape, in order.
     ///
     /// ```text

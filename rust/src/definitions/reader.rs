@@ -126,11 +126,12 @@ pub trait iterating {
     ///
     /// Definitions: [`Iterating`](iterating::Iterating), [`Located`](iterating::Located), [`IsSection`](outlines::IsSection), [`ahead`](iterating::ahead), [`bytes_of`](outlines::bytes_of), [`end_of`](iterating::end_of).
     type GivesSection;
-    /// The iterator returned this error, and has ended. For any cause but `Memory`, no section decodes from the next bytes.
+    /// The iterator returned this error, and has ended. No section decodes from the next bytes. The cause is not `Memory`.
     ///
     /// ```text
     /// pub record GivesError (old : Iterating) (e : ReadError) (new : Iterating) : Type 0 where
     ///   pub none : e.cause ≢ Memory → Rejects any_section padded (ahead old)
+    ///   pub no_memory : e.cause ≢ Memory
     ///   pub more : ahead old ≢ []
     ///   pub from : old.offset ≤ e.offset
     ///   pub within : e.offset ≤ length old.bytes
@@ -181,12 +182,13 @@ pub trait iterating {
     ///
     /// Definitions: [`Visiting`](iterating::Visiting), [`LocatedBody`](iterating::LocatedBody), [`Decodes`](super::base::decoding::Decodes), [`size_prefixed`](super::base::formats::size_prefixed), [`any_bytes`](super::base::formats::any_bytes), [`padded`](super::base::numbers::Mode).
     type GivesBody;
-    /// The iterator returned this error, and has ended. If bodies are left, no size-prefixed body decodes from the next bytes, for any cause but `Memory`. If none is left, bytes remain.
+    /// The iterator returned this error, and has ended. If bodies are left, no size-prefixed body decodes from the next bytes. If none is left, bytes remain. The cause is not `Memory`.
     ///
     /// ```text
     /// pub record EndsBodies (old : Visiting) (e : ReadError) (new : Visiting) : Type 0 where
     ///   pub none : e.cause ≢ Memory → old.left ≢ 0
     ///       → Rejects (size_prefixed any_bytes) padded old.rest
+    ///   pub no_memory : e.cause ≢ Memory
     ///   pub more : old.left ≡ 0 → old.rest ≢ []
     ///   pub from : old.end ≤ e.offset + length old.rest
     ///   pub within : e.offset ≤ old.end
@@ -287,6 +289,22 @@ pub trait kinds {
     ///
     /// Definitions: [`Format`](super::base::formats::Format), [`Contents`](kinds::Contents), [`mapped`](super::base::formats::mapped), [`Bodies`](kinds::Contents), [`vec`](super::base::formats::vec), [`size_prefixed`](super::base::formats::size_prefixed), [`body`](super::code::bodies::body), [`Segments`](kinds::Contents), [`data_item`](super::sections::data_segments::data_item), [`DataCount`](kinds::Contents), [`u32`](super::base::formats::u32), [`Elements`](kinds::Contents), [`element`](super::sections::elements::element), [`Exports`](kinds::Contents), [`export`](super::sections::exports::export), [`Functions`](kinds::Contents), [`Globals`](kinds::Contents), [`global_item`](super::sections::globals::global_item), [`Imports`](kinds::Contents), [`import_format`](super::sections::imports::import_format), [`Memories`](kinds::Contents), [`memory_type`](super::sections::memories::memory_type), [`Start`](kinds::Contents), [`Tables`](kinds::Contents), [`table_item`](super::sections::tables::table_item), [`Tags`](kinds::Contents), [`tag_type`](super::sections::tags::tag_type), [`Names`](kinds::Contents), [`name_payload`](super::custom::names::name_payload), [`Linking`](kinds::Contents), [`linking_payload`](super::custom::linking::linking_payload), [`Producers`](kinds::Contents), [`producers_payload`](super::custom::producers::producers_payload), [`Hints`](kinds::Contents), [`hints_payload`](super::custom::hints::hints_payload), [`Core`](kinds::Contents), [`core_payload`](super::custom::core_dumps::core_payload), [`CoreModules`](kinds::Contents), [`modules_payload`](super::custom::core_dumps::modules_payload), [`CoreInstances`](kinds::Contents), [`instances_payload`](super::custom::core_dumps::instances_payload), [`CoreStack`](kinds::Contents), [`stack_payload`](super::custom::core_stacks::stack_payload), [`Custom`](kinds::Contents), [`pair`](super::base::formats::pair), [`name`](super::base::formats::name), [`any_bytes`](super::base::formats::any_bytes), [`Raw`](kinds::Contents), [`Types`](kinds::Contents), [`type_item`](super::types::rec_types::type_item), [`TargetFeatures`](kinds::Contents), [`features_payload`](super::custom::target_features::features_payload), [`SourceMappingUrl`](kinds::Contents), [`source_map_payload`](super::custom::debug_files::source_map_payload), [`ExternalDebugInfo`](kinds::Contents), [`debug_file_payload`](super::custom::debug_files::debug_file_payload), [`BuildId`](kinds::Contents), [`build_id_payload`](super::custom::debug_files::build_id_payload), [`Dylink`](kinds::Contents), [`dylink_payload`](super::custom::dylink::dylink_payload), [`Relocations`](kinds::Contents), [`relocations_payload`](super::custom::relocations::relocations_payload).
     type content;
+    /// The grammars whose minimal encoding is written for the items of a section of this kind. In the standard's grammar, types, instructions and flags may have a shorter encoding than in the builders', which is the one that is written.
+    ///
+    /// ```text
+    /// abbrev pub grammars_of : SectionKind → Grammars
+    /// grammars_of kinds.Bodies = builders_alone
+    /// grammars_of kinds.Segments = builders_alone
+    /// grammars_of kinds.Elements = builders_alone
+    /// grammars_of kinds.Globals = builders_alone
+    /// grammars_of kinds.Imports = builders_alone
+    /// grammars_of kinds.Tables = builders_alone
+    /// grammars_of kinds.Types = builders_alone
+    /// grammars_of kind = both_grammars
+    /// ```
+    ///
+    /// Definitions: [`Grammars`](super::base::minimal::Grammars), [`builders_alone`](super::base::minimal::Grammars), [`both_grammars`](super::base::minimal::Grammars).
+    type grammars_of;
     /// The kind of section that has this content.
     ///
     /// ```text

@@ -63,6 +63,7 @@ impl Encode for BlockType {
 ///     (λ x. Decodes block_type (padded_of G.grammar) bytes.now x.0 x.1.now) }
 /// ensures none { IfErr result
 ///     (λ e. e.cause ≢ Memory → Rejects block_type (padded_of G.grammar) bytes.now) }
+/// ensures no_memory { IfErr result (λ e. e.cause ≢ Memory) }
 /// ```
 ///
 /// Definitions: [`Decodes`](crate::definitions::base::decoding::Decodes), [`block_type`](crate::definitions::immediates::immediate_formats::block_type), [`padded_of`](crate::definitions::base::numbers::padded_of), [`Rejects`](crate::definitions::base::decoding::Rejects). [How to read clauses](crate::definitions).
@@ -98,6 +99,13 @@ impl Layout for BlockType {
     fn laws() {}
 }
 
+/// # Defined
+///
+/// ```text
+/// may_allocate = { ⊥ }
+/// ```
+///
+/// [How to read clauses](crate::definitions).
 impl<'a, A: Allocator + Copy, G: Grammar> Readable<'a, A, G> for BlockType {
     #[inline]
     fn read(bytes: &'a [u8], alloc: A) -> Result<(BlockType, &'a [u8]), DecodeError> {

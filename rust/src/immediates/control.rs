@@ -134,6 +134,13 @@ impl Layout for Catch {
     fn laws() {}
 }
 
+/// # Defined
+///
+/// ```text
+/// may_allocate = { ⊥ }
+/// ```
+///
+/// [How to read clauses](crate::definitions).
 impl<'a, A: Allocator + Copy, G: Grammar> Readable<'a, A, G> for Catch {
     fn read(bytes: &'a [u8], alloc: A) -> Result<(Catch, &'a [u8]), DecodeError> {
         let (kind, rest) = <u8 as Readable<'a, A, G>>::read(bytes, alloc)?;
@@ -172,6 +179,13 @@ impl Layout for Handle {
     fn laws() {}
 }
 
+/// # Defined
+///
+/// ```text
+/// may_allocate = { ⊥ }
+/// ```
+///
+/// [How to read clauses](crate::definitions).
 impl<'a, A: Allocator + Copy, G: Grammar> Readable<'a, A, G> for Handle {
     fn read(bytes: &'a [u8], alloc: A) -> Result<(Handle, &'a [u8]), DecodeError> {
         let (kind, rest) = <u8 as Readable<'a, A, G>>::read(bytes, alloc)?;

@@ -155,6 +155,13 @@ impl Layout for Ieee32 {
     fn laws() {}
 }
 
+/// # Defined
+///
+/// ```text
+/// may_allocate = { ⊥ }
+/// ```
+///
+/// [How to read clauses](crate::definitions).
 impl<'a, A: Allocator + Copy, G: Grammar> Readable<'a, A, G> for Ieee32 {
     fn read(bytes: &'a [u8], _alloc: A) -> Result<(Ieee32, &'a [u8]), DecodeError> {
         match bytes.split_first_chunk::<4>() {
@@ -179,6 +186,13 @@ impl Layout for Ieee64 {
     fn laws() {}
 }
 
+/// # Defined
+///
+/// ```text
+/// may_allocate = { ⊥ }
+/// ```
+///
+/// [How to read clauses](crate::definitions).
 impl<'a, A: Allocator + Copy, G: Grammar> Readable<'a, A, G> for Ieee64 {
     fn read(bytes: &'a [u8], _alloc: A) -> Result<(Ieee64, &'a [u8]), DecodeError> {
         match bytes.split_first_chunk::<8>() {

@@ -39,6 +39,8 @@ pub fn immediates() {}
 ///
 /// # Proved
 ///
+/// The encoding of a well-formed memory argument decodes to its normal form alone.
+///
 /// ```text
 /// ensures { (m : MemArg) → DecodesMemoryArgument m }
 /// ```

@@ -329,6 +329,13 @@ impl Layout for Ordering {
     fn laws() {}
 }
 
+/// # Defined
+///
+/// ```text
+/// may_allocate = { ⊥ }
+/// ```
+///
+/// [How to read clauses](crate::definitions).
 impl<'a, A: Allocator + Copy, G: Grammar> Readable<'a, A, G> for Ordering {
     fn read(bytes: &'a [u8], alloc: A) -> Result<(Ordering, &'a [u8]), DecodeError> {
         let (byte, rest) = <u8 as Readable<'a, A, G>>::read(bytes, alloc)?;
@@ -353,6 +360,13 @@ impl Layout for MemArgOrdering {
     fn laws() {}
 }
 
+/// # Defined
+///
+/// ```text
+/// may_allocate = { ⊥ }
+/// ```
+///
+/// [How to read clauses](crate::definitions).
 impl<'a, A: Allocator + Copy, G: Grammar> Readable<'a, A, G> for MemArgOrdering {
     fn read(bytes: &'a [u8], alloc: A) -> Result<(MemArgOrdering, &'a [u8]), DecodeError> {
         let (tag, rest) = <u8 as Readable<'a, A, G>>::read(bytes, alloc)?;
@@ -379,6 +393,7 @@ impl<'a, A: Allocator + Copy, G: Grammar> Readable<'a, A, G> for MemArgOrdering 
 /// ensures none { IfErr result
 ///     (λ e. e.cause ≢ Memory → Rejects (target_of G.grammar array other)
 ///         (padded_of G.grammar) bytes.now) }
+/// ensures no_memory { IfErr result (λ e. e.cause ≢ Memory) }
 /// ```
 ///
 /// Definitions: [`Decodes`](crate::definitions::base::decoding::Decodes), [`target_of`](crate::definitions::immediates::immediate_formats::target_of), [`padded_of`](crate::definitions::base::numbers::padded_of), [`Rejects`](crate::definitions::base::decoding::Rejects). [How to read clauses](crate::definitions).
@@ -416,6 +431,7 @@ fn read_target<'a, A: Allocator + Copy, G: Grammar>(
 ///     (λ x. Decodes mem_arg (padded_of G.grammar) bytes.now x.0 x.1.now) }
 /// ensures none { IfErr result
 ///     (λ e. e.cause ≢ Memory → Rejects mem_arg (padded_of G.grammar) bytes.now) }
+/// ensures no_memory { IfErr result (λ e. e.cause ≢ Memory) }
 /// ```
 ///
 /// Definitions: [`Decodes`](crate::definitions::base::decoding::Decodes), [`mem_arg`](crate::definitions::immediates::immediate_formats::mem_arg), [`padded_of`](crate::definitions::base::numbers::padded_of), [`Rejects`](crate::definitions::base::decoding::Rejects). [How to read clauses](crate::definitions).
@@ -464,6 +480,13 @@ impl Layout for MemArg {
     fn laws() {}
 }
 
+/// # Defined
+///
+/// ```text
+/// may_allocate = { ⊥ }
+/// ```
+///
+/// [How to read clauses](crate::definitions).
 impl<'a, A: Allocator + Copy, G: Grammar> Readable<'a, A, G> for MemArg {
     #[inline]
     fn read(bytes: &'a [u8], alloc: A) -> Result<(MemArg, &'a [u8]), DecodeError> {

@@ -994,7 +994,7 @@ impl<'a, A: Allocator + Copy> Instruction<'a, A> {
     ///
     /// # Proved
     ///
-    /// After `Ok`: `ok`. In any case: `err`, no error is `TooLong`.
+    /// After `Ok`: `ok`, the result has the same content. In any case: `err`, no error is `TooLong`.
     ///
     /// ```text
     /// ensures ok { IfOk result (λ i. row_of i ≡ row_of self.now) }
@@ -1054,7 +1054,7 @@ impl<'a, A: Allocator + Copy> Instruction<'a, A> {
     ///
     /// # Proved
     ///
-    /// After `Ok`: `ok`. In any case: `err`, no error is `TooLong`.
+    /// After `Ok`: `ok`, the result has the same content. In any case: `err`, no error is `TooLong`.
     ///
     /// ```text
     /// ensures ok { IfOk result (λ i. row_of i ≡ row_of self.now) }
@@ -1105,7 +1105,7 @@ impl<'a, A: Allocator + Copy> Instruction<'a, A> {
     ///
     /// # Proved
     ///
-    /// After `Ok`: `ok`. In any case: `err`, no error is `TooLong`.
+    /// After `Ok`: `ok`, the result has the same content. In any case: `err`, no error is `TooLong`.
     ///
     /// ```text
     /// ensures ok { IfOk result (λ i. row_of i ≡ row_of self.now) }
@@ -1173,7 +1173,7 @@ impl<'a, A: Allocator + Copy> Instruction<'a, A> {
     ///
     /// # Proved
     ///
-    /// After `Ok`: `ok`. In any case: `err`, no error is `TooLong`.
+    /// After `Ok`: `ok`, the result has the same content. In any case: `err`, no error is `TooLong`.
     ///
     /// ```text
     /// ensures ok { IfOk result (λ i. row_of i ≡ row_of self.now) }
@@ -1316,7 +1316,7 @@ impl<'a, A: Allocator + Copy> Instruction<'a, A> {
     ///
     /// # Proved
     ///
-    /// After `Ok`: `ok`. In any case: `err`, no error is `TooLong`.
+    /// After `Ok`: `ok`, the result has the same content. In any case: `err`, no error is `TooLong`.
     ///
     /// ```text
     /// ensures ok { IfOk result (λ i. row_of i ≡ row_of self.now) }

@@ -38,6 +38,8 @@ pub fn opcodes() {}
 ///
 /// # Proved
 ///
+/// The opcode is in the table, and the instruction has an immediate for each of its shape.
+///
 /// ```text
 /// ensures { (i : Instruction A) → IsRow table (row_of i) }
 /// ```
@@ -50,6 +52,9 @@ pub fn rows<A: Allocator>() {}
 /// with its own fields.
 ///
 /// # Proved
+///
+/// - `rows`: The cases are the rows of the table in order: each has the opcode of its row, and the immediates of its shape.
+/// - `each`: The instruction is one of the cases, with some fields.
 ///
 /// ```text
 /// ensures rows { (given : Given A) → AreRows (all_cases given) table }
@@ -66,7 +71,8 @@ pub fn cases<A: Allocator>() {}
 /// # Proved
 ///
 /// - `unique`: A format whose encodings determine their own end is unambiguous in every mode, with encodings as `HasEncodings` states.
-/// - In any case: `plain`, `one_encoding`.
+/// - `plain`: The encoding of a well-formed instruction decodes to its normal form alone.
+/// - `one_encoding`: Two well-formed instructions have the same encoding exactly if they have the same normal form.
 ///
 /// ```text
 /// ensures unique { Unambiguous (instruction table) }

@@ -62,7 +62,7 @@ impl<'a> Operands<'a> {
     ///
     /// # Proved
     ///
-    /// After `Ok`: `found`, the list has the operands, in their order; `only`, the operands are no other list. After an error: `none`.
+    /// After `Ok`: `found`, the list has the operands, in their order; `only`, the operands are no other list. After an error: `none`, the instruction is a variant of its own, or the bytes do not encode immediates of its shape, unless the cause is `Memory`.
     ///
     /// ```text
     /// ensures found { IfOk result
@@ -109,8 +109,6 @@ fn has_own_case(shape: Shape) -> bool {
 /// Decodes the operands of a shape without a case of its own, which occupy all of the bytes.
 ///
 /// # Proved
-///
-/// After `Ok`: `shape`; `found`. After an error: `none`.
 ///
 /// ```text
 /// ensures shape { IfOk result (λ _. has_case shape ≡ false) }
@@ -294,6 +292,7 @@ pub(crate) fn read_short<'a, G: Grammar>(bytes: &'a [u8]) -> Option<(Op, Operand
 /// ensures none { IfErr result
 ///     (λ e. e.cause ≢ Memory → Rejects (arguments (parts_of shape))
 ///         (padded_of G.grammar) bytes.now) }
+/// ensures no_memory { IfErr result (λ e. e.cause ≢ Memory) }
 /// ```
 ///
 /// Definitions: [`DecodesOperands`](crate::definitions::insn::operands::DecodesOperands), [`parts_of`](crate::definitions::insn::parts::parts_of), [`padded_of`](crate::definitions::base::numbers::padded_of), [`Rejects`](crate::definitions::base::decoding::Rejects), [`arguments`](crate::definitions::insn::plain::arguments). [How to read clauses](crate::definitions).
@@ -322,6 +321,7 @@ fn read_encoded<'a, A: Allocator + Copy, G: Grammar>(
 /// ensures none { IfErr result
 ///     (λ e. e.cause ≢ Memory → Rejects (arguments (parts_of shape))
 ///         (padded_of G.grammar) bytes.now) }
+/// ensures no_memory { IfErr result (λ e. e.cause ≢ Memory) }
 /// ```
 ///
 /// Definitions: [`DecodesOperands`](crate::definitions::insn::operands::DecodesOperands), [`parts_of`](crate::definitions::insn::parts::parts_of), [`padded_of`](crate::definitions::base::numbers::padded_of), [`Rejects`](crate::definitions::base::decoding::Rejects), [`arguments`](crate::definitions::insn::plain::arguments). [How to read clauses](crate::definitions).
@@ -370,6 +370,7 @@ fn read_operands<'a, A: Allocator + Copy, G: Grammar>(
 /// ensures none { IfErr result
 ///     (λ e. e.cause ≢ Memory → Rejects (instruction table)
 ///         (padded_of G.grammar) bytes.now) }
+/// ensures no_memory { IfErr result (λ e. e.cause ≢ Memory) }
 /// ```
 ///
 /// Definitions: [`DecodesOperation`](crate::definitions::insn::operands::DecodesOperation), [`instruction`](crate::definitions::insn::plain::instruction), [`table`](crate::definitions::insn::table::table), [`padded_of`](crate::definitions::base::numbers::padded_of), [`Rejects`](crate::definitions::base::decoding::Rejects). [How to read clauses](crate::definitions).
@@ -391,7 +392,7 @@ pub(crate) fn read_long<'a, A: Allocator + Copy, G: Grammar>(
 ///
 /// # Errors
 ///
-/// Any error but `Memory` means that no instruction is at the front.
+/// An error means that no instruction is at the front.
 ///
 /// # Proved
 ///
@@ -405,6 +406,7 @@ pub(crate) fn read_long<'a, A: Allocator + Copy, G: Grammar>(
 /// ensures none { IfErr result
 ///     (λ e. e.cause ≢ Memory → Rejects (instruction table)
 ///         (padded_of G.grammar) bytes.now) }
+/// ensures no_memory { IfErr result (λ e. e.cause ≢ Memory) }
 /// ```
 ///
 /// Definitions: [`DecodesOperation`](crate::definitions::insn::operands::DecodesOperation), [`instruction`](crate::definitions::insn::plain::instruction), [`table`](crate::definitions::insn::table::table), [`padded_of`](crate::definitions::base::numbers::padded_of), [`Rejects`](crate::definitions::base::decoding::Rejects). [How to read clauses](crate::definitions).

@@ -90,22 +90,22 @@ fn read_long_plain<'a, A: Allocator + Copy, G: Grammar>(
 ///
 /// # Proved
 ///
-/// - After `Ok`, `ok`: the sink gains the minimal encoding.
+/// - After `Ok`, `ok`: the sink gains the encoding that is minimal in the builders' grammar.
 /// - `front`: The new bytes begin with the old ones.
 /// - `too_long`: a value that has an encoding never gives `TooLong`.
 ///
 /// ```text
 /// ensures ok { OnOk result
-///     (AppendsMinimal (instruction table)
+///     (AppendsMinimal builders_alone (instruction table)
 ///         (record { op = op; arguments = map argument_view args.now }) sink.old.items
 ///         sink.new.items) }
 /// ensures front { IsFrontOf sink.old.items sink.new.items }
-/// ensures too_long { HasEncoding (instruction table)
+/// ensures too_long { HasEncoding builders_alone (instruction table)
 ///     (record { op = op; arguments = map argument_view args.now })
 ///     → result ≢ Err TooLong }
 /// ```
 ///
-/// Definitions: [`AppendsMinimal`](crate::definitions::base::minimal::AppendsMinimal), [`instruction`](crate::definitions::insn::plain::instruction), [`table`](crate::definitions::insn::table::table), [`argument_view`](crate::definitions::insn::views::argument_view), [`IsFrontOf`](crate::definitions::base::minimal::IsFrontOf), [`HasEncoding`](crate::definitions::base::minimal::HasEncoding). [How to read clauses](crate::definitions).
+/// Definitions: [`AppendsMinimal`](crate::definitions::base::minimal::AppendsMinimal), [`builders_alone`](crate::definitions::base::minimal::Grammars), [`instruction`](crate::definitions::insn::plain::instruction), [`table`](crate::definitions::insn::table::table), [`argument_view`](crate::definitions::insn::views::argument_view), [`IsFrontOf`](crate::definitions::base::minimal::IsFrontOf), [`HasEncoding`](crate::definitions::base::minimal::HasEncoding). [How to read clauses](crate::definitions).
 fn append_instruction<A: Allocator, B: Sink>(
     op: Op,
     args: &[Arg<A>],
@@ -115,6 +115,13 @@ fn append_instruction<A: Allocator, B: Sink>(
     append_arguments(args, sink)
 }
 
+/// # Defined
+///
+/// ```text
+/// grammars = { builders_alone }
+/// ```
+///
+/// Definitions: [`builders_alone`](crate::definitions::base::minimal::Grammars). [How to read clauses](crate::definitions).
 impl<A: Allocator> Shorten for Plain<A> {
     fn write_minimal<B: Sink>(&self, sink: &mut B) -> Result<()> {
         append_instruction(self.op, &self.args, sink)

@@ -411,7 +411,7 @@ pub(crate) fn read_content<'a, A: Allocator + Copy + 'a, G: Grammar>(
 ///
 /// # Proved
 ///
-/// After `Ok`: `found`. After an error: `none`, the bytes as a whole are no such encoding, unless the cause is `Memory`.
+/// After `Ok`: `found`, the payload encodes items, and the result is their number if they are counted. After an error: `none`, the bytes as a whole are no such encoding, unless the cause is `Memory`.
 ///
 /// ```text
 /// ensures found { IfOk result
@@ -456,18 +456,18 @@ pub(crate) fn read_number<'a, A: Allocator + Copy, G: Grammar>(
 ///
 /// # Proved
 ///
-/// After `Ok`: `ok`, the sink gains the minimal encoding. After an error: `err`, the bytes of the sink are unchanged. In any case: `too_long`, a value that has an encoding never gives `TooLong`.
+/// After `Ok`: `ok`, the sink gains the encoding that is minimal in both grammars. After an error: `err`, the bytes of the sink are unchanged. In any case: `too_long`, a value that has an encoding never gives `TooLong`.
 ///
 /// ```text
 /// ensures ok { OnOk result
-///     (AppendsMinimal (content kinds.Custom)
+///     (AppendsMinimal both_grammars (content kinds.Custom)
 ///         (Custom (name.now, bytes.now)) sink.old.items sink.new.items) }
 /// ensures err { OnErr result (sink.new.items ≡ sink.old.items) }
-/// ensures too_long { HasEncoding (content kinds.Custom) (Custom (name.now, bytes.now))
-///     → result ≢ Err TooLong }
+/// ensures too_long { HasEncoding both_grammars (content kinds.Custom)
+///     (Custom (name.now, bytes.now)) → result ≢ Err TooLong }
 /// ```
 ///
-/// Definitions: [`AppendsMinimal`](crate::definitions::base::minimal::AppendsMinimal), [`content`](crate::definitions::reader::kinds::content), [`Custom`](crate::definitions::reader::kinds::Contents), [`HasEncoding`](crate::definitions::base::minimal::HasEncoding). [How to read clauses](crate::definitions).
+/// Definitions: [`AppendsMinimal`](crate::definitions::base::minimal::AppendsMinimal), [`both_grammars`](crate::definitions::base::minimal::Grammars), [`content`](crate::definitions::reader::kinds::content), [`Custom`](crate::definitions::reader::kinds::Contents), [`HasEncoding`](crate::definitions::base::minimal::HasEncoding). [How to read clauses](crate::definitions).
 fn append_custom<B: Sink>(name: &str, bytes: &[u8], sink: &mut B) -> Result<()> {
     let start = sink.len();
     name.append_minimal(sink)?;
@@ -480,8 +480,11 @@ fn append_custom<B: Sink>(name: &str, bytes: &[u8], sink: &mut B) -> Result<()> 
     }
 }
 
-/// Appends the minimal encoding of a section's payload with these items, as builders write it. On
-/// an error, the sink is unchanged.
+/// Appends the minimal encoding of a section's payload with these items. On an error, the sink is
+/// unchanged.
+///
+/// Types, code, imports, tables, globals, elements and data are written as builders write them. The
+/// standard's grammar has a shorter encoding of some of them, such as a nullable reference type.
 ///
 /// [`read_section`](crate::reader::read_section) and [`Section::items`](crate::reader::Section::items) return such
 /// items. [`RawSection`](crate::base::RawSection) adds the id and the size prefix that make a section
@@ -496,8 +499,8 @@ fn append_custom<B: Sink>(name: &str, bytes: &[u8], sink: &mut B) -> Result<()> 
 ///
 /// # Errors
 ///
-/// Returns `TooLong` only if no bytes decode to the items in the builders' grammar, and `Memory` if
-/// an allocation fails.
+/// Returns `TooLong` only if no bytes decode to the items: in the builders' grammar for those
+/// kinds, in either for the others. Returns `Memory` if an allocation fails.
 ///
 /// # Examples
 ///
@@ -514,18 +517,20 @@ fn append_custom<B: Sink>(name: &str, bytes: &[u8], sink: &mut B) -> Result<()> 
 ///
 /// # Proved
 ///
-/// After `Ok`: `ok`, the sink gains the minimal encoding. After an error: `err`, the bytes of the sink are unchanged. In any case: `too_long`, a value that has an encoding never gives `TooLong`.
+/// After `Ok`: `ok`, the sink gains the encoding that is minimal in the grammars of the kind. After an error: `err`, the bytes of the sink are unchanged. In any case: `too_long`, a value that has an encoding never gives `TooLong`.
 ///
 /// ```text
 /// ensures ok { OnOk result
-///     (AppendsMinimal (content (kind_in (contents_of items.now)))
+///     (AppendsMinimal (grammars_of (kind_in (contents_of items.now)))
+///         (content (kind_in (contents_of items.now)))
 ///         (contents_of items.now) sink.old.items sink.new.items) }
 /// ensures err { OnErr result (sink.new.items ≡ sink.old.items) }
-/// ensures too_long { HasEncoding (content (kind_in (contents_of items.now)))
-///     (contents_of items.now) → result ≢ Err TooLong }
+/// ensures too_long { HasEncoding (grammars_of (kind_in (contents_of items.now)))
+///     (content (kind_in (contents_of items.now))) (contents_of items.now)
+///     → result ≢ Err TooLong }
 /// ```
 ///
-/// Definitions: [`AppendsMinimal`](crate::definitions::base::minimal::AppendsMinimal), [`content`](crate::definitions::reader::kinds::content), [`kind_in`](crate::definitions::reader::kinds::kind_in), [`contents_of`](crate::definitions::reader::kinds::contents_of), [`HasEncoding`](crate::definitions::base::minimal::HasEncoding). [How to read clauses](crate::definitions).
+/// Definitions: [`AppendsMinimal`](crate::definitions::base::minimal::AppendsMinimal), [`grammars_of`](crate::definitions::reader::kinds::grammars_of), [`kind_in`](crate::definitions::reader::kinds::kind_in), [`contents_of`](crate::definitions::reader::kinds::contents_of), [`content`](crate::definitions::reader::kinds::content), [`HasEncoding`](crate::definitions::base::minimal::HasEncoding). [How to read clauses](crate::definitions).
 pub fn encode_items<A: Allocator, B: Sink>(
     items: &Items<'_, A>,
     sink: &mut B,

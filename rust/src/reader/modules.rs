@@ -42,7 +42,7 @@ pub struct Listed {
 ///
 /// # Proved
 ///
-/// - After `Ok`: `found`.
+/// - After `Ok`, `found`: the header is at the front, and the returned bytes follow it.
 /// - After an error, `none`: the bytes do not begin with such an encoding.
 /// - After an error, `cause`: The cause of the error of bytes that do not begin with the header: they end before it does, or one of its bytes differs.
 ///
@@ -70,7 +70,7 @@ pub(crate) fn read_header(bytes: &[u8]) -> Result<&[u8], ReadFault> {
 ///
 /// # Proved
 ///
-/// After `Ok`: `found`. After an error: `none`, the bytes as a whole are no such encoding, unless the cause is `Memory`.
+/// After an error: `none`, the bytes as a whole are no such encoding, unless the cause is `Memory`.
 ///
 /// ```text
 /// ensures found { IfOk result

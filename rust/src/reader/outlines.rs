@@ -123,7 +123,7 @@ fn line_of<'a, A: Allocator + Copy>(section: &Section<'a, A>) -> Result<Outlined
 /// # Proved
 ///
 /// - After `Ok`, `found`: The bytes are a module of sections that the lines describe.
-/// - After an error: `none`.
+/// - After an error, `none`: the section of this number is the first that is malformed, whatever its payload (0: there is no header), unless the cause is `Memory`.
 /// - After an error, `no_module`: the bytes are no module, unless the cause is `Memory`.
 /// - After an error, `header`: An error at section number 0 has the cause of bytes that do not begin with the header, unless an allocation failed.
 ///

@@ -43,7 +43,7 @@ impl ReadError {
     ///
     /// # Proved
     ///
-    /// In any case: `cause`, the result has the cause of the error; `offset`; `from`; `within`.
+    /// In any case: `cause`, the result has the cause of the error.
     ///
     /// ```text
     /// ensures cause { result.cause ≡ error.cause }

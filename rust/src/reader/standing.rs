@@ -3,7 +3,7 @@
 
 use crate::reader::kinds::{SectionKind, kind_of_id, kind_of_name};
 use crate::alloc::Allocator;
-use crate::base::{DecodeError, Padded, ReadFault, Readable};
+use crate::base::{DecodeError, Padded, Readable};
 
 /// A section of a module, with its payload not yet decoded.
 #[derive(Clone, Copy, Debug)]
@@ -38,35 +38,30 @@ impl Standing<'_> {
     }
 }
 
-/// Decodes the name of a custom section from its payload, and returns it with the data after it.
+/// Returns the name of a custom section, if its payload begins with one, and the data after it.
 ///
 /// # Proved
 ///
-/// - After `Ok`, `found`: The name of a section: that at the front of a custom section's payload. There is none if no name decodes there, or if the id is not 0.
-/// - After `Ok`, `data`: The data of a section of this name: the bytes of the payload after the name, or all of them if there is no name.
-/// - After an error, `memory`: the cause is `Memory`.
+/// - `name`: The name of a section: that at the front of a custom section's payload. There is none if no name decodes there, or if the id is not 0.
+/// - `data`: The data of a section of this name: the bytes of the payload after the name, or all of them if there is no name.
 ///
 /// ```text
-/// ensures found { IfOk result
-///     (λ x. IsNameOf id payload.now (option_map (λ n. n.now) x.0)) }
-/// ensures data { IfOk result
-///     (λ x. IsDataOf (option_map (λ n. n.now) x.0) payload.now x.1.now) }
-/// ensures memory { IfErr result (λ e. e.cause ≡ Memory) }
+/// ensures name { IsNameOf id payload.now (option_map (λ n. n.now) result.0) }
+/// ensures data { IsDataOf (option_map (λ n. n.now) result.0) payload.now result.1.now }
 /// ```
 ///
 /// Definitions: [`IsNameOf`](crate::definitions::reader::outlines::IsNameOf), [`IsDataOf`](crate::definitions::reader::outlines::IsDataOf). [How to read clauses](crate::definitions).
-fn read_name<'a, A: Allocator + Copy>(
+fn name_of<'a, A: Allocator + Copy>(
     id: u8,
     payload: &'a [u8],
     alloc: A,
-) -> Result<(Option<&'a str>, &'a [u8]), DecodeError> {
+) -> (Option<&'a str>, &'a [u8]) {
     if id != 0 {
-        return Ok((None, payload));
+        return (None, payload);
     }
     match <&'a str as Readable<'a, A, Padded>>::read(payload, alloc) {
-        Ok((name, data)) => Ok((Some(name), data)),
-        Err(error) if error.cause() == ReadFault::Memory => Err(error),
-        Err(_) => Ok((None, payload)),
+        Ok((name, data)) => (Some(name), data),
+        Err(_) => (None, payload),
     }
 }
 
@@ -76,7 +71,7 @@ fn read_name<'a, A: Allocator + Copy>(
 /// # Proved
 ///
 /// - After `Ok`, `found`: The bytes after the id are this payload with its size prefix, and the payload has this name.
-/// - After `Ok`: `split`.
+/// - After `Ok`, `split`: the bytes begin with the section, and the returned bytes follow it.
 /// - After `Ok`, `data`: The data of a section of this name: the bytes of the payload after the name, or all of them if there is no name.
 /// - After an error, `none`: the bytes do not begin with such an encoding, unless the cause is `Memory`.
 ///
@@ -87,6 +82,7 @@ fn read_name<'a, A: Allocator + Copy>(
 ///     (λ x. IsDataOf (section_of x.0).name (section_of x.0).payload x.0.data.now) }
 /// ensures none { IfErr result
 ///     (λ e. e.cause ≢ Memory → Rejects any_section padded bytes.now) }
+/// ensures no_memory { IfErr result (λ e. e.cause ≢ Memory) }
 /// ```
 ///
 /// Definitions: [`IsSection`](crate::definitions::reader::outlines::IsSection), [`section_of`](crate::definitions::reader::outlines::section_of), [`bytes_of`](crate::definitions::reader::outlines::bytes_of), [`IsDataOf`](crate::definitions::reader::outlines::IsDataOf), [`Rejects`](crate::definitions::base::decoding::Rejects), [`any_section`](crate::definitions::base::formats::any_section), [`padded`](crate::definitions::base::numbers::Mode). [How to read clauses](crate::definitions).
@@ -97,7 +93,7 @@ pub(crate) fn read_standing<'a, A: Allocator + Copy>(
     let (id, rest) = <u8 as Readable<'a, A, Padded>>::read(bytes, alloc)?;
     let (payload, after) = <&'a [u8] as Readable<'a, A, Padded>>::read(rest, alloc)?;
     let sized = &rest[..rest.len() - after.len()];
-    let (name, data) = read_name(id, payload, alloc)?;
+    let (name, data) = name_of(id, payload, alloc);
     Ok((
         Standing {
             id,

@@ -243,7 +243,7 @@ impl Standing<'_> {
 ///
 /// # Proved
 ///
-/// After `Ok`: `ok`. After an error: `err`, the bytes of the sink are unchanged; `memory`, the cause is `Memory`.
+/// After an error: `err`, the bytes of the sink are unchanged; `memory`, the cause is `Memory`.
 ///
 /// ```text
 /// ensures ok { IfOk result
@@ -587,7 +587,6 @@ fn is_same(a: usize, b: usize) -> bool {
 /// # Proved
 ///
 /// - After `Ok`, `ok`: The bytes begin with sections, and the output for these sections is appended.
-/// - After an error: `none`, `counted`.
 /// - `front`: The new bytes begin with the old ones.
 ///
 /// ```text
@@ -630,7 +629,7 @@ fn append_sections<A: Allocator + Copy, B: Sink>(
 ///
 /// # Proved
 ///
-/// After `Ok`: `ok`. After an error: `err`, the bytes of the sink are unchanged.
+/// After `Ok`: `ok`, the sink gains the header. After an error: `err`, the bytes of the sink are unchanged.
 ///
 /// ```text
 /// ensures ok { OnOk result (sink.new.items ≡ sink.old.items ++ header) }

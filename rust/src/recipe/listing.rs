@@ -12,8 +12,6 @@ use crate::reader::{Listed, list_module};
 ///
 /// # Proved
 ///
-/// After `Ok`:
-///
 /// ```text
 /// ensures { OnOk result (string_bytes text.new
 ///         ≡ string_bytes text.old ++ line_of section.now) }
@@ -32,8 +30,6 @@ fn push_line<A: Allocator>(text: &mut String<A>, section: &Listed) -> Result<(),
 /// Returns the lines of the sections.
 ///
 /// # Proved
-///
-/// After `Ok`:
 ///
 /// ```text
 /// ensures { IfOk result (λ text. string_bytes text ≡ listing_of sections.now) }
@@ -71,8 +67,7 @@ fn without_end(text: &[u8]) -> &[u8] {
 ///
 /// # Proved
 ///
-/// - After `Ok`, `bytes`: The text is the hexadecimal digits of the bytes, and blanks may follow.
-/// - After an error: `usage`.
+/// After `Ok`, `bytes`: The text is the hexadecimal digits of the bytes, and blanks may follow.
 ///
 /// ```text
 /// ensures bytes { IfOk result (λ bytes. IsHexText text.now bytes.items) }
@@ -94,8 +89,7 @@ fn hex_bytes<A: Allocator>(alloc: A, text: &[u8]) -> Result<Vec<u8, A>, Trouble>
 ///
 /// # Proved
 ///
-/// - After `Ok`, `listed`: The text is the hexadecimal text of a module, and these are the lines of its sections.
-/// - After an error: `usage`.
+/// After `Ok`, `listed`: The text is the hexadecimal text of a module, and these are the lines of its sections.
 ///
 /// ```text
 /// ensures listed { IfOk result (λ lines. Lists text.now (string_bytes lines)) }

@@ -12,8 +12,6 @@ use crate::base::Result;
 ///
 /// # Proved
 ///
-/// After `Ok`: `ok`. After an error: `err`.
-///
 /// ```text
 /// ensures ok { IfOk result (λ bytes. decode_of word.now ≡ Ok bytes.items) }
 /// ensures err { IfErr result
@@ -103,8 +101,6 @@ pub(crate) fn signed(word: &str) -> Result<i32, RecipeCause> {
 ///
 /// # Proved
 ///
-/// After `Ok`: `ok`. After an error: `err`.
-///
 /// ```text
 /// ensures ok { IfOk result
 ///     (λ _. IsSomeAnd (decimal_of 32 word.now)
@@ -123,8 +119,6 @@ fn push_index<A: Allocator>(numbers: &mut Vec<u32, A>, word: &str) -> Result<(),
 /// Parses words of decimal digits as numbers of 32 bits.
 ///
 /// # Proved
-///
-/// After `Ok`: `ok`. After an error: `err`.
 ///
 /// ```text
 /// ensures ok { IfOk result

@@ -85,8 +85,6 @@ impl From<AllocError> for Unread {
 ///
 /// # Proved
 ///
-/// After `Ok`: `bytes`; `end`.
-///
 /// ```text
 /// ensures bytes { IfOk result
 ///     (λ bytes. Consumes (R.remaining input.old) (R.remaining input.new) bytes.items) }
@@ -113,8 +111,6 @@ fn read_to_end<A: Allocator, R: Read>(alloc: A, input: &mut R) -> Result<Vec<u8,
 ///
 /// # Proved
 ///
-/// After `Ok`: `text`; `good`; `line`. After an error: `usage`.
-///
 /// ```text
 /// ensures text { IfOk result (λ _. IsUtf8 recipe.now) }
 /// ensures good { IfOk result (λ _. All (IsGood First) (lines_of recipe.now)) }
@@ -135,8 +131,6 @@ fn hex_line<A: Allocator + Copy>(alloc: A, recipe: &[u8]) -> Result<String<A>, T
 /// Returns the output for the recipe that a reader yields.
 ///
 /// # Proved
-///
-/// After `Ok`: `text`; `good`; `line`; `end`. After an error: `usage`.
 ///
 /// ```text
 /// ensures text { IfOk result (λ _. IfSome (I.remaining input.old) IsUtf8) }
@@ -164,8 +158,6 @@ fn answer_to_recipe<A: Allocator + Copy, I: Read>(
 /// Returns the output for the module in hexadecimal that a reader yields.
 ///
 /// # Proved
-///
-/// After `Ok`: `listed`; `end`. After an error: `usage`.
 ///
 /// ```text
 /// ensures listed { IfOk result
@@ -207,8 +199,6 @@ fn asks_to_read<A: Allocator>(args: &[String<A>]) -> bool {
 ///
 /// # Proved
 ///
-/// After `Ok`: `args`; `end`. After an error: `usage`. In any case: `text`; `good`; `line`; `listed`.
-///
 /// ```text
 /// ensures args { IfOk result (λ _. (length args.now ≡ 0) ⊎ AsksToRead args.now) }
 /// ensures text { length args.now ≡ 0
@@ -248,8 +238,7 @@ fn answer<A: Allocator + Copy, I: Read>(
 ///
 /// # Proved
 ///
-/// - In any case: `out`, `status`.
-/// - `part`: The writer gains a front of these bytes: none of them, some or all.
+/// `part`: The writer gains a front of these bytes: none of them, some or all.
 ///
 /// ```text
 /// ensures out { result ≡ 0 → Appends (O.contents out.old) (O.contents out.new) text.now }

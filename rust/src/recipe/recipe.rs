@@ -77,7 +77,7 @@ fn put_counted<K: ItemKind, A: Allocator, B: Allocator>(
 ///
 /// # Proved
 ///
-/// After `Ok`: `ok`; `few`. In any case: `memory`, no error is `TooLong`.
+/// In any case: `memory`, no error is `TooLong`.
 ///
 /// ```text
 /// ensures ok { IfOk result
@@ -99,7 +99,7 @@ fn counted<A: Allocator>(alloc: A, pieces: &Pieces<A>) -> Result<Vec<u8, A>> {
 ///
 /// # Proved
 ///
-/// After `Ok`: `ok`. In any case: `memory`, no error is `TooLong`.
+/// In any case: `memory`, no error is `TooLong`.
 ///
 /// ```text
 /// ensures ok { IfOk result
@@ -627,9 +627,7 @@ impl<A: Allocator + Copy> Recipe<A> {
     ///
     /// # Proved
     ///
-    /// - After `Ok`: `ok`.
-    /// - After `Ok`, `was_encodable`: The items fit their sections.
-    /// - In any case: `too_long`.
+    /// After `Ok`, `was_encodable`: The items fit their sections.
     ///
     /// ```text
     /// ensures ok { IfOk result (λ bytes. bytes.items ≡ module_encoding (listed self.now)) }
@@ -711,8 +709,9 @@ impl<A: Allocator + Copy> Recipe<A> {
 ///
 /// # Proved
 ///
-/// - After `Ok`: `good`, `value`.
+/// - After `Ok`, `good`: no line has an error.
 /// - After `Ok`, `was_encodable`: Every count and size that the module needs is at most 2^32 - 1.
+/// - After `Ok`, `value`: the bytes are the module of the recipe.
 /// - After `Ok`, `read`: The result is the only minimal encoding of these sections. In every mode, all of its bytes decode to them alone.
 /// - After an error, `fault`: The error names a line, or 0 after the last one, and the cause. No line before it has an error.
 ///
@@ -772,8 +771,10 @@ pub fn assemble<A: Allocator + Copy>(alloc: A, lines: &str) -> Result<Vec<u8, A>
 ///
 /// # Proved
 ///
-/// - After `Ok`: `good`, `used`, `value`.
+/// - After `Ok`, `good`: no line has an error.
+/// - After `Ok`, `used`: no run of locals is left after the last body.
 /// - After `Ok`, `was_encodable`: Every count and size that the module needs is at most 2^32 - 1.
+/// - After `Ok`, `value`: the bytes are the module of the recipe.
 /// - After `Ok`, `read`: The result is the only minimal encoding of these sections. In every mode, all of its bytes decode to them alone.
 /// - After an error, `fault`: The error names a line, or 0 after the last one, and the cause. No line before it has an error.
 ///

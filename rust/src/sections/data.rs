@@ -138,7 +138,7 @@ impl<'a, D: Clone, A: Allocator> DataSegment<'a, D, A> {
     ///
     /// # Proved
     ///
-    /// After `Ok`: `mode`; `bytes`. In any case: `memory`, no error is `TooLong`.
+    /// After `Ok`: `mode`, the result has the same mode; `bytes`, its bytes are a clone, as the type of the bytes defines it. In any case: `memory`, no error is `TooLong`.
     ///
     /// ```text
     /// ensures mode { IfOk result (λ segment. segment.mode ≡ self.now.mode) }
@@ -439,6 +439,13 @@ impl<'a> Layout for Bytes<'a> {
     fn laws() {}
 }
 
+/// # Defined
+///
+/// ```text
+/// may_allocate = { ⊥ }
+/// ```
+///
+/// [How to read clauses](crate::definitions).
 impl<'a, A: Allocator + Copy, G: Grammar> Readable<'a, A, G> for Bytes<'a> {
     fn read(bytes: &'a [u8], alloc: A) -> Result<(Bytes<'a>, &'a [u8]), DecodeError> {
         let (bytes, rest) = <&'a [u8] as Readable<'a, A, G>>::read(bytes, alloc)?;
@@ -587,7 +594,7 @@ impl<'a, A: Allocator + Copy, G: Grammar> Readable<'a, A, G> for Segment<'a, A> 
 ///
 /// # Proved
 ///
-/// After `Ok`: `found`. After an error: `none`, the bytes as a whole are no such encoding, unless the cause is `Memory`.
+/// After `Ok`: `found`, the bytes as a whole encode the value. After an error: `none`, the bytes as a whole are no such encoding, unless the cause is `Memory`.
 ///
 /// ```text
 /// ensures found { IfOk result
@@ -609,20 +616,20 @@ pub fn read_segments<'a, A: Allocator + Copy + 'a, G: Grammar>(
 ///
 /// # Proved
 ///
-/// - After `Ok`, `ok`: the sink gains the minimal encoding.
+/// - After `Ok`, `ok`: the sink gains the encoding that is minimal in the builders' grammar.
 /// - `front`: The new bytes begin with the old ones.
 /// - `too_long`: a value that has an encoding never gives `TooLong`.
 ///
 /// ```text
 /// ensures ok { OnOk result
-///     (AppendsMinimal (pair expression (vec byte))
+///     (AppendsMinimal builders_alone (pair expression (vec byte))
 ///         (instructions_view offset.now, bytes.now) sink.old.items sink.new.items) }
 /// ensures front { IsFrontOf sink.old.items sink.new.items }
-/// ensures too_long { HasEncoding (pair expression (vec byte))
+/// ensures too_long { HasEncoding builders_alone (pair expression (vec byte))
 ///     (instructions_view offset.now, bytes.now) → result ≢ Err TooLong }
 /// ```
 ///
-/// Definitions: [`AppendsMinimal`](crate::definitions::base::minimal::AppendsMinimal), [`pair`](crate::definitions::base::formats::pair), [`expression`](crate::definitions::code::expressions::expression), [`vec`](crate::definitions::base::formats::vec), [`byte`](crate::definitions::base::formats::byte), [`instructions_view`](crate::definitions::sections::constants::instructions_view), [`IsFrontOf`](crate::definitions::base::minimal::IsFrontOf), [`HasEncoding`](crate::definitions::base::minimal::HasEncoding). [How to read clauses](crate::definitions).
+/// Definitions: [`AppendsMinimal`](crate::definitions::base::minimal::AppendsMinimal), [`builders_alone`](crate::definitions::base::minimal::Grammars), [`pair`](crate::definitions::base::formats::pair), [`expression`](crate::definitions::code::expressions::expression), [`vec`](crate::definitions::base::formats::vec), [`byte`](crate::definitions::base::formats::byte), [`instructions_view`](crate::definitions::sections::constants::instructions_view), [`IsFrontOf`](crate::definitions::base::minimal::IsFrontOf), [`HasEncoding`](crate::definitions::base::minimal::HasEncoding). [How to read clauses](crate::definitions).
 fn append_placed<A: Allocator, B: Sink>(
     offset: &Expression<A>,
     bytes: &[u8],
@@ -636,21 +643,21 @@ fn append_placed<A: Allocator, B: Sink>(
 ///
 /// # Proved
 ///
-/// - After `Ok`, `ok`: the sink gains the minimal encoding.
+/// - After `Ok`, `ok`: the sink gains the encoding that is minimal in the builders' grammar.
 /// - `front`: The new bytes begin with the old ones.
 /// - `too_long`: a value that has an encoding never gives `TooLong`.
 ///
 /// ```text
 /// ensures ok { OnOk result
-///     (AppendsMinimal data_item
+///     (AppendsMinimal builders_alone data_item
 ///         (active memory (instructions_view offset.now) bytes.now) sink.old.items
 ///         sink.new.items) }
 /// ensures front { IsFrontOf sink.old.items sink.new.items }
-/// ensures too_long { HasEncoding data_item
+/// ensures too_long { HasEncoding builders_alone data_item
 ///     (active memory (instructions_view offset.now) bytes.now) → result ≢ Err TooLong }
 /// ```
 ///
-/// Definitions: [`AppendsMinimal`](crate::definitions::base::minimal::AppendsMinimal), [`data_item`](crate::definitions::sections::data_segments::data_item), [`active`](crate::definitions::sections::data_segments::DataItem), [`instructions_view`](crate::definitions::sections::constants::instructions_view), [`IsFrontOf`](crate::definitions::base::minimal::IsFrontOf), [`HasEncoding`](crate::definitions::base::minimal::HasEncoding). [How to read clauses](crate::definitions).
+/// Definitions: [`AppendsMinimal`](crate::definitions::base::minimal::AppendsMinimal), [`builders_alone`](crate::definitions::base::minimal::Grammars), [`data_item`](crate::definitions::sections::data_segments::data_item), [`active`](crate::definitions::sections::data_segments::DataItem), [`instructions_view`](crate::definitions::sections::constants::instructions_view), [`IsFrontOf`](crate::definitions::base::minimal::IsFrontOf), [`HasEncoding`](crate::definitions::base::minimal::HasEncoding). [How to read clauses](crate::definitions).
 fn append_active<A: Allocator, B: Sink>(
     memory: u32,
     offset: &Expression<A>,
@@ -665,6 +672,13 @@ fn append_active<A: Allocator, B: Sink>(
     append_placed(offset, bytes, sink)
 }
 
+/// # Defined
+///
+/// ```text
+/// grammars = { builders_alone }
+/// ```
+///
+/// Definitions: [`builders_alone`](crate::definitions::base::minimal::Grammars). [How to read clauses](crate::definitions).
 impl<'a, A: Allocator> Shorten for Segment<'a, A> {
     fn write_minimal<B: Sink>(&self, sink: &mut B) -> Result<()> {
         match self {

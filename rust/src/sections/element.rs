@@ -134,7 +134,7 @@ pub struct ElementSegment<'a, A: Allocator = Global> {
 ///
 /// # Proved
 ///
-/// After `Ok`: `same`. In any case: `memory`, no error is `TooLong`.
+/// After `Ok`: `same`, the result has the same items. In any case: `memory`, no error is `TooLong`.
 ///
 /// ```text
 /// ensures same { IfOk result (λ v. v.items ≡ expressions.now) }
@@ -163,7 +163,7 @@ impl<'a, A: Allocator + Copy> Elements<'a, A> {
     ///
     /// # Proved
     ///
-    /// After `Ok`: `same`. In any case: `memory`, no error is `TooLong`.
+    /// After `Ok`: `same`, the result has the same content. In any case: `memory`, no error is `TooLong`.
     ///
     /// ```text
     /// ensures same { IfOk result (λ elements. list_in elements ≡ list_in self.now) }
@@ -224,7 +224,7 @@ impl<'a, A: Allocator + Copy> ElementSegment<'a, A> {
     ///
     /// # Proved
     ///
-    /// After `Ok`: `same`. In any case: `memory`, no error is `TooLong`.
+    /// After `Ok`: `same`, the result has the same content. In any case: `memory`, no error is `TooLong`.
     ///
     /// ```text
     /// ensures same { IfOk result (λ segment. segment_in segment ≡ segment_in self.now) }

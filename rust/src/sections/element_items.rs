@@ -58,6 +58,13 @@ impl Layout for ElementFlag {
     fn laws() {}
 }
 
+/// # Defined
+///
+/// ```text
+/// may_allocate = { ⊥ }
+/// ```
+///
+/// [How to read clauses](crate::definitions).
 impl<'a, A: Allocator + Copy, G: Grammar> Readable<'a, A, G> for ElementFlag {
     fn read(bytes: &'a [u8], alloc: A) -> Result<(ElementFlag, &'a [u8]), DecodeError> {
         let (number, rest) = <u32 as Readable<'a, A, G>>::read(bytes, alloc)?;
@@ -331,20 +338,20 @@ impl<'a, A: Allocator + Copy, G: Grammar> Readable<'a, A, G> for ElementItem<A> 
 ///
 /// # Proved
 ///
-/// - After `Ok`, `ok`: the sink gains the minimal encoding.
+/// - After `Ok`, `ok`: the sink gains the encoding that is minimal in the builders' grammar.
 /// - `front`: The new bytes begin with the old ones.
 /// - `too_long`: a value that has an encoding never gives `TooLong`.
 ///
 /// ```text
 /// ensures ok { OnOk result
-///     (AppendsMinimal (elements_as explicit false)
+///     (AppendsMinimal builders_alone (elements_as explicit false)
 ///         (functions indices.now.items) sink.old.items sink.new.items) }
 /// ensures front { IsFrontOf sink.old.items sink.new.items }
-/// ensures too_long { HasEncoding (elements_as explicit false)
+/// ensures too_long { HasEncoding builders_alone (elements_as explicit false)
 ///     (functions indices.now.items) → result ≢ Err TooLong }
 /// ```
 ///
-/// Definitions: [`AppendsMinimal`](crate::definitions::base::minimal::AppendsMinimal), [`elements_as`](crate::definitions::sections::elements::elements_as), [`functions`](crate::definitions::sections::elements::ElementList), [`IsFrontOf`](crate::definitions::base::minimal::IsFrontOf), [`HasEncoding`](crate::definitions::base::minimal::HasEncoding). [How to read clauses](crate::definitions).
+/// Definitions: [`AppendsMinimal`](crate::definitions::base::minimal::AppendsMinimal), [`builders_alone`](crate::definitions::base::minimal::Grammars), [`elements_as`](crate::definitions::sections::elements::elements_as), [`functions`](crate::definitions::sections::elements::ElementList), [`IsFrontOf`](crate::definitions::base::minimal::IsFrontOf), [`HasEncoding`](crate::definitions::base::minimal::HasEncoding). [How to read clauses](crate::definitions).
 fn append_functions<A: Allocator, B: Sink>(
     explicit: bool,
     indices: &Vec<u32, A>,
@@ -361,21 +368,21 @@ fn append_functions<A: Allocator, B: Sink>(
 ///
 /// # Proved
 ///
-/// - After `Ok`, `ok`: the sink gains the minimal encoding.
+/// - After `Ok`, `ok`: the sink gains the encoding that is minimal in the builders' grammar.
 /// - `front`: The new bytes begin with the old ones.
 /// - `too_long`: a value that has an encoding never gives `TooLong`.
 ///
 /// ```text
 /// ensures ok { OnOk result
-///     (AppendsMinimal (elements_as explicit true)
+///     (AppendsMinimal builders_alone (elements_as explicit true)
 ///         (expressions ty (map instructions_view elements.now.items)) sink.old.items
 ///         sink.new.items) }
 /// ensures front { IsFrontOf sink.old.items sink.new.items }
-/// ensures too_long { HasEncoding (elements_as explicit true)
+/// ensures too_long { HasEncoding builders_alone (elements_as explicit true)
 ///     (expressions ty (map instructions_view elements.now.items)) → result ≢ Err TooLong }
 /// ```
 ///
-/// Definitions: [`AppendsMinimal`](crate::definitions::base::minimal::AppendsMinimal), [`elements_as`](crate::definitions::sections::elements::elements_as), [`expressions`](crate::definitions::sections::elements::ElementList), [`instructions_view`](crate::definitions::sections::constants::instructions_view), [`IsFrontOf`](crate::definitions::base::minimal::IsFrontOf), [`HasEncoding`](crate::definitions::base::minimal::HasEncoding). [How to read clauses](crate::definitions).
+/// Definitions: [`AppendsMinimal`](crate::definitions::base::minimal::AppendsMinimal), [`builders_alone`](crate::definitions::base::minimal::Grammars), [`elements_as`](crate::definitions::sections::elements::elements_as), [`expressions`](crate::definitions::sections::elements::ElementList), [`instructions_view`](crate::definitions::sections::constants::instructions_view), [`IsFrontOf`](crate::definitions::base::minimal::IsFrontOf), [`HasEncoding`](crate::definitions::base::minimal::HasEncoding). [How to read clauses](crate::definitions).
 fn append_expressions<A: Allocator, B: Sink>(
     explicit: bool,
     ty: RefType,
@@ -393,24 +400,24 @@ fn append_expressions<A: Allocator, B: Sink>(
 ///
 /// # Proved
 ///
-/// - After `Ok`, `ok`: the sink gains the minimal encoding.
+/// - After `Ok`, `ok`: the sink gains the encoding that is minimal in the builders' grammar.
 /// - `front`: The new bytes begin with the old ones.
 /// - `too_long`: a value that has an encoding never gives `TooLong`.
 ///
 /// ```text
 /// ensures ok { OnOk result
-///     (AppendsMinimal (segment_mode
-///             (record { not_active = false; second = is_given table;
+///     (AppendsMinimal builders_alone
+///         (segment_mode (record { not_active = false; second = is_given table;
 ///                     expressions = false })) (active table
 ///             (instructions_view offset.now)) sink.old.items sink.new.items) }
 /// ensures front { IsFrontOf sink.old.items sink.new.items }
-/// ensures too_long { HasEncoding
+/// ensures too_long { HasEncoding builders_alone
 ///     (segment_mode (record { not_active = false; second = is_given table;
 ///                 expressions = false })) (active table (instructions_view offset.now))
 ///     → result ≢ Err TooLong }
 /// ```
 ///
-/// Definitions: [`AppendsMinimal`](crate::definitions::base::minimal::AppendsMinimal), [`segment_mode`](crate::definitions::sections::elements::segment_mode), [`is_given`](crate::definitions::base::formats::is_given), [`active`](crate::definitions::sections::elements::SegmentMode), [`instructions_view`](crate::definitions::sections::constants::instructions_view), [`IsFrontOf`](crate::definitions::base::minimal::IsFrontOf), [`HasEncoding`](crate::definitions::base::minimal::HasEncoding). [How to read clauses](crate::definitions).
+/// Definitions: [`AppendsMinimal`](crate::definitions::base::minimal::AppendsMinimal), [`builders_alone`](crate::definitions::base::minimal::Grammars), [`segment_mode`](crate::definitions::sections::elements::segment_mode), [`is_given`](crate::definitions::base::formats::is_given), [`active`](crate::definitions::sections::elements::SegmentMode), [`instructions_view`](crate::definitions::sections::constants::instructions_view), [`IsFrontOf`](crate::definitions::base::minimal::IsFrontOf), [`HasEncoding`](crate::definitions::base::minimal::HasEncoding). [How to read clauses](crate::definitions).
 fn append_active<A: Allocator, B: Sink>(
     table: Option<u32>,
     offset: &Expression<A>,
@@ -454,20 +461,21 @@ impl<A: Allocator> ElementItem<A> {
     ///
     /// # Proved
     ///
-    /// - After `Ok`, `ok`: the sink gains the minimal encoding.
+    /// - After `Ok`, `ok`: the sink gains the encoding that is minimal in the builders' grammar.
     /// - `front`: The new bytes begin with the old ones.
     /// - `too_long`: a value that has an encoding never gives `TooLong`.
     ///
     /// ```text
     /// ensures ok { OnOk result
-    ///     (AppendsMinimal (segment_mode (flag_of (element_view self.now)))
+    ///     (AppendsMinimal builders_alone (segment_mode (flag_of (element_view self.now)))
     ///         (segment_mode_view self.now.mode) sink.old.items sink.new.items) }
     /// ensures front { IsFrontOf sink.old.items sink.new.items }
-    /// ensures too_long { HasEncoding (segment_mode (flag_of (element_view self.now)))
-    ///     (segment_mode_view self.now.mode) → result ≢ Err TooLong }
+    /// ensures too_long { HasEncoding builders_alone
+    ///     (segment_mode (flag_of (element_view self.now))) (segment_mode_view self.now.mode)
+    ///     → result ≢ Err TooLong }
     /// ```
     ///
-    /// Definitions: [`AppendsMinimal`](crate::definitions::base::minimal::AppendsMinimal), [`segment_mode`](crate::definitions::sections::elements::segment_mode), [`flag_of`](crate::definitions::sections::elements::flag_of), [`element_view`](crate::definitions::sections::elements::element_view), [`segment_mode_view`](crate::definitions::sections::elements::segment_mode_view), [`IsFrontOf`](crate::definitions::base::minimal::IsFrontOf), [`HasEncoding`](crate::definitions::base::minimal::HasEncoding). [How to read clauses](crate::definitions).
+    /// Definitions: [`AppendsMinimal`](crate::definitions::base::minimal::AppendsMinimal), [`builders_alone`](crate::definitions::base::minimal::Grammars), [`segment_mode`](crate::definitions::sections::elements::segment_mode), [`flag_of`](crate::definitions::sections::elements::flag_of), [`element_view`](crate::definitions::sections::elements::element_view), [`segment_mode_view`](crate::definitions::sections::elements::segment_mode_view), [`IsFrontOf`](crate::definitions::base::minimal::IsFrontOf), [`HasEncoding`](crate::definitions::base::minimal::HasEncoding). [How to read clauses](crate::definitions).
     fn append_segment_mode<B: Sink>(&self, sink: &mut B) -> Result<()> {
         match &self.mode {
             ElementItemMode::Passive => Ok(()),
@@ -481,21 +489,22 @@ impl<A: Allocator> ElementItem<A> {
 ///
 /// # Proved
 ///
-/// - After `Ok`, `ok`: the sink gains the minimal encoding.
+/// - After `Ok`, `ok`: the sink gains the encoding that is minimal in the builders' grammar.
 /// - `front`: The new bytes begin with the old ones.
 /// - `too_long`: a value that has an encoding never gives `TooLong`.
 ///
 /// ```text
 /// ensures ok { OnOk result
-///     (AppendsMinimal (elements_as explicit (are_expressions (list_view elements.now)))
+///     (AppendsMinimal builders_alone
+///         (elements_as explicit (are_expressions (list_view elements.now)))
 ///         (list_view elements.now) sink.old.items sink.new.items) }
 /// ensures front { IsFrontOf sink.old.items sink.new.items }
-/// ensures too_long { HasEncoding
+/// ensures too_long { HasEncoding builders_alone
 ///     (elements_as explicit (are_expressions (list_view elements.now)))
 ///     (list_view elements.now) → result ≢ Err TooLong }
 /// ```
 ///
-/// Definitions: [`AppendsMinimal`](crate::definitions::base::minimal::AppendsMinimal), [`elements_as`](crate::definitions::sections::elements::elements_as), [`are_expressions`](crate::definitions::sections::elements::are_expressions), [`list_view`](crate::definitions::sections::elements::list_view), [`IsFrontOf`](crate::definitions::base::minimal::IsFrontOf), [`HasEncoding`](crate::definitions::base::minimal::HasEncoding). [How to read clauses](crate::definitions).
+/// Definitions: [`AppendsMinimal`](crate::definitions::base::minimal::AppendsMinimal), [`builders_alone`](crate::definitions::base::minimal::Grammars), [`elements_as`](crate::definitions::sections::elements::elements_as), [`are_expressions`](crate::definitions::sections::elements::are_expressions), [`list_view`](crate::definitions::sections::elements::list_view), [`IsFrontOf`](crate::definitions::base::minimal::IsFrontOf), [`HasEncoding`](crate::definitions::base::minimal::HasEncoding). [How to read clauses](crate::definitions).
 fn append_elements<A: Allocator, B: Sink>(
     explicit: bool,
     elements: &ElementList<A>,
@@ -507,6 +516,13 @@ fn append_elements<A: Allocator, B: Sink>(
     }
 }
 
+/// # Defined
+///
+/// ```text
+/// grammars = { builders_alone }
+/// ```
+///
+/// Definitions: [`builders_alone`](crate::definitions::base::minimal::Grammars). [How to read clauses](crate::definitions).
 impl<A: Allocator> Shorten for ElementItem<A> {
     fn write_minimal<B: Sink>(&self, sink: &mut B) -> Result<()> {
         let flag = self.flag();
@@ -520,7 +536,7 @@ impl<A: Allocator> Shorten for ElementItem<A> {
 ///
 /// # Proved
 ///
-/// After `Ok`: `found`. After an error: `none`, the bytes do not begin with such an encoding, unless the cause is `Memory`.
+/// After `Ok`: `found`, the bytes begin with such an encoding, and the returned bytes follow it. After an error: `none`, the bytes do not begin with such an encoding, unless the cause is `Memory`.
 ///
 /// ```text
 /// ensures found { IfOk result
@@ -530,6 +546,7 @@ impl<A: Allocator> Shorten for ElementItem<A> {
 /// ensures none { IfErr result
 ///     (λ e. e.cause ≢ Memory → Rejects (segment_mode (element_flag_view flag))
 ///         (padded_of G.grammar) bytes.now) }
+/// ensures no_memory { IfErr result (λ e. e.cause ≢ Memory) }
 /// ```
 ///
 /// Definitions: [`SegmentMode`](crate::definitions::sections::elements::SegmentMode), [`Plain`](crate::definitions::insn::plain::Plain), [`Decodes`](crate::definitions::base::decoding::Decodes), [`segment_mode`](crate::definitions::sections::elements::segment_mode), [`element_flag_view`](crate::definitions::sections::elements::element_flag_view), [`padded_of`](crate::definitions::base::numbers::padded_of), [`Rejects`](crate::definitions::base::decoding::Rejects). [How to read clauses](crate::definitions).
@@ -556,7 +573,7 @@ fn skip_segment_mode<'a, A: Allocator + Copy, G: Grammar>(
 ///
 /// # Proved
 ///
-/// After `Ok`: `found`. After an error: `none`, the bytes do not begin with such an encoding, unless the cause is `Memory`.
+/// After `Ok`: `found`, the bytes begin with such an encoding, and the returned bytes follow it. After an error: `none`, the bytes do not begin with such an encoding, unless the cause is `Memory`.
 ///
 /// ```text
 /// ensures found { IfOk result
@@ -566,6 +583,7 @@ fn skip_segment_mode<'a, A: Allocator + Copy, G: Grammar>(
 /// ensures none { IfErr result
 ///     (λ e. e.cause ≢ Memory → Rejects (elements_as explicit false)
 ///         (padded_of G.grammar) bytes.now) }
+/// ensures no_memory { IfErr result (λ e. e.cause ≢ Memory) }
 /// ```
 ///
 /// Definitions: [`ListModel`](crate::definitions::sections::elements::ElementList), [`Plain`](crate::definitions::insn::plain::Plain), [`Decodes`](crate::definitions::base::decoding::Decodes), [`elements_as`](crate::definitions::sections::elements::elements_as), [`padded_of`](crate::definitions::base::numbers::padded_of), [`Rejects`](crate::definitions::base::decoding::Rejects). [How to read clauses](crate::definitions).
@@ -590,7 +608,7 @@ fn skip_functions<'a, A: Allocator + Copy, G: Grammar>(
 ///
 /// # Proved
 ///
-/// After `Ok`: `found`. After an error: `none`, the bytes do not begin with such an encoding, unless the cause is `Memory`.
+/// After `Ok`: `found`, the bytes begin with such an encoding, and the returned bytes follow it. After an error: `none`, the bytes do not begin with such an encoding, unless the cause is `Memory`.
 ///
 /// ```text
 /// ensures found { IfOk result
@@ -600,6 +618,7 @@ fn skip_functions<'a, A: Allocator + Copy, G: Grammar>(
 /// ensures none { IfErr result
 ///     (λ e. e.cause ≢ Memory → Rejects (elements_as explicit true)
 ///         (padded_of G.grammar) bytes.now) }
+/// ensures no_memory { IfErr result (λ e. e.cause ≢ Memory) }
 /// ```
 ///
 /// Definitions: [`ListModel`](crate::definitions::sections::elements::ElementList), [`Plain`](crate::definitions::insn::plain::Plain), [`Decodes`](crate::definitions::base::decoding::Decodes), [`elements_as`](crate::definitions::sections::elements::elements_as), [`padded_of`](crate::definitions::base::numbers::padded_of), [`Rejects`](crate::definitions::base::decoding::Rejects). [How to read clauses](crate::definitions).
@@ -621,7 +640,7 @@ fn skip_expressions<'a, A: Allocator + Copy, G: Grammar>(
 ///
 /// # Proved
 ///
-/// After `Ok`: `found`. After an error: `none`, the bytes do not begin with such an encoding, unless the cause is `Memory`.
+/// After `Ok`: `found`, the bytes begin with such an encoding, and the returned bytes follow it. After an error: `none`, the bytes do not begin with such an encoding, unless the cause is `Memory`.
 ///
 /// ```text
 /// ensures found { IfOk result
@@ -631,6 +650,7 @@ fn skip_expressions<'a, A: Allocator + Copy, G: Grammar>(
 /// ensures none { IfErr result
 ///     (λ e. e.cause ≢ Memory → Rejects (elements_as explicit of_expressions)
 ///         (padded_of G.grammar) bytes.now) }
+/// ensures no_memory { IfErr result (λ e. e.cause ≢ Memory) }
 /// ```
 ///
 /// Definitions: [`ListModel`](crate::definitions::sections::elements::ElementList), [`Plain`](crate::definitions::insn::plain::Plain), [`Decodes`](crate::definitions::base::decoding::Decodes), [`elements_as`](crate::definitions::sections::elements::elements_as), [`padded_of`](crate::definitions::base::numbers::padded_of), [`Rejects`](crate::definitions::base::decoding::Rejects). [How to read clauses](crate::definitions).

@@ -261,7 +261,7 @@ impl<A: Allocator + Copy> Imports<'_, A> {
     ///
     /// # Proved
     ///
-    /// After `Ok`: `same`. In any case: `memory`, no error is `TooLong`.
+    /// After `Ok`: `same`, the result has the same content. In any case: `memory`, no error is `TooLong`.
     ///
     /// ```text
     /// ensures same { IfOk result (λ imports. imports_item imports ≡ imports_item self.now) }
@@ -448,6 +448,13 @@ impl Layout for EntityType {
     fn laws() {}
 }
 
+/// # Defined
+///
+/// ```text
+/// may_allocate = { ⊥ }
+/// ```
+///
+/// [How to read clauses](crate::definitions).
 impl<'a, A: Allocator + Copy, G: Grammar> Readable<'a, A, G> for EntityType {
     fn read(bytes: &'a [u8], alloc: A) -> Result<(EntityType, &'a [u8]), DecodeError> {
         let (kind, rest) = <u8 as Readable<'a, A, G>>::read(bytes, alloc)?;
@@ -505,6 +512,13 @@ impl<'a> Layout for ImportCompact<'a> {
     }
 }
 
+/// # Defined
+///
+/// ```text
+/// may_allocate = { ⊥ }
+/// ```
+///
+/// [How to read clauses](crate::definitions).
 impl<'a, A: Allocator + Copy, G: Grammar> Readable<'a, A, G> for ImportCompact<'a> {
     fn read(bytes: &'a [u8], alloc: A) -> Result<(ImportCompact<'a>, &'a [u8]), DecodeError> {
         let ((name, ty), rest) = <(&'a str, EntityType) as Readable<'a, A, G>>::read(bytes, alloc)?;
@@ -605,7 +619,7 @@ impl<'a, A: Allocator + Copy, G: Grammar> Readable<'a, A, G> for Imports<'a, A> 
 ///
 /// # Proved
 ///
-/// After `Ok`: `found`. After an error: `none`, the bytes as a whole are no such encoding, unless the cause is `Memory`.
+/// After `Ok`: `found`, the bytes as a whole encode the value. After an error: `none`, the bytes as a whole are no such encoding, unless the cause is `Memory`.
 ///
 /// ```text
 /// ensures found { IfOk result
@@ -629,20 +643,20 @@ pub fn read_imports<'a, A: Allocator + Copy + 'a, G: Grammar>(
 ///
 /// # Proved
 ///
-/// - After `Ok`, `ok`: the sink gains the minimal encoding.
+/// - After `Ok`, `ok`: the sink gains the encoding that is minimal in the builders' grammar.
 /// - `front`: The new bytes begin with the old ones.
 /// - `too_long`: a value that has an encoding never gives `TooLong`.
 ///
 /// ```text
 /// ensures ok { OnOk result
-///     (AppendsMinimal (vec import_format)
+///     (AppendsMinimal builders_alone (vec import_format)
 ///         (map imports_item imports.now) sink.old.items sink.new.items) }
 /// ensures front { IsFrontOf sink.old.items sink.new.items }
-/// ensures too_long { HasEncoding (vec import_format) (map imports_item imports.now)
-///     → result ≢ Err TooLong }
+/// ensures too_long { HasEncoding builders_alone (vec import_format)
+///     (map imports_item imports.now) → result ≢ Err TooLong }
 /// ```
 ///
-/// Definitions: [`AppendsMinimal`](crate::definitions::base::minimal::AppendsMinimal), [`vec`](crate::definitions::base::formats::vec), [`import_format`](crate::definitions::sections::imports::import_format), [`imports_item`](crate::definitions::sections::imports::imports_item), [`IsFrontOf`](crate::definitions::base::minimal::IsFrontOf), [`HasEncoding`](crate::definitions::base::minimal::HasEncoding). [How to read clauses](crate::definitions).
+/// Definitions: [`AppendsMinimal`](crate::definitions::base::minimal::AppendsMinimal), [`builders_alone`](crate::definitions::base::minimal::Grammars), [`vec`](crate::definitions::base::formats::vec), [`import_format`](crate::definitions::sections::imports::import_format), [`imports_item`](crate::definitions::sections::imports::imports_item), [`IsFrontOf`](crate::definitions::base::minimal::IsFrontOf), [`HasEncoding`](crate::definitions::base::minimal::HasEncoding). [How to read clauses](crate::definitions).
 fn write_imports<A: Allocator, B: Sink>(
     imports: &[Imports<'_, A>],
     sink: &mut B,
@@ -677,18 +691,18 @@ fn write_imports<A: Allocator, B: Sink>(
 ///
 /// # Proved
 ///
-/// After `Ok`: `ok`, the sink gains the minimal encoding. After an error: `err`, the bytes of the sink are unchanged. In any case: `too_long`, a value that has an encoding never gives `TooLong`.
+/// After `Ok`: `ok`, the sink gains the encoding that is minimal in the builders' grammar. After an error: `err`, the bytes of the sink are unchanged. In any case: `too_long`, a value that has an encoding never gives `TooLong`.
 ///
 /// ```text
 /// ensures ok { OnOk result
-///     (AppendsMinimal (vec import_format)
+///     (AppendsMinimal builders_alone (vec import_format)
 ///         (map imports_item imports.now) sink.old.items sink.new.items) }
 /// ensures err { OnErr result (sink.new.items ≡ sink.old.items) }
-/// ensures too_long { HasEncoding (vec import_format) (map imports_item imports.now)
-///     → result ≢ Err TooLong }
+/// ensures too_long { HasEncoding builders_alone (vec import_format)
+///     (map imports_item imports.now) → result ≢ Err TooLong }
 /// ```
 ///
-/// Definitions: [`AppendsMinimal`](crate::definitions::base::minimal::AppendsMinimal), [`vec`](crate::definitions::base::formats::vec), [`import_format`](crate::definitions::sections::imports::import_format), [`imports_item`](crate::definitions::sections::imports::imports_item), [`HasEncoding`](crate::definitions::base::minimal::HasEncoding). [How to read clauses](crate::definitions).
+/// Definitions: [`AppendsMinimal`](crate::definitions::base::minimal::AppendsMinimal), [`builders_alone`](crate::definitions::base::minimal::Grammars), [`vec`](crate::definitions::base::formats::vec), [`import_format`](crate::definitions::sections::imports::import_format), [`imports_item`](crate::definitions::sections::imports::imports_item), [`HasEncoding`](crate::definitions::base::minimal::HasEncoding). [How to read clauses](crate::definitions).
 pub fn append_imports<A: Allocator, B: Sink>(
     imports: &[Imports<'_, A>],
     sink: &mut B,

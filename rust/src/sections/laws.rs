@@ -219,7 +219,7 @@ pub fn rejections() {}
 /// # Proved
 ///
 /// - `plain`: The export is well-formed: its name is UTF-8, and its index is below 2^32.
-/// - In any case: `index`.
+/// - `index`: the result is the index of the export.
 ///
 /// ```text
 /// ensures plain { IsExport export.now }

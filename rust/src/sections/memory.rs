@@ -237,6 +237,13 @@ impl Layout for Flags {
     fn laws() {}
 }
 
+/// # Defined
+///
+/// ```text
+/// may_allocate = { ⊥ }
+/// ```
+///
+/// [How to read clauses](crate::definitions).
 impl<'a, A: Allocator + Copy, G: Grammar> Readable<'a, A, G> for Flags {
     fn read(bytes: &'a [u8], alloc: A) -> Result<(Flags, &'a [u8]), DecodeError> {
         let (byte, rest) = <u8 as Readable<'a, A, G>>::read(bytes, alloc)?;
@@ -266,6 +273,13 @@ impl Layout for MemoryType {
     fn laws() {}
 }
 
+/// # Defined
+///
+/// ```text
+/// may_allocate = { ⊥ }
+/// ```
+///
+/// [How to read clauses](crate::definitions).
 impl<'a, A: Allocator + Copy, G: Grammar> Readable<'a, A, G> for MemoryType {
     fn read(bytes: &'a [u8], alloc: A) -> Result<(MemoryType, &'a [u8]), DecodeError> {
         let (flags, rest) = <Flags as Readable<'a, A, G>>::read(bytes, alloc)?;

@@ -86,7 +86,7 @@ impl GlobalType {
     ///
     /// # Proved
     ///
-    /// - After `Ok`: `ok`.
+    /// - After `Ok`, `ok`: the sink gains the minimal encoding in the grammar.
     /// - `front`: The new bytes begin with the old ones.
     ///
     /// ```text
@@ -130,7 +130,7 @@ impl TableType {
     ///
     /// # Proved
     ///
-    /// - After `Ok`: `ok`.
+    /// - After `Ok`, `ok`: the sink gains the minimal encoding in the grammar.
     /// - `front`: The new bytes begin with the old ones.
     ///
     /// ```text
@@ -290,8 +290,7 @@ impl<'s, G: Grammar, C: Allocator> Minimize<G> for Segment<'s, C> {
 ///
 /// # Proved
 ///
-/// - After `Ok`: `ok`.
-/// - `front`: The new bytes begin with the old ones.
+/// `front`: The new bytes begin with the old ones.
 ///
 /// ```text
 /// ensures ok { OnOk result (sink.new.items ≡ sink.old.items ++ active_front memory) }
@@ -479,7 +478,7 @@ impl EntityType {
     ///
     /// # Proved
     ///
-    /// - After `Ok`: `ok`.
+    /// - After `Ok`, `ok`: the sink gains the minimal encoding in the grammar.
     /// - `front`: The new bytes begin with the old ones.
     ///
     /// ```text

@@ -266,6 +266,13 @@ impl Layout for Limits {
     fn laws() {}
 }
 
+/// # Defined
+///
+/// ```text
+/// may_allocate = { ⊥ }
+/// ```
+///
+/// [How to read clauses](crate::definitions).
 impl<'a, A: Allocator + Copy, G: Grammar> Readable<'a, A, G> for Limits {
     fn read(bytes: &'a [u8], alloc: A) -> Result<(Limits, &'a [u8]), DecodeError> {
         let (flags, rest) = <Flags as Readable<'a, A, G>>::read(bytes, alloc)?;
@@ -297,6 +304,13 @@ impl Layout for TableType {
     fn laws() {}
 }
 
+/// # Defined
+///
+/// ```text
+/// may_allocate = { ⊥ }
+/// ```
+///
+/// [How to read clauses](crate::definitions).
 impl<'a, A: Allocator + Copy, G: Grammar> Readable<'a, A, G> for TableType {
     fn read(bytes: &'a [u8], alloc: A) -> Result<(TableType, &'a [u8]), DecodeError> {
         let ((element_type, limits), rest) = <(RefType, Limits) as Readable<'a, A, G>>::read(
@@ -377,6 +391,13 @@ impl<'a, A: Allocator + Copy, G: Grammar> Readable<'a, A, G> for TableItem<A> {
     }
 }
 
+/// # Defined
+///
+/// ```text
+/// grammars = { builders_alone }
+/// ```
+///
+/// Definitions: [`builders_alone`](crate::definitions::base::minimal::Grammars). [How to read clauses](crate::definitions).
 impl<A: Allocator> Shorten for TableItem<A> {
     fn write_minimal<B: Sink>(&self, sink: &mut B) -> Result<()> {
         let Some(init) = &self.init else {

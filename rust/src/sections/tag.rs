@@ -183,6 +183,13 @@ impl Layout for TagKind {
     fn laws() {}
 }
 
+/// # Defined
+///
+/// ```text
+/// may_allocate = { ⊥ }
+/// ```
+///
+/// [How to read clauses](crate::definitions).
 impl<'a, A: Allocator + Copy, G: Grammar> Readable<'a, A, G> for TagKind {
     fn read(bytes: &'a [u8], alloc: A) -> Result<(TagKind, &'a [u8]), DecodeError> {
         let (code, rest) = <u8 as Readable<'a, A, G>>::read(bytes, alloc)?;
@@ -207,6 +214,13 @@ impl Layout for TagType {
     fn laws() {}
 }
 
+/// # Defined
+///
+/// ```text
+/// may_allocate = { ⊥ }
+/// ```
+///
+/// [How to read clauses](crate::definitions).
 impl<'a, A: Allocator + Copy, G: Grammar> Readable<'a, A, G> for TagType {
     fn read(bytes: &'a [u8], alloc: A) -> Result<(TagType, &'a [u8]), DecodeError> {
         let ((kind, func_type_idx), rest) = <(TagKind, u32) as Readable<'a, A, G>>::read(

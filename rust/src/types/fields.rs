@@ -22,6 +22,13 @@ impl Layout for Mutable {
     fn laws() {}
 }
 
+/// # Defined
+///
+/// ```text
+/// may_allocate = { ⊥ }
+/// ```
+///
+/// [How to read clauses](crate::definitions).
 impl<'a, A: Allocator + Copy, G: Grammar> Readable<'a, A, G> for Mutable {
     fn read(bytes: &'a [u8], alloc: A) -> Result<(Mutable, &'a [u8]), DecodeError> {
         let (code, rest) = <u8 as Readable<'a, A, G>>::read(bytes, alloc)?;
@@ -46,6 +53,13 @@ impl Layout for StorageType {
     fn laws() {}
 }
 
+/// # Defined
+///
+/// ```text
+/// may_allocate = { ⊥ }
+/// ```
+///
+/// [How to read clauses](crate::definitions).
 impl<'a, A: Allocator + Copy, G: Grammar> Readable<'a, A, G> for StorageType {
     fn read(bytes: &'a [u8], alloc: A) -> Result<(StorageType, &'a [u8]), DecodeError> {
         let (tag, rest) = <u8 as Readable<'a, A, G>>::read(bytes, alloc)?;
@@ -73,6 +87,13 @@ impl Layout for FieldType {
     fn laws() {}
 }
 
+/// # Defined
+///
+/// ```text
+/// may_allocate = { ⊥ }
+/// ```
+///
+/// [How to read clauses](crate::definitions).
 impl<'a, A: Allocator + Copy, G: Grammar> Readable<'a, A, G> for FieldType {
     fn read(bytes: &'a [u8], alloc: A) -> Result<(FieldType, &'a [u8]), DecodeError> {
         let ((element_type, Mutable(mutable)), rest) = <(StorageType, Mutable) as Readable<

@@ -10,7 +10,7 @@ use crate::base::{DecodeError, Dropped, Grammar, ReadFault, Readable, Skip, ValT
 ///
 /// # Proved
 ///
-/// After `Ok`: `found`. After an error: `none`, the bytes do not begin with such an encoding, unless the cause is `Memory`.
+/// After `Ok`: `found`, the bytes begin with such an encoding, and the returned bytes follow it. After an error: `none`, the bytes do not begin with such an encoding, unless the cause is `Memory`.
 ///
 /// ```text
 /// ensures found { IfOk result
@@ -19,6 +19,7 @@ use crate::base::{DecodeError, Dropped, Grammar, ReadFault, Readable, Skip, ValT
 /// ensures none { IfErr result
 ///     (λ e. e.cause ≢ Memory → Rejects (after_shape tag) (padded_of G.grammar) bytes.now)
 ///     }
+/// ensures no_memory { IfErr result (λ e. e.cause ≢ Memory) }
 /// ```
 ///
 /// Definitions: [`Shape`](crate::definitions::types::rec_types::Shape), [`Decodes`](crate::definitions::base::decoding::Decodes), [`after_shape`](crate::definitions::types::rec_types::after_shape), [`padded_of`](crate::definitions::base::numbers::padded_of), [`Rejects`](crate::definitions::base::decoding::Rejects). [How to read clauses](crate::definitions).
@@ -53,7 +54,7 @@ fn skip_shape_after<'a, A: Allocator + Copy, G: Grammar>(
 ///
 /// # Proved
 ///
-/// After `Ok`: `found`. After an error: `none`, the bytes do not begin with such an encoding, unless the cause is `Memory`.
+/// After `Ok`: `found`, the bytes begin with such an encoding, and the returned bytes follow it. After an error: `none`, the bytes do not begin with such an encoding, unless the cause is `Memory`.
 ///
 /// ```text
 /// ensures found { IfOk result
@@ -62,6 +63,7 @@ fn skip_shape_after<'a, A: Allocator + Copy, G: Grammar>(
 /// ensures none { IfErr result
 ///     (λ e. e.cause ≢ Memory → Rejects (after_descriptor tag)
 ///         (padded_of G.grammar) bytes.now) }
+/// ensures no_memory { IfErr result (λ e. e.cause ≢ Memory) }
 /// ```
 ///
 /// Definitions: [`Shape`](crate::definitions::types::rec_types::Shape), [`Decodes`](crate::definitions::base::decoding::Decodes), [`after_descriptor`](crate::definitions::types::rec_types::after_descriptor), [`padded_of`](crate::definitions::base::numbers::padded_of), [`Rejects`](crate::definitions::base::decoding::Rejects). [How to read clauses](crate::definitions).
@@ -83,7 +85,7 @@ fn skip_descriptor_after<'a, A: Allocator + Copy, G: Grammar>(
 ///
 /// # Proved
 ///
-/// After `Ok`: `found`. After an error: `none`, the bytes do not begin with such an encoding, unless the cause is `Memory`.
+/// After `Ok`: `found`, the bytes begin with such an encoding, and the returned bytes follow it. After an error: `none`, the bytes do not begin with such an encoding, unless the cause is `Memory`.
 ///
 /// ```text
 /// ensures found { IfOk result
@@ -92,6 +94,7 @@ fn skip_descriptor_after<'a, A: Allocator + Copy, G: Grammar>(
 /// ensures none { IfErr result
 ///     (λ e. e.cause ≢ Memory → Rejects (after_describes tag)
 ///         (padded_of G.grammar) bytes.now) }
+/// ensures no_memory { IfErr result (λ e. e.cause ≢ Memory) }
 /// ```
 ///
 /// Definitions: [`Shape`](crate::definitions::types::rec_types::Shape), [`Decodes`](crate::definitions::base::decoding::Decodes), [`after_describes`](crate::definitions::types::rec_types::after_describes), [`padded_of`](crate::definitions::base::numbers::padded_of), [`Rejects`](crate::definitions::base::decoding::Rejects). [How to read clauses](crate::definitions).
@@ -112,7 +115,7 @@ fn skip_describes_after<'a, A: Allocator + Copy, G: Grammar>(
 ///
 /// # Proved
 ///
-/// After `Ok`: `found`. After an error: `none`, the bytes do not begin with such an encoding, unless the cause is `Memory`.
+/// After `Ok`: `found`, the bytes begin with such an encoding, and the returned bytes follow it. After an error: `none`, the bytes do not begin with such an encoding, unless the cause is `Memory`.
 ///
 /// ```text
 /// ensures found { IfOk result
@@ -121,6 +124,7 @@ fn skip_describes_after<'a, A: Allocator + Copy, G: Grammar>(
 /// ensures none { IfErr result
 ///     (λ e. e.cause ≢ Memory → Rejects (after_composite tag)
 ///         (padded_of G.grammar) bytes.now) }
+/// ensures no_memory { IfErr result (λ e. e.cause ≢ Memory) }
 /// ```
 ///
 /// Definitions: [`Composite`](crate::definitions::types::rec_types::Composite), [`Decodes`](crate::definitions::base::decoding::Decodes), [`after_composite`](crate::definitions::types::rec_types::after_composite), [`padded_of`](crate::definitions::base::numbers::padded_of), [`Rejects`](crate::definitions::base::decoding::Rejects). [How to read clauses](crate::definitions).
@@ -141,7 +145,7 @@ fn skip_composite_after<'a, A: Allocator + Copy, G: Grammar>(
 ///
 /// # Proved
 ///
-/// After `Ok`: `found`. After an error: `none`, the bytes do not begin with such an encoding, unless the cause is `Memory`.
+/// After `Ok`: `found`, the bytes begin with such an encoding, and the returned bytes follow it. After an error: `none`, the bytes do not begin with such an encoding, unless the cause is `Memory`.
 ///
 /// ```text
 /// ensures found { IfOk result
@@ -149,6 +153,7 @@ fn skip_composite_after<'a, A: Allocator + Copy, G: Grammar>(
 ///         × Decodes composite_type (padded_of G.grammar) bytes.now x rest.now) }
 /// ensures none { IfErr result
 ///     (λ e. e.cause ≢ Memory → Rejects composite_type (padded_of G.grammar) bytes.now) }
+/// ensures no_memory { IfErr result (λ e. e.cause ≢ Memory) }
 /// ```
 ///
 /// Definitions: [`Composite`](crate::definitions::types::rec_types::Composite), [`Decodes`](crate::definitions::base::decoding::Decodes), [`composite_type`](crate::definitions::types::rec_types::composite_type), [`padded_of`](crate::definitions::base::numbers::padded_of), [`Rejects`](crate::definitions::base::decoding::Rejects). [How to read clauses](crate::definitions).
@@ -164,7 +169,7 @@ fn skip_composite<'a, A: Allocator + Copy, G: Grammar>(
 ///
 /// # Proved
 ///
-/// After `Ok`: `found`. After an error: `none`, the bytes do not begin with such an encoding, unless the cause is `Memory`.
+/// After `Ok`: `found`, the bytes begin with such an encoding, and the returned bytes follow it. After an error: `none`, the bytes do not begin with such an encoding, unless the cause is `Memory`.
 ///
 /// ```text
 /// ensures found { IfOk result
@@ -172,6 +177,7 @@ fn skip_composite<'a, A: Allocator + Copy, G: Grammar>(
 ///         × Decodes supertypes_and (padded_of G.grammar) bytes.now x rest.now) }
 /// ensures none { IfErr result
 ///     (λ e. e.cause ≢ Memory → Rejects supertypes_and (padded_of G.grammar) bytes.now) }
+/// ensures no_memory { IfErr result (λ e. e.cause ≢ Memory) }
 /// ```
 ///
 /// Definitions: [`Composite`](crate::definitions::types::rec_types::Composite), [`Decodes`](crate::definitions::base::decoding::Decodes), [`supertypes_and`](crate::definitions::types::rec_types::supertypes_and), [`padded_of`](crate::definitions::base::numbers::padded_of), [`Rejects`](crate::definitions::base::decoding::Rejects). [How to read clauses](crate::definitions).
@@ -188,7 +194,7 @@ fn skip_supertypes_and<'a, A: Allocator + Copy, G: Grammar>(
 ///
 /// # Proved
 ///
-/// After `Ok`: `found`. After an error: `none`, the bytes do not begin with such an encoding, unless the cause is `Memory`.
+/// After `Ok`: `found`, the bytes begin with such an encoding, and the returned bytes follow it. After an error: `none`, the bytes do not begin with such an encoding, unless the cause is `Memory`.
 ///
 /// ```text
 /// ensures found { IfOk result
@@ -198,6 +204,7 @@ fn skip_supertypes_and<'a, A: Allocator + Copy, G: Grammar>(
 /// ensures none { IfErr result
 ///     (λ e. e.cause ≢ Memory → Rejects (such (HasFinalPrefix G.grammar) supertypes_and)
 ///         (padded_of G.grammar) bytes.now) }
+/// ensures no_memory { IfErr result (λ e. e.cause ≢ Memory) }
 /// ```
 ///
 /// Definitions: [`Composite`](crate::definitions::types::rec_types::Composite), [`Decodes`](crate::definitions::base::decoding::Decodes), [`such`](crate::definitions::base::formats::such), [`HasFinalPrefix`](crate::definitions::types::rec_types::HasFinalPrefix), [`supertypes_and`](crate::definitions::types::rec_types::supertypes_and), [`padded_of`](crate::definitions::base::numbers::padded_of), [`Rejects`](crate::definitions::base::decoding::Rejects). [How to read clauses](crate::definitions).
@@ -216,7 +223,7 @@ fn skip_final_and<'a, A: Allocator + Copy, G: Grammar>(
 ///
 /// # Proved
 ///
-/// After `Ok`: `found`. After an error: `none`, the bytes do not begin with such an encoding, unless the cause is `Memory`.
+/// After `Ok`: `found`, the bytes begin with such an encoding, and the returned bytes follow it. After an error: `none`, the bytes do not begin with such an encoding, unless the cause is `Memory`.
 ///
 /// ```text
 /// ensures found { IfOk result
@@ -224,6 +231,7 @@ fn skip_final_and<'a, A: Allocator + Copy, G: Grammar>(
 ///         (padded_of G.grammar) bytes.now x rest.now) }
 /// ensures none { IfErr result
 ///     (λ e. e.cause ≢ Memory → Rejects (after_sub tag) (padded_of G.grammar) bytes.now) }
+/// ensures no_memory { IfErr result (λ e. e.cause ≢ Memory) }
 /// ```
 ///
 /// Definitions: [`Sub`](crate::definitions::types::rec_types::Sub), [`Decodes`](crate::definitions::base::decoding::Decodes), [`after_sub`](crate::definitions::types::rec_types::after_sub), [`padded_of`](crate::definitions::base::numbers::padded_of), [`Rejects`](crate::definitions::base::decoding::Rejects). [How to read clauses](crate::definitions).

@@ -261,7 +261,7 @@ impl<A: Allocator + Copy> FuncType<A> {
     ///
     /// # Proved
     ///
-    /// After `Ok`: `params`; `results`. In any case: `memory`, no error is `TooLong`.
+    /// After `Ok`: `params`, they are the types that the iterator yields; `results`, they are the types that the iterator yields. In any case: `memory`, no error is `TooLong`.
     ///
     /// ```text
     /// ensures params { IfOk result
@@ -302,7 +302,7 @@ impl<A: Allocator + Copy> FuncType<A> {
 ///
 /// # Proved
 ///
-/// After `Ok`: `all`. In any case: `memory`, no error is `TooLong`.
+/// In any case: `memory`, no error is `TooLong`.
 ///
 /// ```text
 /// ensures all { IfOk result
@@ -369,7 +369,7 @@ impl<A: Allocator> FuncType<A> {
 ///
 /// # Proved
 ///
-/// After `Ok`: `same`. In any case: `memory`, no error is `TooLong`.
+/// After `Ok`: `same`, the result has the same items. In any case: `memory`, no error is `TooLong`.
 ///
 /// ```text
 /// ensures same { IfOk result (λ copies. copies.items ≡ items.now.items) }
@@ -390,7 +390,7 @@ impl<A: Allocator + Copy> FuncType<A> {
     ///
     /// # Proved
     ///
-    /// After `Ok`: `same`. In any case: `memory`, no error is `TooLong`.
+    /// After `Ok`: `same`, the result has the same content. In any case: `memory`, no error is `TooLong`.
     ///
     /// ```text
     /// ensures same { IfOk result (λ f. func_in f ≡ func_in self.now) }
@@ -415,7 +415,7 @@ impl<A: Allocator + Copy> StructType<A> {
     ///
     /// # Proved
     ///
-    /// After `Ok`: `same`. In any case: `memory`, no error is `TooLong`.
+    /// After `Ok`: `same`, the result has the same fields. In any case: `memory`, no error is `TooLong`.
     ///
     /// ```text
     /// ensures same { IfOk result (λ s. s.fields.items ≡ self.now.fields.items) }
@@ -439,7 +439,7 @@ impl<A: Allocator + Copy> CompositeInnerType<A> {
     ///
     /// # Proved
     ///
-    /// After `Ok`: `same`. In any case: `memory`, no error is `TooLong`.
+    /// After `Ok`: `same`, the result has the same content. In any case: `memory`, no error is `TooLong`.
     ///
     /// ```text
     /// ensures same { IfOk result (λ inner. shape_in inner ≡ shape_in self.now) }
@@ -466,7 +466,7 @@ impl<A: Allocator + Copy> CompositeType<A> {
     ///
     /// # Proved
     ///
-    /// After `Ok`: `same`. In any case: `memory`, no error is `TooLong`.
+    /// After `Ok`: `same`, the result has the same content. In any case: `memory`, no error is `TooLong`.
     ///
     /// ```text
     /// ensures same { IfOk result (λ c. composite_in c ≡ composite_in self.now) }
@@ -493,7 +493,7 @@ impl<A: Allocator + Copy> SubType<A> {
     ///
     /// # Proved
     ///
-    /// After `Ok`: `same`. In any case: `memory`, no error is `TooLong`.
+    /// After `Ok`: `same`, the result has the same content. In any case: `memory`, no error is `TooLong`.
     ///
     /// ```text
     /// ensures same { IfOk result (λ s. sub_in s ≡ sub_in self.now) }

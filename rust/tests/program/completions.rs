@@ -1,10 +1,13 @@
 //! The completions for shells have each command and option of the help.
-use crate::program::Folder;
+use crate::program::{Answer, Folder};
+use crate::tools;
 use std::collections::{BTreeMap, BTreeSet};
+use std::process::Command;
 
 const BASH: &str = include_str!("../../completions/dolzhytik.bash");
 const ZSH: &str = include_str!("../../completions/_dolzhytik");
 const FISH: &str = include_str!("../../completions/dolzhytik.fish");
+const POWERSHELL: &str = include_str!("../../completions/dolzhytik.ps1");
 
 /// The options of each command.
 type Commands = BTreeMap<String, BTreeSet<String>>;
@@ -36,7 +39,7 @@ fn commands() -> Commands {
     let commands: Commands = names
         .map(|name| (name.into(), options(&help(&[name, "--help"]))))
         .collect();
-    assert_eq!(commands.len(), 7);
+    assert_eq!(commands.len(), 8);
     commands
 }
 
@@ -79,7 +82,11 @@ fn zsh() {
     for (command, options) in commands() {
         let text = between(ZSH, &format!("\n{command})\n"), ";;")[0];
         let mut found: BTreeSet<String> = dashed(given(text));
-        for (variable, name) in [("$help", "help"), ("$output", "output")] {
+        for (variable, name) in [
+            ("$help", "help"),
+            ("$output", "output"),
+            ("$color", "color"),
+        ] {
             if text.contains(variable) {
                 found.append(&mut dashed(given(list(name))));
             }
@@ -117,6 +124,62 @@ fn fish() {
     let names = words(between(FISH, "-n $none -f -a ", " "));
     assert_eq!(names, commands().into_keys().collect());
     assert!(FISH.contains("-n $none -s V -l version "));
+}
+
+#[test]
+fn powershell() {
+    for (command, options) in commands() {
+        let found = between(POWERSHELL, &format!("        '{command}' = '"), "'");
+        assert_eq!(words(found[0].split(' ')), options, "{command}");
+    }
+    let names = between(POWERSHELL, "$commands = '", "'")[0];
+    assert_eq!(words(names.split(' ')), commands().into_keys().collect());
+    assert!(POWERSHELL.contains("\"$commands -h --help -V --version\""));
+}
+
+/// The program prints the files.
+#[test]
+fn of_shells() {
+    let folder = Folder::new("completions_of");
+    for (shell, text) in [
+        ("bash", BASH),
+        ("zsh", ZSH),
+        ("fish", FISH),
+        ("powershell", POWERSHELL),
+    ] {
+        assert_eq!(folder.call(&["completions", shell], b""), Answer::of(text));
+        for file in [BASH, ZSH, FISH, POWERSHELL] {
+            assert!(file.contains(shell), "{shell}");
+        }
+    }
+}
+
+/// Bash completes words by the file.
+#[test]
+fn words_of_bash() {
+    let complete = |words: &str, last: usize| {
+        let script = format!(
+            "COMP_WORDS=({words}); COMP_CWORD={last}; _dolzhytik; echo \"${{COMPREPLY[*]}}\""
+        );
+        let mut bash = Command::new("bash");
+        tools::printed(bash.args(["-c", &format!("{BASH}\n{script}")]))
+    };
+    for (words, last, expected) in [
+        ("dolzhytik s", 1, "size strip shorten"),
+        (
+            "dolzhytik completions ''",
+            2,
+            "-h --help bash zsh fish powershell",
+        ),
+        ("dolzhytik completions f", 2, "fish"),
+        ("dolzhytik size --f", 2, "--functions --fail-above"),
+        ("dolzhytik size a", 2, ""),
+    ] {
+        let Some(printed) = complete(words, last) else {
+            return;
+        };
+        assert_eq!(printed.trim_end(), expected, "{words}");
+    }
 }
 
 #[test]

@@ -1,57 +1,10 @@
-//! The JSON of `dolzhytik dump`: its schema, and fields by hand. A validator of JSON Schema, Debian's
-//! package python3-jsonschema, checks it. Where that is missing, a test prints so, and passes.
+//! The JSON of `dolzhytik dump`: its schema, and fields by hand.
 use crate::dump::{ITEMS, shown};
 use crate::dump_objects::relocated;
 use crate::program::Folder;
 use crate::samples::{bytes_of, custom, module};
+use crate::schema::validated;
 use crate::tools;
-use std::path::Path;
-use std::process::Command;
-
-/// Prints each error of the files, and each kind of the schema that no file has.
-const VALIDATE: &str = r#"
-import json, sys
-try:
-    from jsonschema import Draft202012Validator
-except ImportError:
-    print('there is no jsonschema'); sys.exit()
-schema = json.load(open(sys.argv[1]))
-Draft202012Validator.check_schema(schema)
-validator, lacking, seen = Draft202012Validator(schema), set(), set()
-def walk(value, found, take):
-    if isinstance(value, dict):
-        take(value, found)
-    for it in value.values() if isinstance(value, dict) else value if isinstance(value, list) else []:
-        walk(it, found, take)
-def of_schema(value, found):
-    kind = value.get('properties', {}).get('kind', {})
-    found.update([kind['const']] if 'const' in kind else kind.get('enum', []))
-walk(schema, lacking, of_schema)
-for path in sys.argv[2:]:
-    dump = json.load(open(path))
-    for error in validator.iter_errors(dump):
-        print(path, list(error.absolute_path), json.dumps(error.instance)[:300])
-    walk(dump, seen, lambda value, found: found.add(value.get('kind')))
-if len(sys.argv) > 3 and lacking - seen:
-    print('no file has', sorted(lacking - seen))
-"#;
-
-/// Returns what the validator prints of these listings, or `None` if it is missing.
-fn validated(folder: &Folder, listings: &[Vec<u8>]) -> Option<String> {
-    let schema = Path::new(env!("CARGO_MANIFEST_DIR")).join("schema/dump.json");
-    let mut python = Command::new("python3");
-    python.args(["-c", VALIDATE]).arg(schema);
-    for (i, listing) in listings.iter().enumerate() {
-        folder.write(&i.to_string(), listing);
-        python.arg(folder.path(&i.to_string()));
-    }
-    let printed = tools::printed(&mut python)?;
-    if printed == "there is no jsonschema\n" {
-        eprint!("{printed}");
-        return None;
-    }
-    Some(printed)
-}
 
 /// A body with an operand of each kind.
 const CODE: [&str; 33] = [
@@ -150,7 +103,7 @@ fn the_schema_has_each_kind_of_item_and_operand() {
     let folder = Folder::new("schema");
     let modules = modules();
     let listings: Vec<_> = modules.iter().map(|it| json_of(&folder, it)).collect();
-    if let Some(printed) = validated(&folder, &listings) {
+    if let Some(printed) = validated("dump.json", &folder, &listings) {
         assert_eq!(printed, "");
     }
 }
@@ -168,7 +121,11 @@ fn the_schema_rejects_other_json() {
         ("\"offset\": ", "\"place\": "),
     ] {
         assert!(listing.contains(from), "{from}");
-        let Some(printed) = validated(&folder, &[listing.replacen(from, to, 1).into()]) else {
+        let Some(printed) = validated(
+            "dump.json",
+            &folder,
+            &[listing.replacen(from, to, 1).into()],
+        ) else {
             return;
         };
         assert_ne!(printed, "", "{from}");
@@ -182,7 +139,7 @@ fn the_json_of_an_object_of_clang_is_of_the_schema() {
     };
     let folder = Folder::new("schema_clang");
     let listing = json_of(&folder, &std::fs::read(object).unwrap());
-    if let Some(printed) = validated(&folder, &[listing]) {
+    if let Some(printed) = validated("dump.json", &folder, &[listing]) {
         assert_eq!(printed, "");
     }
 }

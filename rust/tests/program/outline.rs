@@ -233,3 +233,86 @@ fn strict() {
     let fine = call(&[BROKEN[0], BROKEN[5], BROKEN[6], "0e 01 ff"]);
     assert_eq!((&*fine.err, fine.status), ("", 0));
 }
+
+const FIRST: &str = "section  id     offset       size      items  decodes  name\n";
+
+/// Two modules, a file that is none, and one that is not there.
+fn several() -> Folder {
+    let folder = Folder::new("outline_files");
+    folder.write("a.wasm", module(&["08 01 00"]));
+    folder.write("b.txt", "(module)");
+    folder.write("c.wasm", module(&["03 02 01 00", "03 01 01"]));
+    folder
+}
+
+const A: &str = "      1   8        0xa          1          1      yes  start\n";
+const C: &str = "      1   3        0xa          2          1      yes  function
+      2   3        0xe          1          -       no  function
+";
+
+#[test]
+fn files() {
+    let folder = several();
+    let ended = "dolzhytik: c.wasm: section 2 (function) at offset 0xf: unexpected end of input\n";
+    let expected = Answer {
+        err: ended.into(),
+        ..Answer::of(format!("a.wasm:\n{FIRST}{A}\nc.wasm:\n{FIRST}{C}"))
+    };
+    assert_eq!(folder.call(&["outline", "a.wasm", "c.wasm"], b""), expected);
+    let standard = Answer::of(format!("standard input:\n{FIRST}{A}\na.wasm:\n{FIRST}{A}"));
+    let answer = folder.call(&["outline", "-", "a.wasm"], &module(&["08 01 00"]));
+    assert_eq!(answer, standard);
+}
+
+/// Files with errors are reported, and those after them are printed.
+#[test]
+fn files_with_errors() {
+    let folder = several();
+    let answer = folder.call(&["outline", "b.txt", "a.wasm", "c.wasm", "--strict"], b"");
+    let expected = Answer {
+        out: format!("a.wasm:\n{FIRST}{A}\nc.wasm:\n{FIRST}{C}").into(),
+        err: "dolzhytik: b.txt: text, and no binary module
+dolzhytik: c.wasm: section 2 (function) at offset 0xf: unexpected end of input
+dolzhytik: c.wasm: 1 section does not decode
+dolzhytik: errors in 2 of 3 files
+"
+        .into(),
+        status: 1,
+    };
+    assert_eq!(answer, expected);
+    let answer = folder.call(&["outline", "a.wasm", "d.wasm"], b"");
+    assert_eq!(answer.out, format!("a.wasm:\n{FIRST}{A}").into_bytes());
+    assert!(
+        answer.err.starts_with("dolzhytik: d.wasm: "),
+        "{}",
+        answer.err
+    );
+    assert!(
+        answer
+            .err
+            .ends_with("\ndolzhytik: errors in 1 of 2 files\n")
+    );
+    assert_eq!(answer.status, 1);
+}
+
+#[test]
+fn json_of_files() {
+    let folder = several();
+    folder.write("d.wasm", module(&[]));
+    let answer = folder.call(&["outline", "--json", "a.wasm", "b.txt", "d.wasm"], b"");
+    let text = r#"[
+{"file": "a.wasm", "sections": [
+  {"section": 1, "id": 8, "kind": "start", "name": null, "offset": 10, "size": 1, "items": 1, "decodes": true}
+]},
+{"file": "b.txt", "sections": null},
+{"file": "d.wasm", "sections": []}
+]
+"#;
+    let expected = Answer {
+        out: text.into(),
+        err: "dolzhytik: b.txt: text, and no binary module\ndolzhytik: errors in 1 of 3 files\n"
+            .into(),
+        status: 1,
+    };
+    assert_eq!(answer, expected);
+}

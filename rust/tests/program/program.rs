@@ -6,6 +6,18 @@ use std::path::PathBuf;
 use std::process::{self, Command, Stdio};
 use std::sync::atomic::{AtomicUsize, Ordering};
 
+/// The commands of the program.
+pub const COMMANDS: [&str; 8] = [
+    "outline",
+    "dump",
+    "size",
+    "strip",
+    "shorten",
+    "build",
+    "completions",
+    "help",
+];
+
 /// What the program wrote, and its status.
 #[derive(PartialEq, Eq, Debug)]
 pub struct Answer {

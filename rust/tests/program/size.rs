@@ -138,12 +138,87 @@ fn json() {
   {"section": 1, "kind": "code", "name": null, "bytes": 10}
 ], "functions": [
   {"function": 1, "name": null, "bytes": 4}
-]}
+], "groups": [
+  {"prefix": null, "functions": 2, "bytes": 7}
+], "other_groups": {"count": 0, "functions": 0, "bytes": 0}, "all_functions": {"functions": 2, "bytes": 7}}
 "#;
     assert_eq!(answer, Answer::of(text));
-    let text = "{\"bytes\": 8, \"sections\": [], \"functions\": []}\n";
+    let text = r#"{"bytes": 8, "sections": [], "functions": [], "groups": [], "other_groups": {"count": 0, "functions": 0, "bytes": 0}, "all_functions": {"functions": 0, "bytes": 0}}
+"#;
     assert_eq!(
         folder.call(&["size", "-", "--json"], &module(&[])),
         Answer::of(text)
     );
+}
+
+/// Four bodies of 3, 4, 5 and 6 bytes.
+const BODIES: &str = "0a 13 04 02 00 0b 03 00 01 0b 04 00 01 01 0b 05 00 01 01 01 0b";
+
+/// Their names: `a::f`, a mangled `a::g`, `f` and `<c::S>::f`.
+const PREFIXED: &str = "01 20 04 00 04 613a3a66 01 09 5f5a4e316131674576 02 01 66 \
+    03 09 3c633a3a533e3a3a66";
+
+#[test]
+fn groups() {
+    let folder = Folder::new("size_prefixes");
+    let sections = [
+        NAMED[0],
+        "03 05 04 00 00 00 00",
+        BODIES,
+        &custom("name", PREFIXED),
+    ];
+    let module = module(&sections);
+    let check = |words: &[&str], lines: &str| {
+        let answer = folder.call(&[&["size", "-"], words].concat(), &module);
+        assert_eq!(answer.err, "");
+        let out = String::from_utf8(answer.out).unwrap();
+        let (_, after) = out.split_once("  all\n").unwrap();
+        assert_eq!(after, lines);
+    };
+    let all = "         6   7.2  function 3 <<c::S>::f>
+         5   6.0  function 2 <f>
+         4   4.8  function 1 <_ZN1a1gEv>
+         3   3.6  function 0 <a::f>
+         7   8.4  functions a::* (2)
+         6   7.2  functions c::* (1)
+         5   6.0  functions without a prefix (1)
+        18  21.7  all functions (4)
+";
+    check(&[], all);
+    let two = "         6   7.2  function 3 <<c::S>::f>
+         7   8.4  functions a::* (2)
+        11  13.3  other functions (2)
+        18  21.7  all functions (4)
+";
+    check(&["--functions=1"], two);
+    check(&["--functions", "0"], "");
+}
+
+#[test]
+fn json_of_groups() {
+    let folder = Folder::new("size_prefixes_json");
+    let words = ["size", "-", "--json", "--functions=1"];
+    let answer = folder.call(&words, &module(&[BODIES, &custom("name", PREFIXED)]));
+    let text = r#"{"bytes": 70, "sections": [
+  {"section": 2, "kind": "custom", "name": "name", "bytes": 41},
+  {"section": 1, "kind": "code", "name": null, "bytes": 21}
+], "functions": [
+  {"function": 3, "name": "<c::S>::f", "bytes": 6}
+], "groups": [
+  {"prefix": "a", "functions": 2, "bytes": 7}
+], "other_groups": {"count": 2, "functions": 2, "bytes": 11}, "all_functions": {"functions": 4, "bytes": 18}}
+"#;
+    assert_eq!(answer, Answer::of(text));
+    // Code that does not decode has no groups.
+    let text = r#"{"bytes": 14, "sections": [
+  {"section": 1, "kind": "code", "name": null, "bytes": 6}
+], "functions": [], "groups": [], "other_groups": null, "all_functions": null}
+"#;
+    let ended = "standard input: section 1 (code) at offset 0xe: unexpected end of input";
+    let expected = Answer {
+        out: text.into(),
+        ..Answer::fault(ended)
+    };
+    let damaged = module(&["0a 04 02 02 00 0b"]);
+    assert_eq!(folder.call(&words, &damaged), expected);
 }

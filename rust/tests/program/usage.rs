@@ -1,18 +1,18 @@
 //! Words that ask for nothing, help and the version.
-use crate::program::{Answer, Folder};
+use crate::program::{Answer, COMMANDS, Folder};
 
 /// The usage of each command.
-const USAGES: [&str; 7] = [
+const USAGES: [&str; 8] = [
     "\
-usage: dolzhytik outline FILE [--why] [--strict] [--json]
+usage: dolzhytik outline FILE.. [--why] [--strict] [--json | --color WHEN]
 ",
     "\
 usage: dolzhytik dump FILE [FUNCTION] [--section NUMBER|NAME].. [--id ID]..
-                 [--relocations] [--json]
+                 [--relocations] [--json | --color WHEN]
 ",
     "\
-usage: dolzhytik size (FILE | OLD NEW) [--functions N] [--fail-above N|N%]
-                 [--json]
+usage: dolzhytik size (FILE [--why FUNCTION] | OLD NEW) [--functions N]
+                 [--fail-above N|N%] [--json | --color WHEN]
 ",
     "\
 usage: dolzhytik strip FILE [NAME..] [--debug] [--all] [--keep NAME].. -o FILE
@@ -26,14 +26,18 @@ usage: dolzhytik shorten FILE (-o FILE | --dry-run [--json])
 usage: dolzhytik build RECIPE -o FILE [--force]
 ",
     "\
-usage: dolzhytik help [COMMAND]
+usage: dolzhytik completions bash | zsh | fish | powershell
+",
+    "\
+usage: dolzhytik help [COMMAND | --man]
 ",
 ];
 
 /// The usage without a command.
 const USAGE: &str = "\
 usage: dolzhytik outline | dump | size | strip | shorten | build FILE ..
-       dolzhytik help [COMMAND]
+       dolzhytik completions bash | zsh | fish | powershell
+       dolzhytik help [COMMAND | --man]
        dolzhytik --help | --version
 ";
 
@@ -93,11 +97,28 @@ fn errors() {
     check(&limit("")[..4], "--fail-above needs a value");
     let twice = [&limit("5")[..], &["--fail-above=5%"]].concat();
     check(&twice, "--fail-above is given twice");
+    // Of outline it has no value. Before the command it has one only in the word.
+    for words in [&["size", "a", "--why"][..], &["--why", "size", "a"]] {
+        check_with(usage_of("size"), words, "--why needs a value");
+    }
+    let twice = ["--why=0", "size", "a", "--why", "1"];
+    check_with(usage_of("size"), &twice, "--why is given twice");
+    let valued = "no such option: --why=a; did you mean --why?";
+    check(&["outline", "a", "--why=a"], valued);
     check(&["dump", "a", "--id=256"], "not an id of 0 to 255: 256");
     check(
         &["dump", "a", "--id", "code"],
         "not an id of 0 to 255: code",
     );
+    let color = |word| ["dump", "a", "--color", word];
+    for word in ["x", "", "Auto", "yes"] {
+        let why = "--color needs auto, always or never, and not";
+        check(&color(word), &format!("{why} {word}"));
+    }
+    check(&color("")[..3], "--color needs a value");
+    let with_json = ["size", "a", "--color=x", "--json"];
+    let why = "--color needs auto, always or never, and not x";
+    check(&with_json, why);
     let build_id = |word| ["shorten", "a", "-ob", "--build-id", word];
     check(
         &build_id("kept"),
@@ -119,12 +140,15 @@ fn missing_and_unexpected_arguments() {
         check(&[command, "-ob"], &format!("{command} needs a file"));
         check(&[command, "a"], &format!("{command} needs -o FILE"));
     }
-    check(&["outline", "a", "b"], "unexpected argument: b");
     check(&["size", "a", "b", "c"], "unexpected argument: c");
     let standard = "only one of the files can be standard input";
+    check(&["outline", "-", "a", "-"], standard);
     check(&["size", "-", "-"], standard);
     let limit = "size takes --fail-above only with two files";
     check(&["size", "a", "--fail-above=5%"], limit);
+    let one = "size takes --why only with one file";
+    check(&["size", "a", "b", "--why=f"], one);
+    check(&["size", "a", "--why=f", "--fail-above=5%"], limit);
     check(&["dump", "a", "b", "c"], "unexpected argument: c");
     let both = "dump takes a function or sections, and not both";
     check(&["dump", "a", "b", "--id=10"], both);
@@ -133,9 +157,20 @@ fn missing_and_unexpected_arguments() {
     check(&["build", "a", "b", "-o", "c"], "unexpected argument: b");
     check(&["help", "size", "b"], "unexpected argument: b");
     check(&["help", "it"], "no such command: it");
+    let shells = "completions needs bash, zsh, fish or powershell";
+    check(&["completions"], shells);
+    check(&["completions", "tcsh"], "no such shell: tcsh");
+    let near = "no such shell: bas; did you mean bash?";
+    check(&["completions", "bas"], near);
+    let more = "unexpected argument: zsh";
+    check(&["completions", "bash", "zsh"], more);
+    check(&["completions", "--json"], "completions takes no --json");
     check(&["help", "--json"], "help takes no --json");
+    let page = "help takes --man only without a command";
+    check(&["help", "size", "--man"], page);
+    check(&["dump", "a", "--man"], "dump takes no --man");
     // After `--` there are no options.
-    check(&["outline", "--", "a", "-h"], "unexpected argument: -h");
+    check(&["size", "--", "a", "b", "-h"], "unexpected argument: -h");
 }
 
 /// A word may be like a command, or like an option of the command.
@@ -187,7 +222,7 @@ fn options_of_other_commands() {
     let kept = ["shorten", "a", "-o", "b", "--keep", "c"];
     check(&kept, "shorten takes no --keep");
     check(&["size", "a", "--all"], "size takes no --all");
-    check(&["size", "a", "--why"], "size takes no --why");
+    check(&["strip", "a", "-ob", "--why"], "strip takes no --why");
     check(&["dump", "a", "--strict"], "dump takes no --strict");
     let limit = ["shorten", "a", "--dry-run", "--fail-above=5"];
     check(&limit, "shorten takes no --fail-above");
@@ -202,6 +237,8 @@ fn options_of_other_commands() {
     check(&kept, "strip takes no --keep-code");
     let build_id = ["strip", "a", "-ob", "--build-id=drop"];
     check(&build_id, "strip takes no --build-id");
+    let color = ["strip", "a", "-ob", "--color=never"];
+    check(&color, "strip takes no --color");
     let dry = ["build", "a", "-ob", "--dry-run"];
     check(&dry, "build takes no --dry-run");
     let json = "shorten takes --json only with --dry-run";
@@ -241,7 +278,7 @@ fn help() {
     let help = folder.call(&["--help"], b"");
     let text = String::from_utf8(help.out.clone()).unwrap();
     let usages = USAGES.concat().replace("\nusage:", "\n      ");
-    let front = format!("{FIRST}\n{usages}       dolzhytik --help | --version\n\noutline   ");
+    let front = format!("{FIRST}\n{usages}       dolzhytik --help | --version\n\noutline      ");
     assert!(text.starts_with(&front));
     for line in [
         "outline   ",
@@ -250,6 +287,7 @@ fn help() {
         "strip   ",
         "shorten   ",
         "build   ",
+        "completions  ",
         "help   ",
         "-o FILE, --output FILE ",
         "--force ",
@@ -262,12 +300,15 @@ fn help() {
         "--id ID ",
         "-r, --relocations ",
         "--why ",
+        "--why FUNCTION ",
         "--strict ",
         "--dry-run ",
         "--json ",
+        "--color WHEN ",
         "--drop-offsets ",
         "--keep-code ",
         "--build-id keep|drop ",
+        "--man ",
     ] {
         assert!(text.contains(&format!("\n{line}")), "{line}");
     }
@@ -286,21 +327,31 @@ fn help() {
 #[test]
 fn help_of_commands() {
     let folder = Folder::new("help_of");
-    let text = "usage: dolzhytik size (FILE | OLD NEW) [--functions N] [--fail-above N|N%]
-                 [--json]
+    let text = "usage: dolzhytik size (FILE [--why FUNCTION] | OLD NEW) [--functions N]
+                 [--fail-above N|N%] [--json | --color WHEN]
 
 prints the sizes of the sections in bytes and in percent, and of the ten largest
-functions, the largest first. Of two builds it prints what grew and shrank: the
-sections, ten functions and ten data segments, the largest change first.
-Functions are matched by name, then by equal body, and data segments by name, or
-by index without one.
+functions, the largest first. If names of functions have ::, it prints groups of
+functions by the part before that: ten, the others, and the sum. Of two builds
+it prints what grew and shrank: the sections, ten functions and ten data
+segments, the largest change first. Functions are matched by name, then by equal
+body, and data segments by name, or by index without one.
 
---functions N            how many functions size prints, by default 10. Of two
-                         builds it prints as many data segments.
+--why FUNCTION           prints why a function, an index or a name, is in the
+                         module: a shortest path of references to it from an
+                         export, the start function, an element segment, a
+                         global or a table. Then it prints the functions that
+                         are reachable only through it.
+--functions N            how many functions size prints, by default 10, and how
+                         many groups. Of two builds it prints as many data
+                         segments.
 --fail-above N|N%        the status is 1 if NEW is larger than OLD by more than
                          this, in bytes or in percent of OLD.
 --json                   prints JSON, for other programs, with offsets and sizes
                          in decimal.
+--color WHEN             auto, always or never: when offsets are dim and names
+                         bright. auto, the default, is on a terminal, unless the
+                         variable NO_COLOR is set. JSON has no colors.
 -h, --help               prints this.
 
 The file - is standard input or standard output.
@@ -321,11 +372,8 @@ Exit status: 0 success, 1 error, 2 usage.
 #[test]
 fn all_help_fits_a_terminal() {
     let folder = Folder::new("help_fits");
-    let commands = [
-        "outline", "dump", "size", "strip", "shorten", "build", "help",
-    ];
     let mut texts = vec![folder.call(&["help"], b"").out];
-    for command in commands {
+    for command in COMMANDS {
         let help = folder.call(&[command, "-h"], b"").out;
         assert!(help.starts_with(usage_of(command).as_bytes()), "{command}");
         texts.extend([help, folder.call(&[command, "--hex"], b"").err.into()]);

@@ -6,8 +6,8 @@ use dolzhytik::fallible::{Sink, Vec};
 use crate::read_back::read_and_shorten;
 use dolzhytik::fallible::Allocator;
 use dolzhytik::fallible::{CowSlice, CowStr, Encode, Result};
-use dolzhytik::reader::{Padded, ReadFault};
-use dolzhytik::fallible::{BranchHint, BranchHints, CustomSection, DataSymbolDefinition, FeaturePrefix, LinkingSection, NameSection, ProducersField, ProducersSection, SymbolTable, TargetFeaturesSection, append_names, read_names};
+use dolzhytik::reader::{DecodeError, Padded, ReadFault, Standard};
+use dolzhytik::fallible::{BranchHint, BranchHints, CustomSection, DataSymbolDefinition, FeaturePrefix, LinkingSection, NameSection, ProducersField, ProducersSection, SymbolTable, TargetFeaturesSection, append_links, append_names, read_links, read_names};
 use dolzhytik::reader::NameItem;
 use dolzhytik::reader::{Items, SectionKind};
 
@@ -61,7 +61,7 @@ pub fn read_more_names<'a, A: Allocator + Copy + 'a>(
 /// # Proved
 ///
 /// ```text
-/// ensures named { IfOk result (λ all. all ≡ true → AppendsMinimal name_payload (map name_item_view names.now) (sink.old.items ++ title.now) sink.new.items) }
+/// ensures named { IfOk result (λ all. all ≡ true → AppendsMinimal both_grammars name_payload (map name_item_view names.now) (sink.old.items ++ title.now) sink.new.items) }
 /// ensures titled { IfOk result (λ all. all ≡ false → sink.new.items ≡ sink.old.items ++ title.now) }
 /// ensures err { OnErr result (sink.new.items ≡ sink.old.items) }
 /// ```
@@ -94,6 +94,25 @@ pub fn rewritten_names<A: Allocator + Copy>(bytes: &[u8], sink: &mut Vec<u8, A>)
         }
         Err(_) => Ok(false),
     }
+}
+
+/// Decodes the payload of the linking section of an object file, and appends it in its minimal
+/// encoding.
+///
+/// # Proved
+///
+/// ```text
+/// ensures found { OnOk result (MinimizesWhole admitted linking_payload payload.now sink.old.items sink.new.items) }
+/// ensures none { IfErr result (λ e. e.cause ≢ Memory → RejectsWhole linking_payload standard payload.now) }
+/// ensures err { OnErr result (sink.new.items ≡ sink.old.items) }
+/// ```
+pub fn rewritten_linking<A: Allocator + Copy>(
+    payload: &[u8],
+    sink: &mut Vec<u8, A>,
+) -> Result<(), DecodeError> {
+    let items = read_links::<A, Standard>(payload, *sink.allocator())?;
+    append_links(&items, sink)?;
+    Ok(())
 }
 
 /// Returns a symbol table of one data symbol.

@@ -4,7 +4,7 @@
 
 use dolzhytik::fallible::Vec;
 use crate::checks::check_bytes;
-use crate::read_back::custom::{read_custom, read_features, read_hints, read_linking, read_more_names, read_producers};
+use crate::read_back::custom::{read_custom, read_features, read_hints, read_linking, read_more_names, read_producers, rewritten_linking};
 use crate::read_back::debug_files::{read_build_id, read_debug_file, read_source_map};
 use crate::read_back::declared::{read_exports, read_imports, read_memories, read_tables, read_tags, read_types};
 use crate::read_back::dumps::{core_dump, read_instances, read_modules, read_process, read_stack};
@@ -248,6 +248,22 @@ fn linking() {
         let (mut text, mut sink) = (Vec::new(heap), Vec::new(heap));
         let is_kind = matches!(read_linking(&mut text, "d", &mut sink)?, Items::Linking(_));
         Ok((is_kind, sink))
+    })
+}
+
+#[test]
+fn linking_again() {
+    let rt = crate::host::HostRuntime;
+    let heap = Refusing::new(rt.alloc());
+    // The symbol of section 1, with a padded size and a padded index, and a subsection of id 10.
+    let payload = b"\x07linking\x02\x08\x85\0\x01\x03\x02\x81\0\x0A\x02\xAA\xBB";
+    let expected = b"\x07linking\x02\x08\x04\x01\x03\x02\x01\x0A\x02\xAA\xBB";
+    check_read(&rt, &heap, expected, |heap| {
+        let mut sink = Vec::new(heap);
+        match rewritten_linking(payload, &mut sink) {
+            Ok(()) => Ok((true, sink)),
+            Err(error) => Err(error.cause()),
+        }
     })
 }
 

@@ -95,8 +95,8 @@ def block(line: int, module: str, found: list[str]) -> Block:
     return Block(line, module, [it[2:].strip() for it in lines[:count]], lines[count:])
 
 
-def read(crate: str, name: str, text: str) -> Specs:
-    """Reads a file of specs/. It stops at a definition without a sentence."""
+def read(crate: str, name: str, text: str, *, is_complete: bool = True) -> Specs:
+    """Reads a file of specs/. It stops at a definition without a sentence if there must be none."""
     specs = Specs(crate, name)
     part = ''
     for it in blocks(text):
@@ -109,7 +109,7 @@ def read(crate: str, name: str, text: str) -> Specs:
         elif all(line.startswith(('use ', 'pub use ', 'unfoldable pub use ', 'pub mod ')) for line in it.lines):
             take_head(specs, it, where)
         else:
-            made = definition(it, part, where)
+            made = definition(it, part, where, is_complete)
             specs.definitions.append(after(specs.definitions[-1], made) if specs.definitions else made)
     names = [it for one in specs.definitions for it in (one.name, *one.constructors)]
     for name in names:
@@ -144,14 +144,14 @@ def take_head(specs: Specs, it: Block, where: str) -> None:
                 specs.exports.append(specs.imports[-1])
 
 
-def definition(it: Block, part: str, where: str) -> Definition:
+def definition(it: Block, part: str, where: str, is_complete: bool) -> Definition:
     """Reads a definition: its sentence, its head, and the lines that are indented or begin with its
     name."""
     head = HEAD.match(it.lines[0])
     if not head:
         raise Stop(f'{where}: an unknown definition: {it.lines[0]}')
     name = head[2]
-    if not it.comments:
+    if is_complete and not it.comments:
         raise Stop(f'{where}: {name} has no sentence: write one above it')
     for line in it.lines[1:]:
         if not line.startswith((' ', '}', name + ' ', 'unfolding ')):
@@ -161,7 +161,7 @@ def definition(it: Block, part: str, where: str) -> Definition:
     return Definition(name, ' '.join(it.comments), '\n'.join(lines), constructors, part)
 
 
-def files(crate: str, top: pathlib.Path = TOP) -> list[Specs]:
-    """Reads the files of a crate."""
+def files(crate: str, top: pathlib.Path = TOP, *, is_complete: bool = True) -> list[Specs]:
+    """Reads the files of a crate. Each definition has a sentence if `is_complete`."""
     folder = top / 'crates' / crate / 'specs'
-    return [read(crate, path.stem, text_of(path)) for path in sorted(folder.rglob('*.antt'))]
+    return [read(crate, path.stem, text_of(path), is_complete=is_complete) for path in sorted(folder.rglob('*.antt'))]

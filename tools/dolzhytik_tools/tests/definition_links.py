@@ -48,17 +48,19 @@ def links_clauses() -> None:
 def glosses() -> None:
     """The words above clauses follow from their forms."""
     ok, err = 'ensures a { IfOk result (λ x. x) }', 'ensures b { OnErr result (p ≡ q) }'
-    assert gloss([ok, err, 'ensures c { p }']) == 'After `Ok`: `a`. After an error: `b`. In any case: `c`.'
-    assert gloss(['ensures { OnOk result encodable }']) == 'After `Ok`:'
+    unchanged = err.replace('p ≡ q', 'self.new ≡ self.old')
+    assert gloss([ok, err, 'ensures c { p }']) == '' and gloss(['ensures { OnOk result encodable }']) == ''
+    assert gloss([ok, unchanged]) == 'After an error: `b`, the value is unchanged.'
     assert gloss(['ensures { p }']) == ''
     adds = 'ensures { Adds (f x) ⊤ self.old self.new result }'
     assert gloss([adds], {adds: 'It adds.'}) == 'It adds.'
-    assert gloss([ok, adds.replace('ensures', 'ensures c')], {adds.replace('ensures', 'ensures c'): 'It adds.'}) == '- After `Ok`: `a`.\n- `c`: It adds.'
+    assert gloss([ok, adds.replace('ensures', 'ensures c')], {adds.replace('ensures', 'ensures c'): 'It adds.'}) == '`c`: It adds.'
     two = ['ensures c { Adds x ⊤ self.old self.new result }', 'ensures d { Adds y ⊤ self.old self.new result }']
     assert gloss(two, dict.fromkeys(two, 'It adds.')) == '`c`, `d`: It adds.'
-    assert [head(it) for it in (adds, ok.replace('x. x', 'x. P x'), 'ensures { x.y ≡ z }', 'ensures { P x → Q y }')] == ['Adds', 'P', '', '']
+    assert gloss([unchanged, two[0]], {two[0]: 'It adds.'}) == '- After an error, `b`: the value is unchanged.\n- `c`: It adds.'
+    assert [head(it) for it in (adds, ok.replace('x. x', 'x. P x'), 'ensures { x.y ≡ z }', 'ensures { P x → Q y }', 'ensures { (x y : T A) → P x }')] == ['Adds', 'P', '', '', 'P']
     memory = 'ensures m { result ≢ Err TooLong }'
-    assert gloss([ok, memory]) == 'After `Ok`: `a`. In any case: `m`, no error is `TooLong`.'
+    assert gloss([ok, memory]) == 'In any case: `m`, no error is `TooLong`.'
     assert gloss(['ensures { result ≡ [] }']) == 'The result has no entries.'
     assert asked('requires { HasKnownLength a b }') == 'The iterator ends, and yields as many items as it reports.' and asked('requires { p }') == ''
     for other in ['IfOk result (p) × q', '(IfOk result p)', 'IfOk other p', 'OnOk result p → q']:

@@ -19,6 +19,7 @@ from ..errors import Stop
 CLAUSE = re.compile(r'(?:ensures|requires)\s+(\w+ )?\{(.*)\}', re.S)
 AFTER_OK = re.compile(r'(?:IfOk|OnOk) result (.*)', re.S)
 AFTER_ERROR = re.compile(r'(?:IfErr|OnErr) result (.*)', re.S)
+FOR_ALL = re.compile(r'\(\w[\w ]* : [^()]*\) → ')
 
 
 @dataclass(frozen=True)
@@ -56,12 +57,29 @@ SAID = (
     (r'IfErr result \(λ e\. e(?:\.cause)? ≡ Memory\)', 'the cause is `Memory`'),
     (r'IfOk result \(λ x\. Decodes .* bytes\.now .*x\.0.* x\.1\.now\)', 'the bytes begin with an encoding of the value, and the returned bytes follow it'),
     (r'IfOk result \(λ x\. Decodes \(vec \(pair u32 val_type\)\) .* x\.0\.items \(ahead(?:_in)? x\.1\)\)', 'the bytes begin with an encoding of the locals, and the instructions follow it'),
-    (r'IfOk result \(λ x\. (?:T\.format|members T\.format|body|content kind) \S.* bytes\.now \S*.*\)', 'the bytes as a whole encode the value'),
+    (r'IfOk result \(λ x\. (?:T\.format|members T\.format|body|content kind|\w+_payload|vec \w+|inside \S+ \S+ id) \S.* bytes\.now \S*.*\)', 'the bytes as a whole encode the value'),
+    (r'IfOk result \(λ rest\. \(xs? : .*\) × Decodes .* bytes\.now xs? rest\.now\)', 'the bytes begin with such an encoding, and the returned bytes follow it'),
+    (r'OnOk result \(\(xs? : .*\) × [^×]* \(padded_of G\.grammar\) bytes\.now xs?\)', 'the bytes as a whole are such an encoding'),
     (r'IfOk result \(λ (\w+)\. \1 ≡ self\.now\)', 'the result equals the value'),
-    (r'IfOk result \(λ cow\. (?:items|encoding)_of cow ≡ (?:items|encoding)_of self\.now\)', 'the result has the same content'),
-    (r'OnOk result \(AppendsMinimal .*\)', 'the sink gains the minimal encoding'),
+    (r'IfOk result \(λ (\w+)\. \w+ \1 ≡ \w+ self\.now\)', 'the result has the same content'),
+    (r'IfOk result \(λ (\w+)\. \1\.items ≡ (?:items\.now\.items|expressions\.now)\)', 'the result has the same items'),
+    (r'IfOk result \(λ s\. \(utf8_of s\.name ≡ \S+\) × \(items_of s\.bytes ≡ entries_encoding .*\)\)', 'the result has the name and the data of the section'),
+    (r'OnOk result \(AppendsMinimal both_grammars .*\)', 'the sink gains the encoding that is minimal in both grammars'),
+    (r'OnOk result \(AppendsMinimal builders_alone .*\)', "the sink gains the encoding that is minimal in the builders' grammar"),
+    (r'OnOk result \(AppendsMinimal (?:T|Self)\.grammars .*\)', 'the sink gains the encoding that is minimal in the `grammars` of the type'),
+    (r'OnOk result \(AppendsMinimal \(grammars_of .*\)', 'the sink gains the encoding that is minimal in the grammars of the kind'),
     (r'HasEncoding .* → result ≢ Err TooLong', 'a value that has an encoding never gives `TooLong`'),
     (r'longest < .* → result ≡ Err (?:Refused\.)?TooLong', 'more than 4294967295 give `TooLong`'),
+    (r'\(\(it : V\.IntoIter\) → V\.into_iter_gives \w+ it → longest < .*\) → result ≡ Err TooLong', 'more than 4294967295 items give `TooLong`'),
+    (r'\(\(it : V\.IntoIter\) → V\.into_iter_gives \w+ it → size .* ≤ longest\) → result ≢ Err TooLong', 'at most 4294967295 items never give `TooLong`'),
+    (r'IfOk result \(λ v\. V\.into_iter_gives \w+ v\.items × IsFinite .*\)', 'the result has the iterator, which ends and yields as many items as `count`, at most 4294967295'),
+    (r'HasEncodableSize (?:name|thread_name)\.now → result ≢ Err TooLong', 'a name of at most 4294967295 bytes never gives `TooLong`'),
+    (r'(?:.* ≤ longest → )vec_len sink\.old \+ .* ≤ vec_capacity sink\.old → IsOk result', 'the call succeeds if the size fits 32 bits and the bytes fit the spare capacity'),
+    (r'IfOk result \(λ f\. \(it : \w\.IntoIter\) × \w\.into_iter_gives (?:params|results) it × Drains \w\.IntoIter\.next_gives it f\.(?:params|results)\.items\)', 'they are the types that the iterator yields'),
+    (r'OnOk result \(sink\.new\.items ≡ sink\.old\.items \+\+ \w+_encoding_in G\.grammar self\)', 'the sink gains the minimal encoding in the grammar'),
+    (r'OnOk result \(All \(IsGood .*\) \(\w*lines\w* .*\)\)', 'no line has an error'),
+    (r'IfOk result \(λ bytes\. bytes\.items ≡ recipe_module \(.*\)\)', 'the bytes are the module of the recipe'),
+    (r'IfOk result \(λ number\. \(x : Contents\) × content .* × \(number ≡ number_in x\)\)', 'the payload encodes items, and the result is their number if they are counted'),
     (r'vec_capacity sink\.old ≤ vec_capacity sink\.new', 'the capacity does not shrink'),
     (r'self\.new\.sink\.ghost_name ≡ self\.old\.sink\.ghost_name', 'the sink writes to the buffer that it wrote to'),
     (r'IfErr result \(λ e\. IsInPayload self\.now e\.offset\)', 'the offset of the error is in the payload'),
@@ -72,6 +90,31 @@ SAID = (
 # What single clauses say.
 EXACT = {
     'IfOk result (λ m. m ≡ header)': 'the module is the header',
+    'OnOk result (sink.new.items ≡ sink.old.items ++ header)': 'the sink gains the header',
+    'IfOk result (λ rest. bytes.now ≡ header ++ rest.now)': 'the header is at the front, and the returned bytes follow it',
+    'IfOk result (λ x. bytes.now ≡ bytes_of (section_of x.0) ++ x.1.now)': 'the bytes begin with the section, and the returned bytes follow it',
+    'IfErr result (λ e. e.1 ≢ Memory → EndsAt bytes.now e.0)': 'the section of this number is the first that is malformed, whatever its payload (0: there is no header), unless the cause is `Memory`',
+    'IfOk result (λ s. s.fields.items ≡ self.now.fields.items)': 'the result has the same fields',
+    'IfOk result (λ s. (utf8_of s.name ≡ utf8_of self.now.name) × (items_of s.bytes ≡ items_of self.now.bytes))': 'the result has the same name and data',
+    'IfOk result (λ segment. segment.mode ≡ self.now.mode)': 'the result has the same mode',
+    'IfOk result (λ segment. D.is_clone self.now.bytes segment.bytes)': 'its bytes are a clone, as the type of the bytes defines it',
+    'IfOk result (λ s. s ≡ marked_encoding name.now)': 'the section is that of a process of this name',
+    'IfOk result (λ s. s ≡ (marked_encoding thread_name.now, []))': 'the section has this name of a thread, and no frames',
+    'IfOk result (λ s. s ≡ ((relocations_name section_name.now, unsigned_encoding section), []))': 'the section is that of this section name and index, without relocations',
+    'self.new.0 ≡ self.old.0': 'the part before the entries is unchanged',
+    'result.cause ≡ self': 'the result has this cause',
+    'result.cause ≡ self.cause': 'the result has the same cause',
+    'OnOk result (sink.new.items ≡ take start sink.old.items ++ size_prefixed_encoding (drop start sink.old.items))': 'the bytes from `start` on gain their size before them',
+    'HasEncodableSize (drop start sink.old.items) → result ≢ Err TooLong': 'at most 4294967295 bytes from `start` on never give `TooLong`',
+    'IfOk result (λ x. x.0.sum < x.0.power)': 'the sum is below the power',
+    'IfOk result (λ x. x.0.power ≤ 128 ^ limit)': 'the power is at most 128 to the power of `limit`',
+    'IfErr result (λ e. e.cause ≡ Ended → length bytes.now < limit)': '`Ended` means fewer bytes than `limit`',
+    'IfErr result (λ e. e.cause ≡ TooLarge → limit ≤ length bytes.now)': '`TooLarge` means at least `limit` bytes',
+    'IfOk result (λ _. is_admitted G.grammar ≡ true)': "the grammar is the standard's",
+    'IfErr result (λ _. is_admitted G.grammar ≡ false)': "the grammar is the builders'",
+    'IfErr result (λ e. e.cause ≢ Memory → AreNoOperands self.entry)': 'the instruction is a variant of its own, or the bytes do not encode immediates of its shape, unless the cause is `Memory`',
+    'OnOk result (left_locals [] (entries_of (version_of lines.now) (versioned_lines lines.now)) ≡ [])': 'no run of locals is left after the last body',
+    'result ≡ export.now.index': 'the result is the index of the export',
     'OnOk result (self.new ≡ self.old ++ (S.id_of section.now ∷ S.encoding section.now))': 'the module gains the id and the encoding of the section',
     'OnOk result (S.decoding section.now)': 'the encoding decodes as the impl defines by `decoding`',
     'OnOk result (decoding self.now)': 'the encoding decodes as the impl defines by `decoding`',
@@ -89,7 +132,7 @@ EXACT = {
     'IfOk result (λ rest. (x : Self.Value) × Decodes Self.format (padded_of G.grammar) bytes.now x rest.now)': 'an encoding is at the front, and the returned bytes follow it',
     'IfOk result (λ x. (xs : List P.Value) × Decodes (vec P.format) (padded_of G.grammar) bytes.now xs x.1.now × (x.0 ≡ length xs))': 'a vector of this number of members is at the front, and the returned bytes follow it',
     'IfOk result (λ x. members (instruction table) (padded_of G.grammar) bytes.now (map plain_view x.items))': 'the bytes as a whole encode the instructions',
-    'OnOk result ((x : BodyModel) × body padded bytes.now x × AppendsMinimal (size_prefixed body) x sink.old.items sink.new.items)': 'the bytes encode a body, and the sink gains its minimal encoding, with the size prefix',
+    'OnOk result ((x : BodyModel) × body padded bytes.now x × AppendsMinimal builders_alone (size_prefixed body) x sink.old.items sink.new.items)': "the bytes encode a body, and the sink gains its minimal encoding in the builders' grammar, with the size prefix",
     'IfOk result (λ e. (it : I.IntoIter) × (xs : List ℕ) × I.into_iter_gives bytes it × Drains I.IntoIter.next_gives it xs × (e ≡ xs))': 'the expression is the bytes that the iterator yields',
     'OnOk result ((it : I.IntoIter) × (xs : List ℕ) × I.into_iter_gives bytes it × Drains I.IntoIter.next_gives it xs × GrowsBy xs self.old self.new)': 'the body gains the bytes that the iterator yields',
     'IfOk result (λ x. x.1.bytes ≡ bytes.now)': 'the visitor is over these bytes',
@@ -121,7 +164,6 @@ EXACT = {
     'IfOk result (λ it. it.offset ≡ length header)': 'the offset is that after the header',
     'IfOk result (λ it. it.bytes ≡ module.now)': 'the iterator is over these bytes',
     'IfErr result (λ e. e.offset ≤ length module.now)': 'the offset of the error is in the module, or at its end',
-    'IfOk result (λ number. (x : Contents) × content (section_kind_of self.now.section) standard self.now.section.payload x × (number ≡ number_in x))': 'the payload encodes items, and the result is their number if they are counted',
     'IfOk result (λ x. content (section_kind_of self.now.section) standard self.now.section.payload (contents_of x))': 'the payload encodes the items',
     'result.start + length self.now.section.payload ≡ end_of self.now': 'the range is as long as the payload',
     'result.end ≡ end_of self.now': 'it ends with the section',
@@ -230,12 +272,12 @@ def head_of(term: str) -> str:
 
 
 def head(clause: str) -> str:
-    """Returns the first word of a clause's term, or of what it says after `Ok` or after an
-    error."""
+    """Returns the first word of a clause's term, or of what it says after `Ok`, after an error, or
+    for all values of a type."""
     term = parts(clause)[1]
     found = next((form.fullmatch(term) for form in (AFTER_OK, AFTER_ERROR) if is_after(form, term)), None)
     inner = found[1][1:-1] if found and found[1].startswith('(') else found[1] if found else term
-    return head_of(re.sub(r'λ \w+\. ', '', inner, count=1))
+    return head_of(FOR_ALL.sub('', re.sub(r'λ \w+\. ', '', inner, count=1)))
 
 
 def words_of(term: str) -> str:
@@ -253,16 +295,15 @@ def check_rows(terms: Collection[str]) -> None:
             raise Stop(f'to_rust/glosses.py has words for a form that no clause has: {form}')
 
 
-def told(name: str, term: str) -> str:
-    """Returns the name of a clause, and what its term says if the form is known."""
-    words = words_of(term)
-    return f'`{name}`, {words}' if words else f'`{name}`'
+def told(clauses: Sequence[tuple[str, str]]) -> str:
+    """Returns the names of clauses with what their terms say. Clauses of unknown forms are left
+    out: the form of a clause shows when it holds."""
+    return '; '.join(f'`{name}`, {words_of(term)}' for name, term in clauses if words_of(term))
 
 
 def gloss(clauses: Sequence[str], sentences: Mapping[str, str] | None = None) -> str:
-    """Returns when each clause of a function says something, what the clauses of known forms say,
-    and the sentences of the definitions that clauses are; or an empty line if no clause depends on
-    the result, and nothing is known of any."""
+    """Returns what the clauses of known forms say, and when, and the sentences of the definitions
+    that clauses are. Other clauses are left out: their form shows when they hold."""
     sorted_clauses = [parts(it) for it in clauses]
     ok = [it for it in sorted_clauses if is_after(AFTER_OK, it[1])]
     error = [it for it in sorted_clauses if is_after(AFTER_ERROR, it[1])]
@@ -275,30 +316,26 @@ def gloss(clauses: Sequence[str], sentences: Mapping[str, str] | None = None) ->
         words = words_of(sorted_clauses[0][1])
         if words:
             return f'{when}, {words}.' if when else words[0].upper() + words[1:] + '.'
-        return ' '.join(filter(None, [when and f'{when}:', next(iter(said), '')]))
+        return ': '.join(filter(None, [when, *said])) if said else ''
     always = [it for it in sorted_clauses if it not in ok + error]
     groups = [('After `Ok`', ok), ('After an error', error), ('In any case', always)]
     if said:
         return items(groups, {name: sentence for sentence, names in said.items() for name in names})
-    if ok or error or any(words_of(term) for _, term in always):
-        return ' '.join(f'{when}: {"; ".join(told(*it) for it in found)}.' for when, found in groups if found)
-    return ''
+    return ' '.join(f'{when}: {told(found)}.' for when, found in groups if told(found))
 
 
 def items(groups: Sequence[tuple[str, list[tuple[str, str]]]], sentences: Mapping[str, str]) -> str:
-    """Returns a list of what clauses say and when: an item for each sentence and each form that is
-    known, with the names of its clauses. Without more than one item it is a sentence."""
+    """Returns a list of what clauses say and when: an item for each sentence and each known form,
+    with the names of its clauses. Without more than one item it is a sentence."""
     found: dict[tuple[str, str], list[str]] = {}
     for when, clauses in groups:
         for name, term in clauses:
-            said = sentences.get(name) or words_of(term)
-            always = when == 'In any case'
-            found.setdefault(('' if always and said else when, said), []).append(name)
+            if said := sentences.get(name) or words_of(term):
+                found.setdefault(('' if when == 'In any case' else when, said.rstrip('.') + '.'), []).append(name)
     lines = []
     for (when, said), names in found.items():
         head = ', '.join(filter(None, [when, listed(filter(None, names))]))
-        said = said.rstrip('.') + '.' if said else ''
-        lines.append(f'{head}: {said}' if head and said else said or f'{when}: {listed(names)}.')
+        lines.append(f'{head}: {said}' if head else said)
     return lines[0] if len(lines) == 1 else '\n'.join(f'- {line}' for line in lines)
 
 

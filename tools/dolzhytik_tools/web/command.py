@@ -18,7 +18,7 @@ NOT_RUN = 77
 # The size of the module, in bytes.
 MOST_BYTES = 250_000
 # The files that npm publishes.
-PUBLISHED = ['LICENSE', 'README.md', 'browser.js', 'calls.js', 'dolzhytik.d.ts', 'dolzhytik.js', 'dolzhytik.wasm', 'node.js', 'package.json']
+PUBLISHED = ['LICENSE-APACHE', 'LICENSE-Apache-2.0_WITH_LLVM-exception', 'LICENSE-MIT', 'README.md', 'browser.js', 'calls.js', 'dolzhytik.d.ts', 'dolzhytik.js', 'dolzhytik.wasm', 'node.js', 'package.json']
 
 
 def counted(pattern: str, output: str) -> list[int]:

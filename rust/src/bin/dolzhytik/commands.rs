@@ -5,11 +5,13 @@ use crate::files::{Input, Output};
 use crate::growth::{self, Build, Comparison};
 use crate::help;
 use crate::json;
+use crate::man;
 use crate::outline;
 use crate::progress::Progress;
 use crate::shorten;
 use crate::sizes::Sizes;
 use crate::strip::{self, Choice, Stripped};
+use crate::why::Reason;
 use crate::words::{Command, Format};
 use dolzhytik::fallible::Global;
 use dolzhytik::fallible::recipe::assemble_versioned;
@@ -18,7 +20,7 @@ use std::io::{self, Write};
 /// Does what was asked for.
 pub fn run(command: Command) -> Result<(), Failure> {
     match command {
-        Command::Outline { input, choice } => outline::show(&input, choice),
+        Command::Outline { inputs, choice } => outline::show(&inputs, choice),
         Command::Shorten {
             input,
             output,
@@ -35,6 +37,12 @@ pub fn run(command: Command) -> Result<(), Failure> {
             functions,
             format,
         } => show_sizes(&input, functions, format),
+        Command::Why {
+            input,
+            function,
+            most,
+            format,
+        } => show_reason(&input, &function, most, format),
         Command::Compare { old, new, choice } => compare(&old, &new, choice),
         Command::Strip {
             input,
@@ -42,6 +50,8 @@ pub fn run(command: Command) -> Result<(), Failure> {
             choice,
         } => write_stripped(&input, &output, &choice),
         Command::Build { recipe, output } => build(&recipe, &output),
+        Command::Completions(shell) => print(shell.completions()),
+        Command::ManPage => print(&man::page()),
         Command::Help(None) => print(&help::help()),
         Command::Help(Some(manual)) => print(&manual.help()),
         Command::Version => print(help::VERSION),
@@ -67,6 +77,25 @@ fn show_sizes(input: &Input, functions: usize, format: Format) -> Result<(), Fai
         Format::Table => sizes.to_string(),
     })?;
     sizes.failure.map_or(Ok(()), Err)
+}
+
+/// Prints why a function is in a module, and this number of functions that are in it only for that
+/// one.
+fn show_reason(
+    input: &Input,
+    function: &dump::Function,
+    most: usize,
+    format: Format,
+) -> Result<(), Failure> {
+    let bytes = input.read()?;
+    let progress = Progress::of(bytes.len());
+    progress.begin("reading");
+    let reason = Reason::of(input, &bytes, function, most)?;
+    drop(progress);
+    print(&match format {
+        Format::Json => json::reason(&reason),
+        Format::Table => reason.to_string(),
+    })
 }
 
 /// Prints what grew and shrank between two builds, before errors in their sections. It is an error

@@ -1,6 +1,6 @@
 //! Decodes values one after another, in the standard's grammar.
 use dolzhytik::fallible::Global;
-use dolzhytik::reader::{ReadError, ReadFault, Readable, Standard};
+use dolzhytik::reader::{DecodeError, ReadError, ReadFault, Readable, Standard};
 
 /// The bytes of a module that are not decoded yet, and where they end.
 #[derive(Clone, Copy, Debug)]
@@ -31,12 +31,17 @@ impl<'a> Cursor<'a> {
 
     /// Decodes the next value. After an error the cursor stays.
     pub fn read<T: Readable<'a, Global, Standard>>(&mut self) -> Result<T, ReadError> {
-        let (value, rest) = T::read(self.rest, Global).map_err(|error| ReadError {
-            cause: error.cause(),
-            offset: self.end - self.rest.len().min(error.left() as usize),
-        })?;
+        let (value, rest) = T::read(self.rest, Global).map_err(|error| self.located(error))?;
         self.rest = rest;
         Ok(value)
+    }
+
+    /// The error of a decoder of the bytes that are not decoded yet, with its offset in the file.
+    pub fn located(&self, error: DecodeError) -> ReadError {
+        ReadError {
+            cause: error.cause(),
+            offset: self.end - self.rest.len().min(error.left() as usize),
+        }
     }
 
     /// Decodes a vector, and passes each member with the offset of its first byte.

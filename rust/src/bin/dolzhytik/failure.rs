@@ -54,10 +54,19 @@ pub enum Failure {
         function: Function,
         is_import: bool,
     },
+    /// No function is selected.
+    NoFunction(NoFunction),
+    /// Several functions have the name.
+    SeveralFunctions(SeveralFunctions),
     /// So many sections of known kinds do not decode.
     Undecoded {
         input: Input,
         count: usize,
+    },
+    /// So many of several files have errors, which are reported.
+    Files {
+        failed: usize,
+        files: usize,
     },
     /// A build is larger than the option allows.
     Grown(Grown),
@@ -116,6 +125,56 @@ impl fmt::Display for BadSection {
             write!(f, " at offset {offset:#x}")?;
         }
         write!(f, ": {cause}")
+    }
+}
+
+/// A function that the module does not have.
+#[derive(Debug)]
+pub struct NoFunction {
+    pub input: Input,
+    pub function: Function,
+    /// How many functions the module has.
+    pub count: usize,
+    /// The name that was probably meant.
+    pub meant: Option<String>,
+}
+
+impl fmt::Display for NoFunction {
+    fn fmt(&self, f: &mut fmt::Formatter<'_>) -> fmt::Result {
+        write!(f, "{}: no function {}", self.input, self.function)?;
+        match (&self.function, &self.meant) {
+            (Function::Index(_), _) => write!(f, ": the module has {}", self.count),
+            (_, Some(meant)) => write!(f, "; did you mean {meant:?}?"),
+            _ => Ok(()),
+        }
+    }
+}
+
+/// Several functions of a name.
+#[derive(Debug)]
+pub struct SeveralFunctions {
+    pub input: Input,
+    pub function: Function,
+    pub count: usize,
+    /// The first ones.
+    pub indices: Vec<u32>,
+}
+
+impl fmt::Display for SeveralFunctions {
+    fn fmt(&self, f: &mut fmt::Formatter<'_>) -> fmt::Result {
+        let SeveralFunctions {
+            input,
+            function,
+            count,
+            indices,
+        } = self;
+        let indices: Vec<_> = indices.iter().map(u32::to_string).collect();
+        let more = if indices.len() < *count { ", .." } else { "" };
+        let indices = indices.join(", ");
+        write!(
+            f,
+            "{input}: {count} functions are {function}: {indices}{more}; give an index"
+        )
     }
 }
 
@@ -255,10 +314,13 @@ impl fmt::Display for Failure {
             Failure::NoBody {
                 input, function, ..
             } => write!(f, "{input}: no function {function}"),
+            Failure::NoFunction(function) => write!(f, "{function}"),
+            Failure::SeveralFunctions(functions) => write!(f, "{functions}"),
             Failure::Undecoded { input, count } => {
                 let do_not = if *count == 1 { " does" } else { "s do" };
                 write!(f, "{input}: {count} section{do_not} not decode")
             }
+            Failure::Files { failed, files } => write!(f, "errors in {failed} of {files} files"),
             Failure::Grown(grown) => write!(f, "{grown}"),
             Failure::Binary(recipe) => write!(f, "{recipe}: a binary module, and no recipe"),
             Failure::NotText { recipe, line } => write!(f, "{recipe}: line {line}: not UTF-8"),

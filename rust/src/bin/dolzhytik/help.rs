@@ -9,6 +9,7 @@ pub enum Verb {
     Strip,
     Shorten,
     Build,
+    Completions,
     Help,
 }
 
@@ -18,24 +19,25 @@ pub struct Manual {
     pub verb: Verb,
     pub name: &'static str,
     /// The arguments after the name. A line does not end within one of these.
-    usage: &'static [&'static str],
-    says: &'static str,
+    pub usage: &'static [&'static str],
+    pub says: &'static str,
     pub options: &'static [Flag],
 }
 
-pub const MANUALS: [Manual; 7] = [
+pub const MANUALS: [Manual; 8] = [
     Manual {
         verb: Verb::Outline,
         name: "outline",
-        usage: &["FILE", "[--why]", "[--strict]", "[--json]"],
+        usage: &["FILE..", "[--why]", "[--strict]", "[--json | --color WHEN]"],
         says: "\
 prints a line for each section of a module: its number, id, offset, size, number of items, whether \
 it decodes as its kind, and name. Offset and size are those of the payload, in bytes; the offset is \
 hexadecimal. The items of a type section are its entries: a recursion group is one. Those of a \
 data count section are the number that it holds. There is a - for items that are not counted, \
 and a - for decodes if the kind is not known. Sections of ids 1 to 13 that do not decode are \
-reported on standard error.",
-        options: &[Flag::Why, Flag::Strict, Flag::Json],
+reported on standard error. Several files have their names above, and the status is 1 if one has an \
+error. Other commands take one file, and size two builds.",
+        options: &[Flag::Why, Flag::Strict, Flag::Json, Flag::Color],
     },
     Manual {
         verb: Verb::Dump,
@@ -46,7 +48,7 @@ reported on standard error.",
             "[--section NUMBER|NAME]..",
             "[--id ID]..",
             "[--relocations]",
-            "[--json]",
+            "[--json | --color WHEN]",
         ],
         says: "\
 prints the items of each section, and the locals and instructions of each function. A line of code \
@@ -56,23 +58,36 @@ one. A custom section is listed by the kind that its name selects, or as bytes. 
 entry is in < and >, from the first of these that has one: the name section, linking, exports, \
 imports. The line * is two or more rows of zeros. With FUNCTION, an index or a name, it prints the \
 functions that have that alone.",
-        options: &[Flag::Section, Flag::Id, Flag::Relocations, Flag::Json],
+        options: &[
+            Flag::Section,
+            Flag::Id,
+            Flag::Relocations,
+            Flag::Json,
+            Flag::Color,
+        ],
     },
     Manual {
         verb: Verb::Size,
         name: "size",
         usage: &[
-            "(FILE | OLD NEW)",
+            "(FILE [--why FUNCTION] | OLD NEW)",
             "[--functions N]",
             "[--fail-above N|N%]",
-            "[--json]",
+            "[--json | --color WHEN]",
         ],
         says: "\
 prints the sizes of the sections in bytes and in percent, and of the ten largest functions, the \
-largest first. Of two builds it prints what grew and shrank: the sections, ten functions and ten \
+largest first. If names of functions have ::, it prints groups of functions by the part before \
+that: ten, the others, and the sum. Of two builds it prints what grew and shrank: the sections, ten functions and ten \
 data segments, the largest change first. Functions are matched by name, then by equal body, and \
 data segments by name, or by index without one.",
-        options: &[Flag::Functions, Flag::FailAbove, Flag::Json],
+        options: &[
+            Flag::WhyOf,
+            Flag::Functions,
+            Flag::FailAbove,
+            Flag::Json,
+            Flag::Color,
+        ],
     },
     Manual {
         verb: Verb::Strip,
@@ -131,11 +146,18 @@ another custom section would no longer be right.",
         options: &[Flag::Output, Flag::Force],
     },
     Manual {
+        verb: Verb::Completions,
+        name: "completions",
+        usage: &["bash | zsh | fish | powershell"],
+        says: "prints the completions for a shell, as a file that this shell loads.",
+        options: &[],
+    },
+    Manual {
         verb: Verb::Help,
         name: "help",
-        usage: &["[COMMAND]"],
+        usage: &["[COMMAND | --man]"],
         says: "prints this, or the help of a command. So does COMMAND --help.",
-        options: &[],
+        options: &[Flag::Man],
     },
 ];
 
@@ -153,12 +175,16 @@ pub enum Flag {
     Debug,
     Keep,
     Why,
+    /// `--why` of `size`.
+    WhyOf,
     Strict,
     Json,
+    Color,
     DropOffsets,
     KeepCode,
     BuildId,
     DryRun,
+    Man,
     Help,
     Version,
 }
@@ -187,7 +213,7 @@ pub struct Explained {
     pub short: Option<&'static str>,
     pub long: &'static str,
     pub given: Given,
-    says: &'static str,
+    pub says: &'static str,
 }
 
 const fn explained(flag: Flag, long: &'static str, given: Given, says: &'static str) -> Explained {
@@ -201,7 +227,7 @@ const fn explained(flag: Flag, long: &'static str, given: Given, says: &'static 
 }
 
 /// The options, in the order of the help.
-pub const OPTIONS: [Explained; 19] = [
+pub const OPTIONS: [Explained; 22] = [
     Explained {
         short: Some("-o"),
         ..explained(
@@ -244,11 +270,21 @@ its type, the index and name of its symbol, and its addend.",
         )
     },
     explained(
+        Flag::WhyOf,
+        "--why",
+        Given::With("FUNCTION"),
+        "\
+prints why a function, an index or a name, is in the module: a shortest path of references to it \
+from an export, the start function, an element segment, a global or a table. Then it prints the \
+functions that are reachable only through it.",
+    ),
+    explained(
         Flag::Functions,
         "--functions",
         Given::With("N"),
         "\
-how many functions size prints, by default 10. Of two builds it prints as many data segments.",
+how many functions size prints, by default 10, and how many groups. Of two builds it prints as \
+many data segments.",
     ),
     explained(
         Flag::FailAbove,
@@ -296,6 +332,14 @@ linked.",
         "prints JSON, for other programs, with offsets and sizes in decimal.",
     ),
     explained(
+        Flag::Color,
+        "--color",
+        Given::With("WHEN"),
+        "\
+auto, always or never: when offsets are dim and names bright. auto, the default, is on a terminal, \
+unless the variable NO_COLOR is set. JSON has no colors.",
+    ),
+    explained(
         Flag::DropOffsets,
         "--drop-offsets",
         Given::Alone,
@@ -326,6 +370,12 @@ Without it, build_id is a section that holds offsets.",
         "\
 prints the bytes that each section would save, and writes no module. The status is that of shorten.",
     ),
+    explained(
+        Flag::Man,
+        "--man",
+        Given::Alone,
+        "prints the man page dolzhytik(1) with the help of all commands.",
+    ),
     Explained {
         short: Some("-h"),
         ..explained(Flag::Help, "--help", Given::Alone, "prints this.")
@@ -341,12 +391,11 @@ prints the bytes that each section would save, and writes no module. The status 
     },
 ];
 
-const FIRST: &str = "\
-dolzhytik lists, measures, strips, minimizes and builds WebAssembly modules.
+/// What the program does, after its name.
+pub const ABOUT: &str = "lists, measures, strips, minimizes and builds WebAssembly modules";
 
-";
-
-const LAST: &str = "
+/// The last lines of each help.
+pub const LAST: &str = "
 The file - is standard input or standard output.
 Exit status: 0 success, 1 error, 2 usage.
 ";
@@ -363,7 +412,8 @@ build from it, and no proof covers that step.
 /// The usage without a command.
 const USAGE: &str = "\
 usage: dolzhytik outline | dump | size | strip | shorten | build FILE ..
-       dolzhytik help [COMMAND]
+       dolzhytik completions bash | zsh | fish | powershell
+       dolzhytik help [COMMAND | --man]
        dolzhytik --help | --version
 ";
 
@@ -371,7 +421,7 @@ usage: dolzhytik outline | dump | size | strip | shorten | build FILE ..
 const WIDTH: usize = 80;
 
 /// The columns of a command and of an option before what they do, and of `usage: dolzhytik`.
-const COMMAND: usize = 10;
+const COMMAND: usize = 13;
 const OPTION: usize = 25;
 const CALL: usize = 17;
 
@@ -379,6 +429,12 @@ impl Manual {
     /// Returns the manual of the command with this name.
     pub fn named(name: &str) -> Option<&'static Manual> {
         MANUALS.iter().find(|manual| manual.name == name)
+    }
+
+    /// Returns the option of the command with this name.
+    pub fn option(&self, long: &str) -> Option<&'static Explained> {
+        let mut options = OPTIONS.iter();
+        options.find(|it| it.long == long && self.options.contains(&it.flag))
     }
 
     /// How the command is called, with these words before its name.
@@ -421,7 +477,7 @@ impl Explained {
     }
 
     /// How the option is given.
-    fn shown(&self) -> String {
+    pub fn shown(&self) -> String {
         let value = match self.given {
             Given::Alone => String::new(),
             Given::With(value) | Given::Often(value) => format!(" {value}"),
@@ -463,7 +519,7 @@ pub fn usage(manual: Option<&Manual>) -> String {
 
 /// The help of the program.
 pub fn help() -> String {
-    let mut text = String::from(FIRST);
+    let mut text = format!("dolzhytik {ABOUT}.\n\n");
     let mut front = "usage: dolzhytik";
     for manual in &MANUALS {
         text += &manual.call(front);

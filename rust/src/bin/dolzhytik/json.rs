@@ -1,10 +1,14 @@
 //! Values of JSON. Outlines, sizes, comparisons and savings as JSON.
+use crate::groups::{Group, Groups, Total};
 use crate::growth::{Comparison, HEADERS, Parts};
 use crate::matching::{Change, Growth, Part, Segment};
+use crate::name::Entry;
 use crate::outline::Row;
+use crate::reach::Reference;
 use crate::sections::Section;
 use crate::shorten::{Saving, Savings};
 use crate::sizes::{Function, Sizes};
+use crate::why::{Reason, Step};
 use dolzhytik::reader::ReadError;
 use std::borrow::Cow;
 use std::fmt::{self, Display, Formatter, Write};
@@ -198,6 +202,15 @@ pub fn outline(rows: &[Row<'_>], why: bool) -> String {
     Value::list(rows.iter().map(|row| outlined(row, why))).lines() + "\n"
 }
 
+/// A file of several, with the JSON of its outline, if it has one.
+pub fn file(name: &str, outline: Option<&str>) -> String {
+    let sections = outline.unwrap_or("null");
+    format!(
+        "{{\"file\": {}, \"sections\": {sections}}}",
+        Value::from(name)
+    )
+}
+
 /// The number, kind and name of a section.
 fn identity<'a>(section: &Section<'a>) -> Members<'a> {
     members! {
@@ -244,12 +257,68 @@ pub fn savings(savings: &Savings<'_>) -> String {
     })
 }
 
+/// How many functions there are, and their bytes.
+fn total<'a>(total: Total) -> Members<'a> {
+    members! { "functions": total.functions, "bytes": total.bytes }
+}
+
+fn group<'a>(group: &Group<'a>) -> Value<'a> {
+    let prefix = members! { "prefix": group.prefix };
+    Value::Object(prefix.into_iter().chain(total(group.total)).collect())
+}
+
+/// The groups that are not listed.
+fn other_groups<'a>(groups: &Groups<'_>) -> Value<'a> {
+    let (count, others) = groups.others;
+    let count = members! { "count": count };
+    Value::Object(count.into_iter().chain(total(others)).collect())
+}
+
 /// The sizes of a module.
 pub fn sizes(sizes: &Sizes<'_>) -> String {
+    let groups = sizes.groups.as_ref();
     lines(members! {
         "bytes": sizes.module,
         "sections": Value::list(sizes.sections.iter().map(section)),
         "functions": Value::list(sizes.functions.iter().map(function)),
+        "groups": Value::list(groups.map_or(&[][..], |it| &it.listed).iter().map(group)),
+        "other_groups": groups.map(other_groups),
+        "all_functions": groups.map(|it| total(it.all)),
+    })
+}
+
+/// What refers to a function.
+fn reference<'a>(reference: &Reference<'a>) -> Value<'a> {
+    match *reference {
+        Reference::Export(name) => object! { "kind": "export", "name": name },
+        Reference::Start => object! { "kind": "start" },
+        Reference::Entry(entry) => entry.into(),
+        Reference::Code(site) => object! { "kind": site.instruction, "offset": site.offset },
+    }
+}
+
+/// The index, name and size of a function. An import has no size.
+fn sized<'a>(entry: Entry<'a>, size: Option<usize>) -> Members<'a> {
+    members! { "function": entry.index, "name": entry.name, "bytes": size }
+}
+
+fn step<'a>(step: &Step<'a>) -> Value<'a> {
+    let mut members = sized(step.entry, step.size);
+    members.push(("reference", reference(&step.reference)));
+    Value::Object(members)
+}
+
+/// Why a function is in a module. One that nothing reaches has no path.
+pub fn reason(reason: &Reason<'_>) -> String {
+    let path = reason.path.as_ref();
+    let listed = path.map_or(&[][..], |it| &it.listed);
+    lines(members! {
+        "bytes": reason.module,
+        "function": sized(reason.entry, reason.size),
+        "path": path.map(|it| Value::list(it.steps.iter().map(step))),
+        "dominated": path.map(|it| total(it.dominated)),
+        "functions": Value::list(listed.iter().map(function)),
+        "other_functions": path.map(|it| total(it.others)),
     })
 }
 

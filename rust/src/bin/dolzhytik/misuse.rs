@@ -1,4 +1,5 @@
 //! Words that ask for nothing that the program does, and what was probably meant.
+use crate::completions::Shell;
 use crate::help::{MANUALS, Manual, OPTIONS, usage};
 use std::ffi::OsString;
 use std::fmt;
@@ -19,6 +20,8 @@ pub enum Usage {
     NotUtf8(OsString),
     /// Neither `keep` nor `drop`.
     NotABuildId(OsString),
+    /// Neither `auto`, `always` nor `never`.
+    NotAColor(OsString),
     /// Neither a number nor one with `%`.
     NotALimit(OsString),
     /// `size --fail-above` with one file.
@@ -31,6 +34,13 @@ pub enum Usage {
     TwoTreatments,
     /// `dump` lists functions or sections.
     SectionsAndFunction,
+    /// `size --why` with two files.
+    WhyOfTwo,
+    /// `help --man` with a command.
+    PageOfCommand,
+    /// `completions` without a shell.
+    NoShell,
+    UnknownShell(OsString),
     NoInput(&'static str),
     NoOutput(&'static str),
     WordTooMany(OsString),
@@ -58,6 +68,11 @@ impl fmt::Display for Usage {
                     word.display()
                 )
             }
+            Usage::NotAColor(word) => write!(
+                f,
+                "--color needs auto, always or never, and not {}",
+                word.display()
+            ),
             Usage::NotALimit(word) => {
                 write!(
                     f,
@@ -66,6 +81,7 @@ impl fmt::Display for Usage {
                 )
             }
             Usage::LimitOfOne => write!(f, "size takes --fail-above only with two files"),
+            Usage::WhyOfTwo => write!(f, "size takes --why only with one file"),
             Usage::StandardTwice => write!(f, "only one of the files can be standard input"),
             Usage::SectionsAndFunction => {
                 write!(f, "dump takes a function or sections, and not both")
@@ -77,6 +93,9 @@ impl fmt::Display for Usage {
                 )
             }
             Usage::JsonOfModule => write!(f, "shorten takes --json only with --dry-run"),
+            Usage::PageOfCommand => write!(f, "help takes --man only without a command"),
+            Usage::NoShell => write!(f, "completions needs bash, zsh, fish or powershell"),
+            Usage::UnknownShell(word) => write!(f, "no such shell: {}", word.display()),
             Usage::NoInput(command) => write!(f, "{command} needs a file"),
             Usage::NoOutput(command) => write!(f, "{command} needs -o FILE"),
             Usage::WordTooMany(word) => write!(f, "unexpected argument: {}", word.display()),
@@ -91,15 +110,23 @@ pub struct Misuse {
     why: Usage,
     /// The command that is given, or probably meant.
     manual: Option<&'static Manual>,
-    /// The command or the option that was probably meant.
+    /// The command, the option or the shell that was probably meant.
     meant: Option<&'static str>,
 }
 
 impl Misuse {
     pub fn new(why: Usage, manual: Option<&'static Manual>) -> Self {
         let meant = match &why {
-            Usage::UnknownCommand(word) => nearest(word.to_str(), MANUALS.iter().map(|it| it.name)),
-            Usage::UnknownOption(word) => nearest(word.to_str(), options_of(manual)),
+            Usage::UnknownCommand(word) => word
+                .to_str()
+                .and_then(|word| nearest(word, MANUALS.iter().map(|it| it.name))),
+            Usage::UnknownOption(word) => {
+                let option = word.to_str().and_then(|word| word.split('=').next());
+                option.and_then(|option| nearest(option, options_of(manual)))
+            }
+            Usage::UnknownShell(word) => word
+                .to_str()
+                .and_then(|word| nearest(word, Shell::ALL.into_iter().map(Shell::word))),
             _ => None,
         };
         Misuse {
@@ -131,10 +158,8 @@ fn options_of(manual: Option<&'static Manual>) -> impl Iterator<Item = &'static 
         .map(|option| option.long)
 }
 
-/// The name that is most like a word, without the value of an option. A third of its letters may
-/// differ.
-fn nearest(word: Option<&str>, names: impl Iterator<Item = &'static str>) -> Option<&'static str> {
-    let word = word?.split('=').next()?;
+/// The name that is most like a word. A third of its letters may differ.
+pub fn nearest<'n>(word: &str, names: impl Iterator<Item = &'n str>) -> Option<&'n str> {
     let near = names.filter_map(|name| {
         let most = (name.trim_start_matches('-').len() / 3).max(1);
         let is_near = word.len().abs_diff(name.len()) <= most;

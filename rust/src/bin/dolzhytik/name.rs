@@ -1,4 +1,5 @@
 //! The names of entries, and where they are from.
+use crate::color::Bright;
 use crate::json::{Value, object};
 use std::fmt::{self, Display, Formatter, Write};
 
@@ -56,7 +57,7 @@ impl Name<'_> {
 }
 
 /// Writes a text with escapes for characters that do not show.
-fn escaped(f: &mut Formatter<'_>, text: &str) -> fmt::Result {
+pub fn escaped(f: &mut Formatter<'_>, text: &str) -> fmt::Result {
     let is_plain = |byte: u8| matches!(byte, b' '..=b'~') && byte != b'\\';
     if text.bytes().all(is_plain) {
         return f.write_str(text);
@@ -69,8 +70,17 @@ fn escaped(f: &mut Formatter<'_>, text: &str) -> fmt::Result {
 
 impl Display for Name<'_> {
     fn fmt(&self, f: &mut Formatter<'_>) -> fmt::Result {
+        Bright(InBrackets(*self)).fmt(f)
+    }
+}
+
+/// A name without a color.
+struct InBrackets<'a>(Name<'a>);
+
+impl Display for InBrackets<'_> {
+    fn fmt(&self, f: &mut Formatter<'_>) -> fmt::Result {
         f.write_char('<')?;
-        match self {
+        match self.0 {
             Name::Own(name) => escaped(f, name)?,
             Name::Imported { module, name } => {
                 escaped(f, module)?;

@@ -1,4 +1,5 @@
 //! Lists the sections of a module.
+use crate::color::Dim;
 use crate::failure::{Failure, report};
 use crate::files::{Input, Output};
 use crate::json;
@@ -68,45 +69,121 @@ impl<'a> Row<'a> {
         let why = self.error().filter(|_| why);
         let why = why.map_or(String::new(), |error| format!(": {error}"));
         format!(
-            "{:>7} {:>3} {:>#10x} {:>10} {items:>10}  {decodes:>7}  {section}{why}\n",
+            "{:>7} {:>3} {} {:>10} {items:>10}  {decodes:>7}  {section}{why}\n",
             section.number,
             section.id(),
-            section.range().start,
+            Dim(format_args!("{:>#10x}", section.range().start)),
             section.payload().len(),
         )
     }
 }
 
-/// Prints a line for each section, and reports those that do not decode: those of ids 1 to 13, and
-/// if the choice is strict, custom sections too.
-pub fn show(input: &Input, choice: Choice) -> Result<(), Failure> {
-    let bytes = input.read()?;
-    let progress = Progress::of(bytes.len());
-    progress.begin("reading");
-    let rows = rows_of(input, &bytes)?;
-    drop(progress);
-    let text = match choice.format {
-        Format::Json => json::outline(&rows, choice.why),
-        Format::Table => rows
-            .iter()
-            .fold(String::from(HEAD), |text, row| text + &row.line(choice.why)),
-    };
-    Output::Standard.write(text.as_bytes())?;
-    let mut count = 0;
-    for row in &rows {
-        if let Some(error) = row.error()
-            && (row.section.id() != 0 || choice.strict)
-        {
-            report(&row.section.failure(input, error));
-            count += 1;
+/// Prints the outline of each file, and reports the sections that do not decode: those of ids 1 to
+/// 13, and if the choice is strict, custom sections too.
+pub fn show(inputs: &[Input], choice: Choice) -> Result<(), Failure> {
+    match (inputs, choice.format) {
+        ([input], _) => {
+            let outline = Outline::of(input, choice)?;
+            print(&outline.text)?;
+            outline.report(input, choice)
+        }
+        (_, Format::Table) => show_tables(inputs, choice),
+        (_, Format::Json) => show_list(inputs, choice),
+    }
+}
+
+fn print(text: &str) -> Result<(), Failure> {
+    Output::Standard.write(text.as_bytes())
+}
+
+/// Prints a table of each file below its name. An error is reported, and the next file follows.
+fn show_tables(inputs: &[Input], choice: Choice) -> Result<(), Failure> {
+    let (mut failed, mut above) = (0, "");
+    for input in inputs {
+        let shown = Outline::of(input, choice).and_then(|outline| {
+            print(&format!("{above}{input}:\n{}", outline.text))?;
+            above = "\n";
+            outline.report(input, choice)
+        });
+        failed += reported(shown)?;
+    }
+    all_done(failed, inputs.len())
+}
+
+/// Prints a list of the files. One that is no module has no sections.
+fn show_list(inputs: &[Input], choice: Choice) -> Result<(), Failure> {
+    let (mut failed, mut files) = (0, Vec::new());
+    for input in inputs {
+        let outline = Outline::of(input, choice);
+        let sections = outline.as_ref().ok().map(|it| it.text.trim_end());
+        files.push(json::file(&input.to_string(), sections));
+        failed += reported(outline.and_then(|it| it.report(input, choice)))?;
+    }
+    print(&format!("[\n{}\n]\n", files.join(",\n")))?;
+    all_done(failed, inputs.len())
+}
+
+/// Reports a failure, and returns how many there are. Without standard output no file can follow.
+fn reported(shown: Result<(), Failure>) -> Result<usize, Failure> {
+    match shown {
+        Ok(()) => Ok(0),
+        Err(failure @ Failure::Unwritten { .. }) => Err(failure),
+        Err(failure) => {
+            report(&failure);
+            Ok(1)
         }
     }
-    match count {
-        count if count > 0 && choice.strict => Err(Failure::Undecoded {
-            input: input.clone(),
-            count,
-        }),
-        _ => Ok(()),
+}
+
+fn all_done(failed: usize, files: usize) -> Result<(), Failure> {
+    match failed {
+        0 => Ok(()),
+        failed => Err(Failure::Files { failed, files }),
+    }
+}
+
+/// What is printed of a file.
+struct Outline {
+    /// A table, or a list of JSON.
+    text: String,
+    /// The failures of sections.
+    failures: Vec<Failure>,
+}
+
+impl Outline {
+    fn of(input: &Input, choice: Choice) -> Result<Self, Failure> {
+        let bytes = input.read()?;
+        let progress = Progress::of(bytes.len());
+        progress.begin("reading");
+        let rows = rows_of(input, &bytes)?;
+        drop(progress);
+        let is_reported = |row: &&Row<'_>| row.section.id() != 0 || choice.strict;
+        let failure = |row: &Row<'_>| Some(row.section.failure(input, row.error()?));
+        Ok(Outline {
+            text: match choice.format {
+                Format::Json => json::outline(&rows, choice.why),
+                Format::Table => rows
+                    .iter()
+                    .fold(String::from(HEAD), |text, row| text + &row.line(choice.why)),
+            },
+            failures: rows
+                .iter()
+                .filter(is_reported)
+                .filter_map(failure)
+                .collect(),
+        })
+    }
+
+    /// Reports the sections, which are an error if the choice is strict.
+    fn report(&self, input: &Input, choice: Choice) -> Result<(), Failure> {
+        self.failures.iter().for_each(report);
+        match self.failures.len() {
+            count if count > 0 && choice.strict => Err(Failure::Undecoded {
+                input: input.clone(),
+                count,
+            }),
+            _ => Ok(()),
+        }
     }
 }
 

@@ -1,4 +1,5 @@
 //! The sections of a module, with their numbers.
+use crate::color::Bright;
 use crate::cursor::Cursor;
 use crate::failure::{BadSection, Failure, NamedSection};
 use crate::files::Input;
@@ -72,9 +73,14 @@ impl<'a> Section<'a> {
         Failure::Section(BadSection {
             input: input.clone(),
             number: self.number,
-            section: Some(self.to_string()),
+            section: Some(self.title().to_string()),
             error,
         })
+    }
+
+    /// What it prints as without a color, for an error.
+    pub fn title(&self) -> Title<'_, 'a> {
+        Title(self)
     }
 
     /// Returns the number and the name of a custom section, for an error.
@@ -90,8 +96,17 @@ impl<'a> Section<'a> {
 /// `code`, or `custom "name"`.
 impl fmt::Display for Section<'_> {
     fn fmt(&self, f: &mut fmt::Formatter<'_>) -> fmt::Result {
-        f.write_str(self.kind_name())?;
-        match self.name() {
+        Bright(self.title()).fmt(f)
+    }
+}
+
+/// A section, which prints without a color.
+pub struct Title<'s, 'a>(&'s Section<'a>);
+
+impl fmt::Display for Title<'_, '_> {
+    fn fmt(&self, f: &mut fmt::Formatter<'_>) -> fmt::Result {
+        f.write_str(self.0.kind_name())?;
+        match self.0.name() {
             None => Ok(()),
             Some(name) => write!(f, " {name:?}"),
         }

@@ -1,4 +1,6 @@
 //! The words after the program's name, and what they ask for.
+use crate::color::Color;
+use crate::completions::Shell;
 use crate::dump::{self, Selector};
 use crate::files::{Input, Output};
 use crate::growth::{self, Limit};
@@ -21,11 +23,26 @@ pub enum Format {
     Json,
 }
 
+/// What the program is asked for, and whether its text has colors.
+#[derive(PartialEq, Eq, Debug)]
+pub struct Request {
+    pub command: Command,
+    pub color: Color,
+}
+
+impl From<Command> for Request {
+    fn from(command: Command) -> Self {
+        let color = Color::Never;
+        Request { command, color }
+    }
+}
+
 /// What the program is asked for.
 #[derive(PartialEq, Eq, Debug)]
 pub enum Command {
     Outline {
-        input: Input,
+        /// One or more.
+        inputs: Vec<Input>,
         choice: outline::Choice,
     },
     Dump {
@@ -49,6 +66,14 @@ pub enum Command {
         functions: usize,
         format: Format,
     },
+    /// `size --why`.
+    Why {
+        input: Input,
+        function: dump::Function,
+        /// How many functions to list.
+        most: usize,
+        format: Format,
+    },
     /// `size` of two files.
     Compare {
         old: Input,
@@ -64,6 +89,9 @@ pub enum Command {
         recipe: Input,
         output: Output,
     },
+    Completions(Shell),
+    /// `help --man`.
+    ManPage,
     /// The help of a command, or of the program.
     Help(Option<&'static Manual>),
     Version,
@@ -84,10 +112,9 @@ impl Options {
     }
 
     /// The first option that is given and not of the command.
-    fn other_than(&self, taken: &[Flag]) -> Option<&'static str> {
-        let mut given = self.0.iter().map(|(option, _)| option);
-        let other = given.find(|option| !taken.contains(&option.flag));
-        other.map(|option| option.name())
+    fn other_than(&self, taken: &[Flag]) -> Option<&'static Explained> {
+        let mut given = self.0.iter().map(|(option, _)| *option);
+        given.find(|option| !taken.contains(&option.flag))
     }
 
     fn has(&self, flag: Flag) -> bool {
@@ -126,6 +153,21 @@ impl Options {
         }
     }
 
+    /// When there are colors. Commands without the option have none, and JSON has none.
+    fn color(&self, manual: &Manual) -> Result<Color, Usage> {
+        let word = self.values(Flag::Color).next();
+        let color = match &word {
+            None if manual.options.contains(&Flag::Color) => Some(Color::Auto),
+            None => Some(Color::Never),
+            Some(word) => Color::ALL.into_iter().find(|it| word == it.word()),
+        };
+        match (color, word) {
+            (Some(_), _) if self.has(Flag::Json) => Ok(Color::Never),
+            (Some(color), _) => Ok(color),
+            (None, word) => Err(Usage::NotAColor(word.unwrap_or_default())),
+        }
+    }
+
     fn selectors(&self) -> Result<Vec<Selector>, Usage> {
         let selector = |(option, word): &(&'static Explained, OsString)| match option.flag {
             Flag::Section => Some(name(word.clone()).map(Selector::of)),
@@ -140,6 +182,12 @@ impl Options {
             return Ok(FUNCTIONS);
         };
         number(word, Usage::NotANumber)
+    }
+
+    /// The function that `size` explains.
+    fn explained(&self) -> Result<Option<dump::Function>, Usage> {
+        let word = self.values(Flag::WhyOf).next();
+        Ok(word.map(name).transpose()?.map(dump::Function::of))
     }
 
     fn limit(&self) -> Result<Option<Limit>, Usage> {
@@ -174,7 +222,7 @@ impl Words {
     fn read(mut self, verb: Verb) -> Result<Command, Usage> {
         let command = match verb {
             Verb::Outline => Command::Outline {
-                input: self.input()?,
+                inputs: self.inputs()?,
                 choice: outline::Choice {
                     format: self.options.format(),
                     why: self.options.has(Flag::Why),
@@ -196,6 +244,7 @@ impl Words {
                 recipe: self.input()?,
                 output: self.output_at_end()?,
             },
+            Verb::Completions => self.completions()?,
             Verb::Help => self.help()?,
         };
         self.end()?;
@@ -225,15 +274,25 @@ impl Words {
             format: self.options.format(),
             limit: self.options.limit()?,
         };
-        match self.words.next().map(Input::from) {
-            Some(new) if new == Input::Standard && new == input => Err(Usage::StandardTwice),
-            Some(new) => Ok(Command::Compare {
+        let function = self.options.explained()?;
+        match (self.words.next().map(Input::from), function) {
+            (Some(_), Some(_)) => Err(Usage::WhyOfTwo),
+            (Some(new), None) if new == Input::Standard && new == input => {
+                Err(Usage::StandardTwice)
+            }
+            (Some(new), None) => Ok(Command::Compare {
                 old: input,
                 new,
                 choice,
             }),
-            None if choice.limit.is_some() => Err(Usage::LimitOfOne),
-            None => Ok(Command::Size {
+            (None, _) if choice.limit.is_some() => Err(Usage::LimitOfOne),
+            (None, Some(function)) => Ok(Command::Why {
+                input,
+                function,
+                most: choice.most,
+                format: choice.format,
+            }),
+            (None, None) => Ok(Command::Size {
                 input,
                 functions: choice.most,
                 format: choice.format,
@@ -275,10 +334,26 @@ impl Words {
         })
     }
 
+    fn completions(&mut self) -> Result<Command, Usage> {
+        let word = self.words.next().ok_or(Usage::NoShell)?;
+        match word.to_str().and_then(Shell::named) {
+            Some(shell) => Ok(Command::Completions(shell)),
+            None => Err(Usage::UnknownShell(word)),
+        }
+    }
+
     fn help(&mut self) -> Result<Command, Usage> {
+        let is_page = self.options.has(Flag::Man);
         let Some(word) = self.words.next() else {
-            return Ok(Command::Help(None));
+            return Ok(if is_page {
+                Command::ManPage
+            } else {
+                Command::Help(None)
+            });
         };
+        if is_page {
+            return Err(Usage::PageOfCommand);
+        }
         match word.to_str().and_then(Manual::named) {
             None => Err(Usage::UnknownCommand(word)),
             manual => Ok(Command::Help(manual)),
@@ -288,6 +363,16 @@ impl Words {
     fn input(&mut self) -> Result<Input, Usage> {
         let word = self.words.next().ok_or(Usage::NoInput(self.command))?;
         Ok(Input::from(word))
+    }
+
+    /// The files that all words are. Standard input can be read once.
+    fn inputs(&mut self) -> Result<Vec<Input>, Usage> {
+        let mut inputs = vec![self.input()?];
+        inputs.extend(self.words.by_ref().map(Input::from));
+        match inputs.iter().filter(|it| **it == Input::Standard).count() {
+            0 | 1 => Ok(inputs),
+            _ => Err(Usage::StandardTwice),
+        }
     }
 
     /// Checks that there is no further word.
@@ -325,7 +410,7 @@ impl Words {
 }
 
 /// The command of the first word.
-fn command(mut words: Vec<OsString>, options: Options) -> Result<Command, Usage> {
+fn command(mut words: Vec<OsString>, options: Options) -> Result<Request, Usage> {
     if words.is_empty() {
         return Err(Usage::NoCommand);
     }
@@ -335,14 +420,23 @@ fn command(mut words: Vec<OsString>, options: Options) -> Result<Command, Usage>
     };
     let command = manual.name;
     if let Some(option) = options.other_than(manual.options) {
-        return Err(Usage::NoOptionOf { command, option });
+        let name = option.name();
+        return Err(match manual.option(option.long) {
+            Some(own) if own.has_value() => Usage::NoValueOf(name),
+            _ => Usage::NoOptionOf {
+                command,
+                option: name,
+            },
+        });
     }
+    let color = options.color(manual)?;
     let words = Words {
         command,
         words: words.into_iter(),
         options,
     };
-    words.read(manual.verb)
+    let command = words.read(manual.verb)?;
+    Ok(Request { command, color })
 }
 
 /// Splits an option from its value: `-oFILE`, `--output=FILE`.
@@ -356,11 +450,16 @@ fn split(word: &str) -> (&str, Option<OsString>) {
     }
 }
 
-/// Returns the option of a word, and the value in the word.
-fn option(word: &str) -> Option<(&'static Explained, Option<OsString>)> {
+/// Returns the option of a word, and the value in the word. Commands may have different options of
+/// a name: one before the command has a value only if that is in the word.
+fn option(word: &str, manual: Option<&Manual>) -> Option<(&'static Explained, Option<OsString>)> {
     let (name, value) = split(word);
     let is_named = |it: &&Explained| it.long == name || it.short == Some(name);
-    let option = OPTIONS.iter().find(is_named)?;
+    let is_own = |it: &&Explained| manual.is_some_and(|manual| manual.options.contains(&it.flag));
+    let is_alike = |it: &&Explained| it.has_value() == value.is_some();
+    let named = || OPTIONS.iter().filter(is_named);
+    let option = named().find(is_own).or_else(|| named().find(is_alike));
+    let option = option.or_else(|| named().next())?;
     match (option.given, &value) {
         (Given::Alone, Some(_)) => None,
         _ => Some((option, value)),
@@ -386,19 +485,24 @@ fn manual_of(words: &[OsString]) -> Option<&'static Manual> {
         if !is_option(word) {
             return Manual::named(word);
         }
-        if option(word).is_some_and(|(option, value)| option.has_value() && value.is_none()) {
+        if option(word, None).is_some_and(|(option, value)| option.has_value() && value.is_none()) {
             words.next();
         }
     }
 }
 
+/// The command of the first word that is no option, if it is known already.
+fn named(words: &[OsString]) -> Option<&'static Manual> {
+    words.first()?.to_str().and_then(Manual::named)
+}
+
 /// Reads what the words ask for. Options may be anywhere before `--`.
-pub fn read(words: impl Iterator<Item = OsString>) -> Result<Command, Misuse> {
+pub fn read(words: impl Iterator<Item = OsString>) -> Result<Request, Misuse> {
     let words: Vec<OsString> = words.collect();
     read_words(words.iter().cloned()).map_err(|why| Misuse::new(why, manual_of(&words)))
 }
 
-fn read_words(mut words: impl Iterator<Item = OsString>) -> Result<Command, Usage> {
+fn read_words(mut words: impl Iterator<Item = OsString>) -> Result<Request, Usage> {
     let (mut others, mut options) = (Vec::new(), Options::default());
     while let Some(word) = words.next() {
         let text = match word.to_str() {
@@ -412,12 +516,12 @@ fn read_words(mut words: impl Iterator<Item = OsString>) -> Result<Command, Usag
                 continue;
             }
         };
-        let Some((option, value)) = option(text) else {
+        let Some((option, value)) = option(text, named(&others)) else {
             return Err(Usage::UnknownOption(word));
         };
         match option.flag {
-            Flag::Help => return Ok(help_of(others.into_iter().chain(words).next())),
-            Flag::Version => return Ok(Command::Version),
+            Flag::Help => return Ok(help_of(others.into_iter().chain(words).next()).into()),
+            Flag::Version => return Ok(Command::Version.into()),
             _ => {}
         }
         let value = if option.has_value() {

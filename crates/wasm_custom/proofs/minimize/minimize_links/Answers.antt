@@ -1,6 +1,6 @@
 use Rattle.wasm_base.proofs.Words.{fault_stays}
 use Rattle.wasm_custom.proofs.LinkLaws.{link_begins, links_none, links_no_version, no_links}
-use Rattle.wasm_custom.proofs.SharedFormats.{links_minimize}
+use Rattle.wasm_custom.proofs.LinkMinimal.{links_minimize}
 use Rattle.wasm_custom.proofs.minimize.minimize_links.Goals as goal
 
 pub returns-in_err-rest-clause-none : goal.returns-in_err-rest-clause-none

@@ -1,4 +1,9 @@
 use Rattle.wasm_insn.proofs.Common.{mapped_decodes, mapped_rejects, fault_stays, labels, catches, types, handles, part_skipped, part_none}
+use Rattle.std.proofs.Common.{IfErr, IsErrAnd, ap, ◌∙◌, ◌≡◌, ◌≢◌, Result, Ok, Err, sym, inl, inr}
+use Rattle.wasm_base.specs.Faults.{Failure}
+use Rattle.wasm_base.specs.declared.fault.ReadFault.TheVariants.{Memory}
+use Rattle.wasm_insn.specs.Parts.{IsList}
+use Rattle.wasm_insn.specs.declared.part.Part.{Part}
 use Rattle.wasm_insn.specs.declared.part.Part.TheVariants as parts
 use Rattle.wasm_insn.proofs.arguments.skip_part.Goals as goal
 
@@ -33,3 +38,19 @@ pub returns-in_ok-_count-in-Handles-clause-found : goal.returns-in_ok-_count-in-
 returns-in_ok-_count-in-Handles-clause-found g c =
     let xs = c.in_ok-_count-in-Handles.ensures.found in
     part_skipped parts.Handles c.in-Handles.is c.args.bytes.now _ (handles xs.0) (mapped_decodes handles xs.1)
+
+-- `?` propagates an error that is not `Memory`.
+never_stays : {T : Type 0} (r : Result T Failure) (f : Failure) → IsErrAnd r (λ y. y ≡ f) → f.cause ≢ Memory → IfErr r (λ e. e.cause ≢ Memory)
+never_stays (Ok x) f h p = elim h [ ]
+never_stays (Err e) f h p = λ k. p (sym (ap (λ e. e.cause) h) ∙ k)
+
+no_list : (p : Part) → p ≢ parts.Labels → p ≢ parts.Catches → p ≢ parts.Types → p ≢ parts.Handles → IsList p → ⊥
+no_list p a b c d (inl e) = a e
+no_list p a b c d (inr (inl e)) = b e
+no_list p a b c d (inr (inr (inl e))) = c e
+no_list p a b c d (inr (inr (inr e))) = d e
+
+pub returns-in_err-_arg-in_default-clause-no_memory : goal.returns-in_err-_arg-in_default-clause-no_memory
+returns-in_err-_arg-in_default-clause-no_memory g c =
+    let other = c.in_default in
+    never_stays c.from_residual-in_err-_arg-in_default.result _ c.from_residual-in_err-_arg-in_default.ensures.1 (λ k. no_list c.args.wanted other.not-Labels other.not-Catches other.not-Types other.not-Handles (c.in_err-_arg-in_default.ensures.no_memory k))

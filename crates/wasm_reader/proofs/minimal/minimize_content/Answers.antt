@@ -3,7 +3,7 @@ use Rattle.wasm_reader.proofs.Common.{memory_stays, contents_of}
 use Rattle.wasm_reader.proofs.KindLaws.{bodies_read, segments_read, data_count_read, elements_read, exports_read, functions_read, globals_read, imports_read, memories_read, start_read, tables_read, tags_read, types_read, linking_read}
 use Rattle.wasm_reader.proofs.KindLaws.{names_read, producers_read, hints_read, core_modules_read, core_instances_read, core_stack_read, target_features_read, dylink_read, relocations_read}
 use Rattle.wasm_reader.proofs.MinimalSections.{bodies_minimized, segments_minimized, data_count_minimized, elements_minimized, exports_minimized, functions_minimized, globals_minimized, imports_minimized, memories_minimized, start_minimized, tables_minimized, tags_minimized}
-use Rattle.wasm_reader.proofs.MinimalSections.{types_minimized, linking_minimized, items_minimized, IsSingle}
+use Rattle.wasm_reader.proofs.MinimalSections.{types_minimized, linking_minimized, items_minimized, IsInBoth}
 use Rattle.wasm_reader.proofs.MinimalSections.{names_minimized, producers_minimized, hints_minimized, modules_minimized, instances_minimized, stack_minimized, features_minimized, dylink_minimized, relocations_minimized}
 use Rattle.wasm_reader.proofs.minimal.minimize_content.Goals as goal
 
@@ -151,5 +151,5 @@ returns-in_err-encode_items-in_default-clause-none g c = memory_stays _ c.from_r
 pub returns-in_ok-encode_items-in_default-clause-found : goal.returns-in_ok-encode_items-in_default-clause-found
 returns-in_ok-encode_items-in_default-clause-found g c =
     let other = c.in_default in
-    let single : IsSingle c.args.kind = (other.not-Bodies, other.not-Segments, other.not-DataCount, other.not-Elements, other.not-Exports, other.not-Functions, other.not-Globals, other.not-Imports, other.not-Memories, other.not-Start, other.not-Tables, other.not-Tags, other.not-Types, other.not-Names, other.not-Linking, other.not-Producers, other.not-Hints, other.not-CoreModules, other.not-CoreInstances, other.not-CoreStack, other.not-TargetFeatures, other.not-Dylink, other.not-Relocations) in
-    items_minimized g.G.Grammar.grammar c.args.kind c.args.bytes.now _ _ (contents_of c.in_ok-items-in_default.items) single c.in_ok-items-in_default.ensures.found c.in_ok-encode_items-in_default.ensures.ok
+    let both : IsInBoth c.args.kind = (other.not-Bodies, other.not-Segments, other.not-Elements, other.not-Globals, other.not-Imports, other.not-Tables, other.not-Types) in
+    items_minimized g.G.Grammar.grammar c.args.kind c.args.bytes.now _ _ (contents_of c.in_ok-items-in_default.items) both c.in_ok-items-in_default.ensures.found c.in_ok-encode_items-in_default.ensures.ok

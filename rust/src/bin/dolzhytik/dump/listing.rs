@@ -1,4 +1,5 @@
 //! Prints listings, as text or JSON, a line at a time.
+use crate::color::{self, Bright, Dim};
 use crate::dump::operands::Operands;
 use crate::dump::relocations::{Patch, Patches};
 use crate::dump::text::Text;
@@ -166,6 +167,7 @@ pub struct Listing<W: Write> {
     /// Whether the innermost list has locals, after which instructions follow.
     has_locals: bool,
     is_first: bool,
+    is_colored: bool,
 }
 
 impl<W: Write> Listing<W> {
@@ -189,6 +191,7 @@ impl<W: Write> Listing<W> {
             open: vec![false],
             has_locals: false,
             is_first: sources.is_empty(),
+            is_colored: color::is_on(),
         })
     }
 
@@ -270,6 +273,15 @@ impl<W: Write> Listing<W> {
         write!(self.out, "{{{}, \"{list}\": [", Inner(members))
     }
 
+    /// Begins a line with an offset. Most lines have one, so that without colors it is written as it
+    /// is.
+    fn offset(&mut self, offset: usize) -> io::Result<()> {
+        if self.is_colored {
+            return write!(self.out, " {}:", Dim(format_args!("{offset:06x}")));
+        }
+        write!(self.out, " {offset:06x}:")
+    }
+
     /// Prints the head of a section, whose items follow.
     pub fn section(&mut self, section: &Section<'_>) -> io::Result<()> {
         let (offset, size) = (section.range().start, section.payload().len());
@@ -290,7 +302,8 @@ impl<W: Write> Listing<W> {
         let number = section.number;
         writeln!(
             self.out,
-            "{above}section {number} ({section}): offset {offset:#x}, size {size}"
+            "{above}section {number} ({section}): offset {}, size {size}",
+            Dim(format_args!("{offset:#x}"))
         )
     }
 
@@ -300,7 +313,10 @@ impl<W: Write> Listing<W> {
             return self.object(&item.members());
         }
         match item.offset {
-            Some(offset) => write!(self.out, " {offset:06x}: ")?,
+            Some(offset) => {
+                self.offset(offset)?;
+                self.out.write_all(b" ")?;
+            }
             None => write!(self.out, "         ")?,
         }
         self.out.write_all(item.kind.as_bytes())?;
@@ -308,7 +324,9 @@ impl<W: Write> Listing<W> {
             write!(self.out, " {index}")?;
         }
         match item.title {
-            Some(Title::Own(text)) => write!(self.out, " {text:?}")?,
+            Some(Title::Own(text)) => {
+                write!(self.out, " {}", Bright(format_args!("{text:?}")))?;
+            }
             Some(Title::Entry(Some(name))) => write!(self.out, " {name}")?,
             _ => {}
         }
@@ -363,7 +381,7 @@ impl<W: Write> Listing<W> {
 
     fn row(&mut self, offset: usize, row: &[u8]) -> io::Result<()> {
         let text: String = row.iter().map(|byte| shown(*byte)).collect();
-        write!(self.out, " {offset:06x}:")?;
+        self.offset(offset)?;
         let columns = columns::<BYTES_OF_DATA>(row);
         self.out.write_all(columns.as_flattened())?;
         writeln!(self.out, "  {text}")
@@ -415,7 +433,8 @@ impl<W: Write> Listing<W> {
         }
         let ty = function.ty.map(|ty| format!("type {ty}, "));
         let ty = ty.unwrap_or_default();
-        writeln!(self.out, ": {ty}offset {offset:#x}, size {size}")
+        let offset = Dim(format_args!("{offset:#x}"));
+        writeln!(self.out, ": {ty}offset {offset}, size {size}")
     }
 
     /// Ends the list of locals, and begins that of instructions.
@@ -495,7 +514,7 @@ impl<W: Write> Listing<W> {
     }
 
     fn code_bytes(&mut self, offset: usize, bytes: &[u8]) -> io::Result<()> {
-        write!(self.out, " {offset:06x}:")?;
+        self.offset(offset)?;
         let columns = columns::<BYTES_OF_CODE>(bytes);
         self.out.write_all(columns.as_flattened())?;
         self.out.write_all(b" |")

@@ -120,7 +120,7 @@ impl Function {
     }
 
     /// The indices of the functions.
-    fn indices(&self, context: &Context<'_>) -> Vec<u32> {
+    pub fn indices(&self, context: &Context<'_>) -> Vec<u32> {
         match self {
             Function::Index(index) => vec![*index],
             Function::Name(name) => context.named(Space::Function, name),

@@ -1,4 +1,5 @@
 //! Relocations, and what they patch.
+use crate::color::Dim;
 use crate::context::{Context, Space};
 use crate::dump::symbols::Shown;
 use crate::json::{Members, Value, members};
@@ -104,7 +105,8 @@ impl<'c> Patch<'c> {
 impl Display for Patch<'_> {
     fn fmt(&self, f: &mut Formatter<'_>) -> fmt::Result {
         let offset = self.file_offset().unwrap_or_default();
-        write!(f, "{offset:06x}: {} {}", self.type_name(), self.target())?;
+        let offset = Dim(format_args!("{offset:06x}"));
+        write!(f, "{offset}: {} {}", self.type_name(), self.target())?;
         self.addend()
             .map_or(Ok(()), |addend| write!(f, "{addend:+}"))
     }

@@ -181,7 +181,7 @@ fn no_instruction(
         Ok(offset) => Failure::Hint(BadHint {
             input: input.clone(),
             number: section.number,
-            section: section.to_string(),
+            section: section.title().to_string(),
             offset,
             function,
             at,

@@ -10,5 +10,5 @@ returns-clause-ok g c =
     let items = c.deref.result.now in
     let old = c.args.sink.now.items in
     on_ok c.write_all.result _ _ c.write_all.ensures.ok (λ added.
-    subst (λ xs. AppendsMinimal (vec t.format) (map t.view xs) old c.write_all.new.sink.items) c.deref.ensures.value
+    subst (λ xs. AppendsMinimal g.T.Shorten.grammars (vec t.format) (map t.view xs) old c.write_all.new.sink.items) c.deref.ensures.value
     (vec_appended t.format t.view items old c.encode.new.sink.items c.write_all.new.sink.items (c.in_ok-encode.ensures.appends.ok ∙ ap (λ n. old ++ unsigned_encoding n) (c.len.ensures ∙ sym c.deref.ensures.len)) added))

@@ -1,4 +1,4 @@
-use Rattle.wasm_code.proofs.Common.{map, rules, subst, refl, drop, size_prefixed_encoding, stays_short, members, on_ok_both, AppendsMinimal, size_prefixed_appended, front_then, body, body_view}
+use Rattle.wasm_code.proofs.Common.{map, rules, subst, refl, drop, size_prefixed_encoding, stays_short, members, on_ok_both, AppendsMinimal, builders_alone, size_prefixed_appended, front_then, body, body_view}
 use Rattle.wasm_code.proofs.Common.{instruction, table, plain_view, body_appended, runs_encoded, body_encodable, front_sized}
 use Rattle.wasm_code.proofs.body.BodyShorten.write_minimal.Goals as goal
 
@@ -8,7 +8,7 @@ returns-clause-ok g c =
     let old = c.args.sink.now.items in
     let middle = c.write_minimal.new.sink.items in
     let content = c.append_code.new.sink.items in
-    let code = subst (λ xs. AppendsMinimal (members (instruction table)) (map plain_view xs) middle content) c.deref.ensures.value c.in_ok-append_code.ensures.ok in
+    let code = subst (λ xs. AppendsMinimal builders_alone (members (instruction table)) (map plain_view xs) middle content) c.deref.ensures.value c.in_ok-append_code.ensures.ok in
     let inside = body_appended b.runs.items (map plain_view b.code.items) old middle content c.in_ok-write_minimal.ensures.ok code in
     on_ok_both c.prefix_size_since.result _ _ _ c.prefix_size_since.ensures.sized c.prefix_size_since.ensures.was_encodable λ e encodable. size_prefixed_appended body (body_view b) c.len-start.result old content c.prefix_size_since.new.sink.items (search rules) inside encodable e
 
@@ -30,5 +30,5 @@ returns-clause-too_long g c = λ h.
     let old = c.args.sink.now.items in
     let middle = c.write_minimal.new.sink.items in
     let content = c.append_code.new.sink.items in
-    let code = subst (λ xs. AppendsMinimal (members (instruction table)) (map plain_view xs) middle content) c.deref.ensures.value c.in_ok-append_code.ensures.ok in
+    let code = subst (λ xs. AppendsMinimal builders_alone (members (instruction table)) (map plain_view xs) middle content) c.deref.ensures.value c.in_ok-append_code.ensures.ok in
     c.prefix_size_since.ensures.too_long (body_encodable b.runs.items (map plain_view b.code.items) c.len-start.result old middle content (search rules) c.in_ok-write_minimal.ensures.ok code h)

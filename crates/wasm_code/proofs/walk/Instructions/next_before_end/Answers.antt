@@ -5,6 +5,7 @@ use Rattle.wasm_code.proofs.walk.Instructions.next_before_end.Goals as goal
 pub returns-in_default : goal.returns-in_default
 returns-in_default g c = record {
   none = λ e. subst (λ w. Rejects expression (padded_of g.G.Grammar.grammar) (ahead w)) c.self.view_is (end_ended _ (sym (from_offset c.self.inside.bytes.now c.self.inside.offset) ∙ none_left _ (omega (arith, c.in_default.len_below))));
+  no_memory = λ e. cc e;
   stays = refl;
 }
 
@@ -14,6 +15,7 @@ returns-in_err-decoded g c =
       none = λ n.
           subst (λ w. Rejects expression (padded_of g.G.Grammar.grammar) (ahead w)) c.self.view_is
           (end_fails _ _ _ (sym (from_offset c.self.inside.bytes.now c.self.inside.offset) ∙ front_and_rest _ c.in-len1-up.len_at_least) c.if-first-eq-END.false (subst (λ w. Rejects (instruction table) (padded_of g.G.Grammar.grammar) (ahead w)) (sym c.self.view_is) (c.in_err-decoded.ensures.none.none n)));
+      no_memory = c.in_err-decoded.ensures.none.no_memory;
       stays = c.in_err-decoded.ensures.none.stays;
     })
 

@@ -5,6 +5,7 @@ pub returns-in_err-op-clause-none : goal.returns-in_err-op-clause-none
 returns-in_err-op-clause-none g c =
     failure_stays c.from_residual.result _ c.from_residual.ensures.1 (record {
       none = λ n. subst (λ w. Rejects (instruction table) (padded_of g.G.Grammar.grammar) (ahead w)) c.self.view_is (subst (Rejects (instruction table) (padded_of g.G.Grammar.grammar)) (from_offset c.self.inside.bytes.now c.self.inside.offset) (c.in_err-op.ensures.none n));
+      no_memory = c.in_err-op.ensures.no_memory;
       stays = refl;
     })
 

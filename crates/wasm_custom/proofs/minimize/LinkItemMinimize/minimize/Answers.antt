@@ -1,6 +1,6 @@
 use Rattle.wasm_base.proofs.Words.{arith, fault_stays}
 use Rattle.wasm_custom.proofs.LinkLaws.{others_none, link_none, segments_none, inits_none, comdats_none, symbols_none, arch_none}
-use Rattle.wasm_custom.proofs.SharedFormats.{others_minimize, segments_minimize, inits_minimize, comdats_minimize, symbols_minimize, arch_minimizes}
+use Rattle.wasm_custom.proofs.LinkMinimal.{others_minimize, segments_minimize, inits_minimize, comdats_minimize, symbols_minimize, arch_minimizes}
 use Rattle.wasm_custom.proofs.minimize.LinkItemMinimize.minimize.Goals as goal
 
 pub returns-in_err-id-clause-none : goal.returns-in_err-id-clause-none

@@ -1,6 +1,6 @@
 use Rattle.wasm_base.proofs.Words.{fault_stays, mapped_rejects}
 use Rattle.wasm_custom.specs.{segment_of}
-use Rattle.wasm_custom.proofs.SharedFormats.{segment_minimizes}
+use Rattle.wasm_custom.proofs.LinkMinimal.{segment_minimizes}
 use Rattle.wasm_custom.proofs.minimize.SegmentInfoMinimize.minimize.Goals as goal
 
 pub returns-in_err-rest-clause-none : goal.returns-in_err-rest-clause-none

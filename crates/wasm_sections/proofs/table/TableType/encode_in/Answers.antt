@@ -1,4 +1,4 @@
-use Rattle.wasm_base.proofs.Words.{[], ◌∷◌, ◌++◌, ◌∙◌, ap, unsigned_encoding, optional_encoding}
+use Rattle.wasm_base.proofs.Words.{◌∷◌, ◌++◌, ◌∙◌, ap, unsigned_encoding, optional_encoding}
 use Rattle.wasm_base.proofs.MinimizeLaws.{appended_then}
 use Rattle.wasm_base.specs.Types.{ref_encoding_in}
 use Rattle.wasm_sections.specs.{flags_code, table_flags}
