@@ -38,6 +38,7 @@ pub mod Faults
 pub mod FaultWords
 pub mod MinimalEncodings
 pub mod GrammarLaws
-pub mod MinimizeLaws
+pub mod WalkLaws
+pub mod EffectLaws
 pub mod TightTypes
 pub mod SkipLaws

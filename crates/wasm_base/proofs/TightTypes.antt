@@ -1,7 +1,7 @@
 -- This file proves the minimal encodings of value types in both grammars.
 use Rattle.wasm_base.proofs.Std.{◌≡◌, ℕ, List, [], ◌∷◌, ◌++◌, Bool, true, false, refl, inl, inr}
 use Rattle.wasm_base.specs.{Grammar, builders, admitted, standard_minimal, minimal_of, padded_of, abstract_code, heap_encoding, heap_tags, heap_type, ref_type, val_type, unshared, shared, nullable_to, to}
-use Rattle.wasm_base.specs.{IsHeap, IsRef, IsVal, ref_encoding_in, HasNoCode, tight_nullable, tight_bytes, tight_encoding, val_encoding_in, Decodes, Minimizes}
+use Rattle.wasm_base.specs.{IsHeap, IsRef, IsVal, ref_encoding_in, HasNoCode, tight_nullable, tight_bytes, tight_encoding, val_encoding_in}
 use Rattle.wasm_base.specs.declared.types.HeapType.{HeapType}
 use Rattle.wasm_base.specs.declared.types.RefType.{RefType}
 use Rattle.wasm_base.specs.declared.types.ValType.{ValType}
@@ -11,7 +11,7 @@ use Rattle.wasm_base.proofs.EncodingLaws.{tagged_encodes}
 use Rattle.wasm_base.proofs.GrammarLaws.{AreMinimalInBoth, u32_both, s33_both, coded_both, mapped_both, choices_both, one_of_both}
 use Rattle.wasm_base.proofs.DecodePlain.{ref_is, val_type_is}
 use Rattle.wasm_base.proofs.ValTypeLaws.{heap-encodings, ref-encodings, val-encodings}
-use Rattle.wasm_base.proofs.MinimizeLaws.{minimized_as}
+use Rattle.wasm_base.specs.Walks.{EncodesIn}
 
 pub heap_both : AreMinimalInBoth heap_type
 heap_both = one_of_both (mapped_both unshared (coded_both abstract_code)) (one_of_both (choices_both heap_tags (mapped_both shared (coded_both abstract_code), (mapped_both Exact u32_both, tt))) (mapped_both Concrete s33_both))
@@ -37,8 +37,8 @@ pub ref_encodes_in : (w : Grammar) (r : RefType) → IsRef r → ref_type (minim
 ref_encodes_in builders r p = ref-encodings.encodes r p
 ref_encodes_in admitted r p = ref_tight r.nullable r.heap_type p
 
-pub ref_minimized : (w : Grammar) (r : RefType) (bytes rest old new : List ℕ) → Decodes ref_type (padded_of w) bytes r rest → new ≡ old ++ ref_encoding_in w r → Minimizes w ref_type bytes rest old new
-ref_minimized w r bytes rest old new h e = minimized_as w ref_type r bytes rest old new (ref_encoding_in w r) h (ref_encodes_in w r (ref_is (padded_of w) h.front r h.encodes)) e
+pub ref_in : (w : Grammar) → EncodesIn w ref_type (λ r. r) (ref_encoding_in w)
+ref_in w = record { minimal_in = λ s r h. ref_encodes_in w r (ref_is (padded_of w) s r h) }
 
 val_tight : (t : ValType) → IsVal t → val_type standard_minimal (tight_encoding t) t
 val_tight I32 p = inl (tagged_encodes standard_minimal 0x7F [] I32 (refl, refl))
@@ -53,5 +53,5 @@ pub val_encodes_in : (w : Grammar) (t : ValType) → IsVal t → val_type (minim
 val_encodes_in builders t p = val-encodings.encodes t p
 val_encodes_in admitted t p = val_tight t p
 
-pub val_minimized : (w : Grammar) (t : ValType) (bytes rest old new : List ℕ) → Decodes val_type (padded_of w) bytes t rest → new ≡ old ++ val_encoding_in w t → Minimizes w val_type bytes rest old new
-val_minimized w t bytes rest old new h e = minimized_as w val_type t bytes rest old new (val_encoding_in w t) h (val_encodes_in w t (val_type_is (padded_of w) h.front t h.encodes)) e
+pub val_in : (w : Grammar) → EncodesIn w val_type (λ t. t) (val_encoding_in w)
+val_in w = record { minimal_in = λ s t h. val_encodes_in w t (val_type_is (padded_of w) s t h) }

@@ -17,6 +17,7 @@ pub mod Laws
 pub mod Groups
 pub mod Continuing
 pub mod Minimal
+pub mod Walks
 pub mod Faults
 unfoldable pub use Rattle.wasm_base.specs.Numbers.*
 unfoldable pub use Rattle.wasm_base.specs.Formats.*
@@ -35,4 +36,5 @@ unfoldable pub use Rattle.wasm_base.specs.Laws.*
 unfoldable pub use Rattle.wasm_base.specs.Groups.*
 unfoldable pub use Rattle.wasm_base.specs.Continuing.*
 unfoldable pub use Rattle.wasm_base.specs.Minimal.*
+unfoldable pub use Rattle.wasm_base.specs.Walks.*
 unfoldable pub use Rattle.wasm_base.specs.Faults.*

@@ -5,7 +5,7 @@ ghost use Rattle.wasm_base.specs.Formats.{byte, raw_bytes, vector_format};
 use crate::encode::Encode;
 use crate::fault::{DecodeError, ReadFault};
 use crate::grammar::Grammar;
-use crate::minimize::Canonical;
+use crate::walk::Canonical;
 use crate::readable::{Layout, Readable};
 use crate::refused::Result;
 use std::alloc::Allocator;

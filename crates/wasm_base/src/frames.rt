@@ -7,11 +7,12 @@ ghost use Rattle.wasm_base.specs.Formats.{size_prefixed};
 ghost use Rattle.wasm_base.specs.declared.refused.Refused.TheVariants.{TooLong};
 ghost use Rattle.wasm_base.specs.Minimal.{AppendsMinimal, IsFrontOf, HasEncoding};
 
+use crate::effect::Effect;
 use crate::encode::Encode;
 use crate::fault::DecodeError;
 use crate::grammar::Grammar;
 use crate::leb128::encoding_size;
-use crate::minimize::{Minimize, minimize_whole};
+use crate::walk::{Walk, walk_whole};
 use crate::readable::{Layout, Readable};
 use crate::refused::{Refused, Result};
 use crate::shorten::Shorten;
@@ -99,6 +100,23 @@ pub fn encode_section<A: Allocator>(sink: &mut Vec<u8, A>, count: u32, bytes: &[
     Ok(())
 }
 
+/// Bytes that are encoded with their size prefix.
+#[derive(Clone, Copy, Debug)]
+pub struct SizedBytes<'a>(pub &'a [u8]);
+
+impl Encode for SizedBytes<'_> {
+    ghost encoding = { λ b. size_prefixed_encoding b.0.now };
+
+    ghost encodable = { λ b. HasEncodableSize b.0.now };
+
+    ghost overlong = { λ b. longest < length b.0.now };
+
+    #[inline(always)]
+    fn encode<A: Allocator>(&self, sink: &mut Vec<u8, A>) -> Result<()> {
+        encode_size_prefixed(sink, self.0)
+    }
+}
+
 /// A size-prefixed value that occupies its payload to the last byte. Its own format determines its
 /// end too.
 #[derive(Debug, Drop)]
@@ -170,21 +188,22 @@ impl<T: Shorten> Shorten for SizePrefixed<T> {
     }
 }
 
-/// Minimizes the payload, and then inserts its size.
-impl<G: Grammar, T: Minimize<G>> Minimize<G> for SizePrefixed<T> {
-    #[tactic(auto, using(crate::proofs::MinimizeLaws::sized_minimizes, crate::proofs::DecodeSizePrefixed::filled_steps, crate::proofs::MinimalEncodings::front_steps))]
-    fn minimize<'a, A: Allocator + Copy, B: Allocator>(
+/// Walks over the payload, and then inserts its size.
+impl<G: Grammar, T: Walk<G>> Walk<G> for SizePrefixed<T> {
+    #[tactic(auto, using(crate::proofs::WalkLaws::sized_steps, crate::proofs::DecodeSizePrefixed::filled_steps))]
+    fn walk<'a, A: Allocator + Copy, E: Effect>(
         bytes: &'a [u8],
         alloc: A,
-        sink: &mut Vec<u8, B>,
+        effect: &mut E,
     ) -> Result<&'a [u8], DecodeError> {
         let (content, rest) = <&'a [u8] as Readable<'a, A, G>>::read(bytes, alloc)?;
-        let start = sink.len();
-        match minimize_whole::<T, A, G, _>(content, alloc, sink) {
+        T::laws();
+        let start = effect.position();
+        match walk_whole::<T, A, G, _>(content, alloc, effect) {
             Ok(()) => {}
             Err(error) => return Err(error.before(rest)),
         }
-        prefix_size_since(sink, start)?;
+        effect.prefix_size(start)?;
         Ok(rest)
     }
 }

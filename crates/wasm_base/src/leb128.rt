@@ -13,7 +13,8 @@ ghost use Rattle.wasm_base.specs.Formats.{u32 as u32_format, u64 as u64_format, 
 use crate::encode::Encode;
 use crate::fault::{DecodeError, ReadFault};
 use crate::grammar::Grammar;
-use crate::minimize::{Canonical, Minimize, minimize_value};
+use crate::effect::Effect;
+use crate::walk::{Canonical, Walk, walk_value};
 use crate::readable::{Layout, Readable};
 use crate::refused::{Refused, Result};
 use crate::shorten::Shorten;
@@ -596,14 +597,14 @@ impl Canonical for u32 {
     fn canonical() {}
 }
 
-impl<G: Grammar> Minimize<G> for u32 {
+impl<G: Grammar> Walk<G> for u32 {
     #[inline]
-    fn minimize<'a, A: Allocator + Copy, B: Allocator>(
+    fn walk<'a, A: Allocator + Copy, E: Effect>(
         bytes: &'a [u8],
         alloc: A,
-        sink: &mut Vec<u8, B>,
+        effect: &mut E,
     ) -> Result<&'a [u8], DecodeError> {
-        minimize_value::<u32, A, G, _>(bytes, alloc, sink)
+        walk_value::<u32, A, G, _>(bytes, alloc, effect)
     }
 }
 
@@ -612,14 +613,14 @@ impl Canonical for i32 {
     fn canonical() {}
 }
 
-impl<G: Grammar> Minimize<G> for i32 {
+impl<G: Grammar> Walk<G> for i32 {
     #[inline]
-    fn minimize<'a, A: Allocator + Copy, B: Allocator>(
+    fn walk<'a, A: Allocator + Copy, E: Effect>(
         bytes: &'a [u8],
         alloc: A,
-        sink: &mut Vec<u8, B>,
+        effect: &mut E,
     ) -> Result<&'a [u8], DecodeError> {
-        minimize_value::<i32, A, G, _>(bytes, alloc, sink)
+        walk_value::<i32, A, G, _>(bytes, alloc, effect)
     }
 }
 
@@ -628,13 +629,13 @@ impl Canonical for i64 {
     fn canonical() {}
 }
 
-impl<G: Grammar> Minimize<G> for i64 {
+impl<G: Grammar> Walk<G> for i64 {
     #[inline]
-    fn minimize<'a, A: Allocator + Copy, B: Allocator>(
+    fn walk<'a, A: Allocator + Copy, E: Effect>(
         bytes: &'a [u8],
         alloc: A,
-        sink: &mut Vec<u8, B>,
+        effect: &mut E,
     ) -> Result<&'a [u8], DecodeError> {
-        minimize_value::<i64, A, G, _>(bytes, alloc, sink)
+        walk_value::<i64, A, G, _>(bytes, alloc, effect)
     }
 }

@@ -8,6 +8,7 @@
 
 mod counted;
 mod cow;
+mod effect;
 mod encode;
 mod fault;
 mod fixed;
@@ -16,7 +17,6 @@ mod grammar;
 mod kind;
 pub mod laws;
 mod leb128;
-mod minimize;
 mod modules;
 mod names;
 mod once;
@@ -31,22 +31,20 @@ mod skip;
 mod tuples;
 mod types;
 mod vectors;
+mod walk;
 mod whole;
 
 pub use counted::{Counted, add_all};
 pub use cow::{CowSlice, CowStr};
+pub use effect::{Discard, Effect, EncodeIn};
 pub use encode::Encode;
 pub use fault::{DecodeError, ReadFault};
 pub use frames::{
-    SizePrefixed, begin_size_prefixed, encode_section, encode_size_prefixed, prefix_size_since,
+    SizePrefixed, SizedBytes, begin_size_prefixed, encode_section, encode_size_prefixed, prefix_size_since,
 };
 pub use grammar::{Grammar, Padded, Standard};
 pub use kind::Kind;
 pub use leb128::{Groups, encoding_size, read_groups, read_index};
-pub use minimize::{
-    Canonical, Minimize, Shared, minimize_many, minimize_shared, minimize_to_end, minimize_value,
-    minimize_whole,
-};
 pub use modules::Module;
 pub use once::{BytesOf, EncodeOnce, VecOf, bytes_of, vec_of};
 pub use parts::{Lent, Optional, read_optional};
@@ -62,4 +60,8 @@ pub use shorten::Shorten;
 pub use skip::{Dropped, Skip, check_to_end, check_whole, skip_many};
 pub use types::{AbstractHeapType, HeapType, RefType, ValType, read_val_after};
 pub use vectors::{append_all, encode_vec};
+pub use walk::{
+    Canonical, Shared, Walk, skip_value, skip_vector, walk_in, walk_many, walk_shared, walk_to_end,
+    walk_value, walk_whole,
+};
 pub use whole::{read_before, read_to_end, read_whole};

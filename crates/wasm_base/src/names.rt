@@ -1,7 +1,8 @@
 // Names, and size-prefixed bytes. Decoded ones are slices of the input.
-ghost use Rattle.std.specs.Prelude.{◌≢◌, ◌<◌, ℕ, List, length, IfOk, IfErr};
+ghost use Rattle.std.specs.Prelude.{◌≡◌, ◌≢◌, ◌<◌, ℕ, List, length, IfOk, IfErr};
 ghost use Rattle.wasm_base.specs.Numbers.{padded_of};
-ghost use Rattle.wasm_base.specs.Minimal.{Minimizes, IsFrontOf, both_grammars};
+ghost use Rattle.wasm_base.specs.Minimal.{IsFrontOf, both_grammars};
+ghost use Rattle.wasm_base.specs.Walks.{Keeps, Walks};
 ghost use Rattle.wasm_base.specs.declared.fault.ReadFault.TheVariants.{Memory};
 ghost use Rattle.wasm_base.specs.Encodings.{longest, size_prefixed_encoding, HasEncodableSize};
 ghost use Rattle.wasm_base.specs.Formats.{size_prefixed, any_bytes, name};
@@ -9,9 +10,10 @@ ghost use Rattle.wasm_base.specs.Decoding.{Rejects, Unambiguous};
 
 use crate::encode::Encode;
 use crate::fault::{DecodeError, ReadFault};
-use crate::frames::encode_size_prefixed;
+use crate::effect::Effect;
+use crate::frames::{SizedBytes, encode_size_prefixed};
 use crate::grammar::Grammar;
-use crate::minimize::Minimize;
+use crate::walk::Walk;
 use crate::readable::{Layout, Readable};
 use crate::refused::Result;
 use crate::shorten::Shorten;
@@ -103,36 +105,40 @@ impl Shorten for &str {
     }
 }
 
-impl<'s, G: Grammar> Minimize<G> for &'s str {
-    #[tactic(auto, using(crate::proofs::MinimizeLaws::name_minimizes, crate::proofs::MinimalEncodings::front_steps))]
-    fn minimize<'a, A: Allocator + Copy, B: Allocator>(
+impl<'s, G: Grammar> Walk<G> for &'s str {
+    #[tactic(auto, using(crate::proofs::WalkLaws::name_walks, crate::proofs::WalkLaws::keep_steps))]
+    #[inline]
+    fn walk<'a, A: Allocator + Copy, E: Effect>(
         bytes: &'a [u8],
         alloc: A,
-        sink: &mut Vec<u8, B>,
+        effect: &mut E,
     ) -> Result<&'a [u8], DecodeError>
-        ensures found { IfOk result (λ rest. Minimizes G.grammar name bytes.now rest.now sink.old.items sink.new.items) }
+        ensures found { IfOk result (λ rest. Walks E.seen G.grammar name bytes.now rest.now effect.old effect.new) }
         ensures none { IfErr result (λ e. e.cause ≢ Memory → Rejects name (padded_of G.grammar) bytes.now) }
-        ensures front { IsFrontOf sink.old.items sink.new.items }
+        ensures no_memory { IfErr result (λ e. e.cause ≡ Memory → E.may_fail) }
+        ensures front { Keeps E.seen effect.old effect.new }
     {
         let (name, rest) = <&'a str as Readable<'a, A, G>>::read(bytes, alloc)?;
-        name.encode(sink)?;
+        effect.put(&name)?;
         Ok(rest)
     }
 }
 
-impl<'s, G: Grammar> Minimize<G> for &'s [u8] {
-    #[tactic(auto, using(crate::proofs::MinimizeLaws::bytes_minimizes, crate::proofs::MinimalEncodings::front_steps))]
-    fn minimize<'a, A: Allocator + Copy, B: Allocator>(
+impl<'s, G: Grammar> Walk<G> for &'s [u8] {
+    #[tactic(auto, using(crate::proofs::WalkLaws::bytes_walks, crate::proofs::WalkLaws::keep_steps))]
+    #[inline]
+    fn walk<'a, A: Allocator + Copy, E: Effect>(
         bytes: &'a [u8],
         alloc: A,
-        sink: &mut Vec<u8, B>,
+        effect: &mut E,
     ) -> Result<&'a [u8], DecodeError>
-        ensures found { IfOk result (λ rest. Minimizes G.grammar (size_prefixed any_bytes) bytes.now rest.now sink.old.items sink.new.items) }
+        ensures found { IfOk result (λ rest. Walks E.seen G.grammar (size_prefixed any_bytes) bytes.now rest.now effect.old effect.new) }
         ensures none { IfErr result (λ e. e.cause ≢ Memory → Rejects (size_prefixed any_bytes) (padded_of G.grammar) bytes.now) }
-        ensures front { IsFrontOf sink.old.items sink.new.items }
+        ensures no_memory { IfErr result (λ e. e.cause ≡ Memory → E.may_fail) }
+        ensures front { Keeps E.seen effect.old effect.new }
     {
         let (content, rest) = <&'a [u8] as Readable<'a, A, G>>::read(bytes, alloc)?;
-        encode_size_prefixed(sink, content)?;
+        effect.put(&SizedBytes(content))?;
         Ok(rest)
     }
 }

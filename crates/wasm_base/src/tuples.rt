@@ -4,10 +4,11 @@ ghost use Rattle.wasm_base.specs.Calls.{Appends};
 ghost use Rattle.wasm_base.specs.Formats.{pair};
 ghost use Rattle.wasm_base.specs.Minimal.{common_grammars};
 
+use crate::effect::Effect;
 use crate::encode::Encode;
 use crate::fault::DecodeError;
 use crate::grammar::Grammar;
-use crate::minimize::Minimize;
+use crate::walk::Walk;
 use crate::readable::{Layout, Readable};
 use crate::refused::Result;
 use crate::shorten::Shorten;
@@ -117,16 +118,17 @@ impl<T: Shorten, U: Shorten> Shorten for (T, U) {
     }
 }
 
-impl<G: Grammar, T: Minimize<G>, U: Minimize<G>> Minimize<G> for (T, U) {
-    #[tactic(auto, using(crate::proofs::MinimalEncodings::front_steps, crate::proofs::DecodingSteps::steps))]
-    fn minimize<'a, A: Allocator + Copy, B: Allocator>(
+impl<G: Grammar, T: Walk<G>, U: Walk<G>> Walk<G> for (T, U) {
+    #[tactic(auto, using(crate::proofs::WalkLaws::keep_steps, crate::proofs::DecodingSteps::steps))]
+    #[inline]
+    fn walk<'a, A: Allocator + Copy, E: Effect>(
         bytes: &'a [u8],
         alloc: A,
-        sink: &mut Vec<u8, B>,
+        effect: &mut E,
     ) -> Result<&'a [u8], DecodeError> {
-        let after = T::minimize(bytes, alloc, sink)?;
+        let after = T::walk(bytes, alloc, effect)?;
         T::laws();
-        let rest = U::minimize(after, alloc, sink)?;
+        let rest = U::walk(after, alloc, effect)?;
         Ok(rest)
     }
 }

@@ -12,11 +12,12 @@ ghost use Rattle.wasm_base.specs.declared.types.RefType.{RefType as Ref};
 ghost use Rattle.wasm_base.specs.declared.types.ValType.{ValType as Val};
 ghost use Rattle.wasm_base.specs.declared.fault.ReadFault.TheVariants.{Memory};
 
+use crate::effect::{Effect, EncodeIn};
 use crate::encode::Encode;
 use crate::fault::{DecodeError, ReadFault};
 use crate::grammar::Grammar;
 use crate::leb128::read_index;
-use crate::minimize::Minimize;
+use crate::walk::{Walk, walk_in};
 use crate::readable::{Layout, Readable};
 use crate::refused::Result;
 use crate::shorten::Shorten;
@@ -191,42 +192,38 @@ impl RefType {
             _ => self.encode_heap_type(sink),
         }
     }
+}
 
-    /// Appends the minimal encoding in the grammar `G`. In the standard's, a nullable reference to
-    /// an abstract type has one byte.
-    ///
-    /// # Errors
-    ///
-    /// Returns [`Refused::Memory`](crate::Refused), and leaves the bytes of the sink unchanged, if
-    /// an allocation fails.
-    pub fn encode_in<G: Grammar, A: Allocator>(self, sink: &mut Vec<u8, A>) -> Result<()>
-        ensures { Appends (ref_encoding_in G.grammar self) ⊤ sink.old sink.new result }
-    {
+/// In the standard's grammar, a nullable reference to an abstract type has one byte.
+impl<G: Grammar> EncodeIn<G> for RefType {
+    ghost encoding_in = { ref_encoding_in G.grammar };
+
+    fn encode_in<A: Allocator>(&self, sink: &mut Vec<u8, A>) -> Result<()> {
         if G::is_standard() {
             self.encode_tight(sink)
         } else {
             self.encode(sink)
         }
     }
+
+    #[tactic(auto, using(crate::proofs::TightTypes::ref_in))]
+    fn minimal_in() {}
 }
 
-impl ValType {
-    /// Appends the minimal encoding in the grammar `G`. In the standard's, a nullable reference to
-    /// an abstract type has one byte.
-    ///
-    /// # Errors
-    ///
-    /// Returns [`Refused::Memory`](crate::Refused), and leaves the bytes of the sink unchanged, if
-    /// an allocation fails.
+/// In the standard's grammar, a nullable reference to an abstract type has one byte.
+impl<G: Grammar> EncodeIn<G> for ValType {
+    ghost encoding_in = { val_encoding_in G.grammar };
+
     #[inline]
-    pub fn encode_in<G: Grammar, A: Allocator>(self, sink: &mut Vec<u8, A>) -> Result<()>
-        ensures { Appends (val_encoding_in G.grammar self) ⊤ sink.old sink.new result }
-    {
-        match self {
+    fn encode_in<A: Allocator>(&self, sink: &mut Vec<u8, A>) -> Result<()> {
+        match *self {
             ValType::Ref(ty) if G::is_standard() => ty.encode_tight(sink),
             _ => self.encode(sink),
         }
     }
+
+    #[tactic(auto, using(crate::proofs::TightTypes::val_in))]
+    fn minimal_in() {}
 }
 
 /// Encodes a number or vector type as one byte, and a reference as its reference type.
@@ -445,16 +442,14 @@ impl<'a, A: Allocator + Copy, G: Grammar> Readable<'a, A, G> for RefType {
     }
 }
 
-impl<G: Grammar> Minimize<G> for RefType {
-    #[tactic(auto, using(crate::proofs::MinimalEncodings::front_steps))]
-    fn minimize<'a, A: Allocator + Copy, B: Allocator>(
+impl<G: Grammar> Walk<G> for RefType {
+    #[inline]
+    fn walk<'a, A: Allocator + Copy, E: Effect>(
         bytes: &'a [u8],
         alloc: A,
-        sink: &mut Vec<u8, B>,
+        effect: &mut E,
     ) -> Result<&'a [u8], DecodeError> {
-        let (ty, rest) = <RefType as Readable<'a, A, G>>::read(bytes, alloc)?;
-        ty.encode_in::<G, _>(sink)?;
-        Ok(rest)
+        walk_in::<RefType, A, G, _>(bytes, alloc, effect)
     }
 }
 
@@ -516,15 +511,13 @@ impl Shorten for ValType {
     }
 }
 
-impl<G: Grammar> Minimize<G> for ValType {
-    #[tactic(auto, using(crate::proofs::MinimalEncodings::front_steps))]
-    fn minimize<'a, A: Allocator + Copy, B: Allocator>(
+impl<G: Grammar> Walk<G> for ValType {
+    #[inline]
+    fn walk<'a, A: Allocator + Copy, E: Effect>(
         bytes: &'a [u8],
         alloc: A,
-        sink: &mut Vec<u8, B>,
+        effect: &mut E,
     ) -> Result<&'a [u8], DecodeError> {
-        let (ty, rest) = <ValType as Readable<'a, A, G>>::read(bytes, alloc)?;
-        ty.encode_in::<G, _>(sink)?;
-        Ok(rest)
+        walk_in::<ValType, A, G, _>(bytes, alloc, effect)
     }
 }

@@ -6,10 +6,11 @@ ghost use Rattle.wasm_base.specs.Formats.{members, vec};
 ghost use Rattle.wasm_base.specs.declared.refused.Refused.TheVariants.{TooLong};
 ghost use Rattle.wasm_base.specs.Minimal.{AppendsMinimal, IsFrontOf, HasEncoding};
 
+use crate::effect::Effect;
 use crate::encode::Encode;
 use crate::fault::DecodeError;
 use crate::grammar::Grammar;
-use crate::minimize::{Minimize, minimize_many};
+use crate::walk::{Walk, walk_many};
 use crate::once::{EncodeOnce, vec_of};
 use crate::readable::{Layout, Readable};
 use crate::refused::Result;
@@ -129,14 +130,16 @@ impl<T: Shorten, A: Allocator> Shorten for Vec<T, A> {
     }
 }
 
-/// Minimizes the members one by one, and keeps none.
-impl<G: Grammar, T: Minimize<G>, C: Allocator> Minimize<G> for Vec<T, C> {
-    fn minimize<'a, A: Allocator + Copy, B: Allocator>(
+/// Walks over the members one by one, and keeps none.
+impl<G: Grammar, T: Walk<G>, C: Allocator> Walk<G> for Vec<T, C> {
+    #[tactic(auto, using(crate::proofs::WalkLaws::many_walks))]
+    fn walk<'a, A: Allocator + Copy, E: Effect>(
         bytes: &'a [u8],
         alloc: A,
-        sink: &mut Vec<u8, B>,
+        effect: &mut E,
     ) -> Result<&'a [u8], DecodeError> {
-        minimize_many::<T, A, G, _>(bytes, alloc, sink)
+        let (_count, rest) = walk_many::<T, A, G, _>(bytes, alloc, effect)?;
+        Ok(rest)
     }
 }
 

@@ -1,5 +1,0 @@
-use Rattle.wasm_base.proofs.TightTypes.{val_minimized}
-use Rattle.wasm_base.proofs.types.ValTypeMinimize.minimize.Goals as goal
-
-pub returns-clause-found : goal.returns-clause-found
-returns-clause-found g c = val_minimized g.G.Grammar.grammar c.in_ok-ty.ty c.args.bytes.now c.in_ok-ty.rest.now c.args.sink.now.items c.encode_in.new.sink.items c.in_ok-ty.ensures.found c.in_ok-encode_in.ensures.ok
