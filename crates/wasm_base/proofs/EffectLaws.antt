@@ -1,8 +1,10 @@
 -- This file proves that dropping bytes is an effect, and what a walk with each effect gives.
-use Rattle.wasm_base.proofs.Std.{◌≡◌, Result, Ok, Err, IfErr, OnOk, ℕ, List, length, refl}
+use Rattle.wasm_base.proofs.Std.{◌≡◌, Result, Ok, Err, IfErr, OnOk, ℕ, List, ◌++◌, length, drop, take, drop_at, take_at, refl, sym, ap, ap₂, subst, ◌∙◌}
 use Rattle.std.proofs.Common.{IfOk}
 use Rattle.wasm_base.proofs.Std.{Vec}
-use Rattle.wasm_base.specs.{Grammar, Grammars, padded_of, Format, vec, Decodes, Unambiguous, IsFrontOf, MinimizesWhole}
+use Rattle.wasm_base.specs.{Grammar, Grammars, Includes, minimal_of, padded_of, Format, vec, size_prefixed, any_bytes, size_prefixed_encoding, HasEncodableSize, Decodes, Unambiguous, AppendsMinimal, IsFrontOf, Minimizes, MinimizesWhole}
+use Rattle.wasm_base.proofs.DecodeSizePrefixed.{filled_decodes}
+use Rattle.wasm_base.proofs.EncodingLaws.{size_prefixed_in}
 use Rattle.wasm_base.specs.Walks.{Keeps, TakesMinimal, Walks, WalksMany, WalksWhole}
 
 -- ---- bytes that are dropped
@@ -32,3 +34,25 @@ front_kept old new k = k.after old.items refl
 pub minimized_whole : {A X T R : Type 0} (w : Grammar) (F : Format X) (bytes : List ℕ) (old new : Vec ℕ A) (r : Result T R) → OnOk r (WalksWhole (λ e l. e.items ≡ l) w F bytes old new) → OnOk r (MinimizesWhole w F bytes old.items new.items)
 minimized_whole w F bytes old new (Ok t) h = record { value = h.value; decoded = h.decoded; encoding = h.encoding; encodes = h.encodes; appended = h.taken.after old.items refl }
 minimized_whole w F bytes old new (Err e) h = tt
+
+-- ---- bytes that are minimized by a call
+
+-- The minimal encoding of a decoded value is appended.
+pub decoded_whole_minimizes : {k : Grammars} {X : Type 0} (w : Grammar) (F : Format X) (x : X) (bytes old new : List ℕ) → Includes k w → F (padded_of w) bytes x → AppendsMinimal k F x old new → MinimizesWhole w F bytes old new
+decoded_whole_minimizes w F x bytes old new q h a = record { value = x; decoded = h; encoding = a.encoding; encodes = a.encodes w q bytes h; appended = a.appended }
+
+-- The payload of a size prefix is minimized, and its new size is inserted before it.
+pub sized_minimizes : {X : Type 0} (w : Grammar) (F : Format X) (bytes content rest old middle new : List ℕ) (start : ℕ) → Decodes (size_prefixed any_bytes) (padded_of w) bytes content rest → MinimizesWhole w F content old middle → start ≡ length old → HasEncodableSize (drop start middle)
+    → new ≡ take start middle ++ size_prefixed_encoding (drop start middle) → Minimizes w (size_prefixed F) bytes rest old new
+sized_minimizes w F bytes content rest old middle new start h m e encodable is =
+    let behind : drop start middle ≡ m.encoding = ap (drop start) m.appended ∙ drop_at old m.encoding start (sym e) in
+    let before : take start middle ≡ old = ap (take start) m.appended ∙ take_at old m.encoding start (sym e) in
+    record {
+      value = m.value;
+      decoded = filled_decodes F bytes content rest m.value h m.decoded;
+      encoding = size_prefixed_encoding m.encoding;
+      encodes = size_prefixed_in (minimal_of w) F m.encoding m.value (subst HasEncodableSize behind encodable) m.encodes;
+      appended = is ∙ ap₂ (λ y z. y ++ size_prefixed_encoding z) before behind;
+    }
+
+pub ruleset appending = (front_kept, minimized_whole)

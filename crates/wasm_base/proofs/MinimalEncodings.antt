@@ -29,6 +29,10 @@ front_appended F x old new a = (a.encoding, a.appended)
 
 pub ruleset front_steps = (front_more, front_same, front_then, front_encoded, front_appended)
 
+-- One encoding is appended after the other.
+pub appended_then : (a b old middle new : List ℕ) → middle ≡ old ++ a → new ≡ middle ++ b → new ≡ old ++ (a ++ b)
+appended_then a b old middle new e f = f ∙ ap (λ z. z ++ b) e ∙ append_assoc old a b
+
 -- Truncation to the old length removes all that a call has appended.
 pub cut_off : (old new : List ℕ) → IsFrontOf old new → take (length old) new ≡ old
 cut_off old new h = ap (take (length old)) h.1 ∙ take_at old h.0 (length old) refl

@@ -40,7 +40,7 @@ pub ruleset keep_steps = (keep_same, keep_then, keep_taken)
 
 module _ {E X : Type 0} (seen : E → List ℕ → Type 0) (w : Grammar) (F : Format X) where
   -- The effect takes a minimal encoding of the decoded value.
-  pub walked_as : (x : X) (bytes rest encoding : List ℕ) (old new : E) → Decodes F (padded_of w) bytes x rest → F (minimal_of w) encoding x → Takes seen encoding old new → Walks seen w F bytes rest old new
+  abbrev pub walked_as : (x : X) (bytes rest encoding : List ℕ) (old new : E) → Decodes F (padded_of w) bytes x rest → F (minimal_of w) encoding x → Takes seen encoding old new → Walks seen w F bytes rest old new
   walked_as x bytes rest encoding old new h e t = record { value = x; decoded = h; encoding = encoding; encodes = e; taken = t }
 
   pub value_walks : {T : Type 0} (view : T → X) (encoding : T → List ℕ) (x : T) (bytes rest : List ℕ) (old new : E) → EncodesMinimally F view encoding → Decodes F (padded_of w) bytes (view x) rest → Takes seen (encoding x) old new → Walks seen w F bytes rest old new
@@ -168,12 +168,12 @@ content_fits w F bytes content rest encoding x k h f e =
 
 module _ {E : Type 0} (seen : E → List ℕ → Type 0) (mark : ℕ → List ℕ → Type 0) (n : ℕ) (old middle new : E) where
   -- The payload of a size prefix is walked, and then framed.
-  pub sized_walks : {X : Type 0} (w : Grammar) (F : Format X) (bytes content rest : List ℕ) → Unambiguous F → Decodes (size_prefixed any_bytes) (padded_of w) bytes content rest → Marks seen mark old n → WalksWhole seen w F content old middle → Replaces seen mark size_prefixed_encoding n middle new → Walks seen w (size_prefixed F) bytes rest old new
-  sized_walks w F bytes content rest unique h at m f = record {
+  pub sized_walks : {X : Type 0} (w : Grammar) (F : Format X) (bytes content rest : List ℕ) → HasEncodings F → Decodes (size_prefixed any_bytes) (padded_of w) bytes content rest → Marks seen mark old n → WalksWhole seen w F content old middle → Replaces seen mark size_prefixed_encoding n middle new → Walks seen w (size_prefixed F) bytes rest old new
+  sized_walks w F bytes content rest k h at m f = record {
     value = m.value;
     decoded = filled_decodes F bytes content rest m.value h m.decoded;
     encoding = size_prefixed_encoding m.encoding;
-    encodes = size_prefixed_in (minimal_of w) F m.encoding m.value (content_fits w F bytes content rest m.encoding m.value unique.encodings h m.decoded m.encodes) m.encodes;
+    encodes = size_prefixed_in (minimal_of w) F m.encoding m.value (content_fits w F bytes content rest m.encoding m.value k h m.decoded m.encodes) m.encodes;
     taken = record { after = λ l s. f.after l m.encoding (at.at l s) (m.taken.after l s) };
   }
 

@@ -66,7 +66,7 @@ pub use Rattle.wasm_base.proofs.EncodingLaws.{decodes_uniquely, decodes_uniquely
 pub use Rattle.wasm_base.proofs.EncodingLaws.{s33_encodes, s64_encodes, section_unique, section_unique_padded, size_prefixed_encodes, size_prefixed_in, tagged_encodes, u32_encodes, u32_in}
 pub use Rattle.wasm_base.proofs.EncodingLaws.{u64_encodes, vec_encodes, vec_of_pieces}
 pub use Rattle.wasm_base.proofs.EntryLaws.{content_encodable, counted_decodes, entries_encodes, pieces_encodes}
-pub use Rattle.wasm_base.proofs.Faults.{fault_stays, if_err_more, if_ok_more, memory_stays}
+pub use Rattle.wasm_base.proofs.Faults.{fault_stays, if_err_more, if_ok_more, memory_implies, memory_stays}
 pub use Rattle.wasm_base.proofs.FormatLaws.{AllChoices, AllValues, BeginNeverAlike, DeterminesTag, IsInjective, Then_unambiguous, any_bytes_whole, begin_apart, begins_coded, begins_fixed}
 pub use Rattle.wasm_base.proofs.FormatLaws.{begins_mapped, begins_one_of, begins_weaker, by_mode_unambiguous, begins_such, begins_then, byte_unambiguous, choice_begins, choice_determines, choice_of}
 pub use Rattle.wasm_base.proofs.FormatLaws.{choice_tags, choice_unambiguous, coded_unambiguous, either_unambiguous, ended_unambiguous, fixed_unambiguous, impossible_unambiguous}

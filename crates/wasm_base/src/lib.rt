@@ -61,7 +61,7 @@ pub use skip::{Dropped, Skip, check_to_end, check_whole, skip_many};
 pub use types::{AbstractHeapType, HeapType, RefType, ValType, read_val_after};
 pub use vectors::{append_all, encode_vec};
 pub use walk::{
-    Canonical, Shared, Walk, skip_value, skip_vector, walk_in, walk_many, walk_shared, walk_to_end,
+    Canonical, Shared, Walk, minimize_whole, skip_value, skip_vector, walk_in, walk_many, walk_shared, walk_to_end,
     walk_value, walk_whole,
 };
 pub use whole::{read_before, read_to_end, read_whole};

@@ -3,7 +3,7 @@ ghost use Rattle.std.specs.Prelude.{◌≡◌, ◌≢◌, List, length, IfOk, If
 ghost use Rattle.wasm_base.specs.Continuing.{RejectsWhole};
 ghost use Rattle.wasm_base.specs.Decoding.{BeginsWith, Decodes, Rejects};
 ghost use Rattle.wasm_base.specs.Formats.{members, vec};
-ghost use Rattle.wasm_base.specs.Minimal.{both_grammars, EncodesMinimally};
+ghost use Rattle.wasm_base.specs.Minimal.{both_grammars, EncodesMinimally, IsFrontOf, MinimizesWhole};
 ghost use Rattle.wasm_base.specs.Numbers.{padded_of};
 ghost use Rattle.wasm_base.specs.Walks.{Keeps, Walks, WalksMany, WalksWhole};
 ghost use Rattle.wasm_base.specs.declared.fault.ReadFault.TheVariants.{Memory};
@@ -232,4 +232,23 @@ pub fn skip_vector<'a, T: Walk<G>, A: Allocator + Copy, G: Grammar>(
     ensures no_memory { IfErr result (λ e. e.cause ≢ Memory) }
 {
     walk_many::<T, A, G, _>(bytes, alloc, &mut Discard)
+}
+
+/// Appends the minimal encoding of a value that occupies all of the bytes.
+///
+/// # Errors
+///
+/// Any error but `Memory` means that the bytes as a whole encode no such value. After an error,
+/// part of the encoding may follow the old bytes of the sink.
+#[tactic(auto, using(crate::proofs::EffectLaws::appending))]
+pub fn minimize_whole<'a, T: Walk<G>, A: Allocator + Copy, G: Grammar, B: Allocator>(
+    bytes: &'a [u8],
+    alloc: A,
+    sink: &mut Vec<u8, B>,
+) -> Result<(), DecodeError>
+    ensures found { OnOk result (MinimizesWhole G.grammar T.format bytes.now sink.old.items sink.new.items) }
+    ensures none { IfErr result (λ e. e.cause ≢ Memory → RejectsWhole T.format (padded_of G.grammar) bytes.now) }
+    ensures front { IsFrontOf sink.old.items sink.new.items }
+{
+    walk_whole::<T, A, G, _>(bytes, alloc, sink)
 }

@@ -12,7 +12,7 @@ pub mod RejectionLaws
 pub mod Drained
 pub mod SameTypes
 pub mod DecodeLists
-pub mod MinimizeBodies
+pub mod WalkBodies
 pub mod MinimalLists
 pub mod OffsetSteps
 pub mod WalkCalls

@@ -7,15 +7,16 @@ ghost use Rattle.wasm_insn.specs.Plain.{instruction, Plain as PlainInstruction};
 ghost use Rattle.wasm_insn.specs.Table.{table};
 ghost use Rattle.wasm_code.specs.Bodies.{Body as BodyModel, body};
 ghost use Rattle.wasm_base.specs.declared.refused.Refused.TheVariants.{TooLong};
-ghost use Rattle.wasm_base.specs.Minimal.{AppendsMinimal, IsFrontOf, HasEncoding, MinimizesWhole, builders_alone};
+ghost use Rattle.wasm_base.specs.Minimal.{AppendsMinimal, IsFrontOf, HasEncoding, builders_alone};
+ghost use Rattle.wasm_base.specs.Walks.{Keeps, WalksWhole};
 ghost use Rattle.wasm_base.specs.declared.fault.ReadFault.TheVariants.{Memory};
 ghost use Rattle.wasm_insn.specs.Views.{plain_view};
 ghost use Rattle.wasm_code.specs.BodyViews.{body_view};
 
 use std::alloc::{Allocator, Global};
 use wasm_base::{
-    DecodeError, Dropped, Grammar, Layout, Minimize, Padded, Readable, Result, Shorten, Skip,
-    ValType, minimize_many, minimize_to_end, prefix_size_since, skip_many,
+    DecodeError, Effect, Grammar, Layout, Padded, Readable, Result, Shorten, ValType, Walk,
+    prefix_size_since, walk_to_end,
 };
 use wasm_insn::Plain;
 
@@ -124,24 +125,25 @@ impl<A: Allocator> Shorten for Body<A> {
     }
 }
 
-/// Minimizes the content of a body, without its size prefix.
-#[tactic(auto, using(wasm_base::proofs::MinimalEncodings::front_steps))]
-fn minimize_content<'a, A: Allocator + Copy, G: Grammar, B: Allocator>(
+/// Walks over the content of a body, without its size prefix.
+#[tactic(auto, using(wasm_base::proofs::WalkLaws::keep_steps))]
+fn walk_content<'a, A: Allocator + Copy, G: Grammar, E: Effect>(
     bytes: &'a [u8],
     alloc: A,
-    sink: &mut Vec<u8, B>,
+    effect: &mut E,
 ) -> Result<(), DecodeError>
-    ensures found { OnOk result (MinimizesWhole G.grammar body bytes.now sink.old.items sink.new.items) }
+    ensures found { OnOk result (WalksWhole E.seen G.grammar body bytes.now effect.old effect.new) }
     ensures none { IfErr result (λ e. e.cause ≢ Memory → RejectsWhole body (padded_of G.grammar) bytes.now) }
-    ensures front { IsFrontOf sink.old.items sink.new.items }
+    ensures no_memory { IfErr result (λ e. e.cause ≡ Memory → E.may_fail) }
+    ensures front { Keeps E.seen effect.old effect.new }
 {
-    let rest = minimize_many::<(u32, ValType), A, G, _>(bytes, alloc, sink)?;
-    minimize_to_end::<Plain<A>, A, G, _>(rest, alloc, sink)
+    let rest = <Vec<(u32, ValType), A> as Walk<G>>::walk(bytes, alloc, effect)?;
+    walk_to_end::<Plain<A>, A, G, _>(rest, alloc, effect)
 }
 
 /// Appends the minimal encoding of a body with its size prefix. After an error, part of it may
 /// follow the old bytes of the sink.
-#[tactic(auto, using(wasm_base::proofs::MinimalEncodings::front_steps))]
+#[tactic(auto, using(wasm_base::proofs::MinimalEncodings::front_steps, wasm_base::proofs::EffectLaws::front_kept))]
 fn write_body<A: Allocator + Copy, B: Allocator>(
     bytes: &[u8],
     alloc: A,
@@ -152,7 +154,7 @@ fn write_body<A: Allocator + Copy, B: Allocator>(
     ensures front { IsFrontOf sink.old.items sink.new.items }
 {
     let start = sink.len();
-    minimize_content::<A, Padded, _>(bytes, alloc, sink)?;
+    walk_content::<A, Padded, _>(bytes, alloc, sink)?;
     prefix_size_since(sink, start)?;
     Ok(())
 }
@@ -186,65 +188,21 @@ pub fn shorten_body<A: Allocator + Copy, B: Allocator>(
     written
 }
 
-/// Minimizes a body with its size prefix, as in a code section.
-impl<G: Grammar, C: Allocator> Minimize<G> for Body<C> {
-    #[tactic(auto, using(wasm_base::proofs::MinimizeLaws::sized_minimizes, wasm_base::proofs::DecodeSizePrefixed::filled_steps, wasm_base::proofs::MinimalEncodings::front_steps))]
-    fn minimize<'a, A: Allocator + Copy, B: Allocator>(
+/// Walks over a body with its size prefix, as in a code section.
+impl<G: Grammar, C: Allocator> Walk<G> for Body<C> {
+    #[tactic(auto, using(wasm_base::proofs::WalkLaws::sized_steps, wasm_base::proofs::DecodeSizePrefixed::filled_steps))]
+    fn walk<'a, A: Allocator + Copy, E: Effect>(
         bytes: &'a [u8],
         alloc: A,
-        sink: &mut Vec<u8, B>,
+        effect: &mut E,
     ) -> Result<&'a [u8], DecodeError> {
         let (content, rest) = <&'a [u8] as Readable<'a, A, G>>::read(bytes, alloc)?;
-        let start = sink.len();
-        match minimize_content::<A, G, _>(content, alloc, sink) {
+        let start = effect.position();
+        match walk_content::<A, G, _>(content, alloc, effect) {
             Ok(()) => {}
             Err(error) => return Err(error.before(rest)),
         }
-        prefix_size_since(sink, start)?;
+        effect.prefix_size(start)?;
         Ok(rest)
-    }
-}
-
-/// Skips instructions up to the last byte.
-fn skip_code<'a, A: Allocator + Copy, G: Grammar>(
-    bytes: &'a [u8],
-    alloc: A,
-) -> Result<(), DecodeError>
-    ensures found { OnOk result ((xs : List PlainInstruction) × members (instruction table) (padded_of G.grammar) bytes.now xs) }
-    ensures none { IfErr result (λ e. e.cause ≢ Memory → RejectsWhole (members (instruction table)) (padded_of G.grammar) bytes.now) }
-    ensures no_memory { IfErr result (λ e. e.cause ≢ Memory) }
-{
-    let mut rest = bytes;
-    loop {
-        if rest.is_empty() {
-            return Ok(());
-        }
-        rest = <Plain<A> as Skip<'a, A, G>>::skip(rest, alloc)?;
-    }
-}
-
-/// Skips the bytes of a body without its size prefix.
-#[tactic(auto, using(crate::proofs::DecodeLists::body_steps))]
-fn skip_body<'a, A: Allocator + Copy, G: Grammar>(
-    bytes: &'a [u8],
-    alloc: A,
-) -> Result<(), DecodeError>
-    ensures found { OnOk result ((x : BodyModel) × body (padded_of G.grammar) bytes.now x) }
-    ensures none { IfErr result (λ e. e.cause ≢ Memory → RejectsWhole body (padded_of G.grammar) bytes.now) }
-    ensures no_memory { IfErr result (λ e. e.cause ≢ Memory) }
-{
-    let (_count, rest) = skip_many::<'a, Dropped<(u32, ValType)>, A, G>(bytes, alloc)?;
-    skip_code::<A, G>(rest, alloc)?;
-    Ok(())
-}
-
-/// Skips a body with its size prefix, as in a code section, and allocates nothing.
-impl<'a, A: Allocator + Copy, G: Grammar> Skip<'a, A, G> for Body<A> {
-    fn skip(bytes: &'a [u8], alloc: A) -> Result<&'a [u8], DecodeError> {
-        let (sized, rest) = <&'a [u8] as Readable<'a, A, G>>::read(bytes, alloc)?;
-        match skip_body::<A, G>(sized, alloc) {
-            Ok(()) => Ok(rest),
-            Err(error) => Err(error.before(rest)),
-        }
     }
 }

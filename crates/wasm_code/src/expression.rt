@@ -8,7 +8,7 @@ ghost use Rattle.wasm_base.specs.Minimal.{builders_alone};
 use crate::body::append_code;
 use std::alloc::{Allocator, Global};
 use wasm_base::{
-    DecodeError, Grammar, Layout, Minimize, ReadFault, Readable, Result, Shorten, Skip,
+    DecodeError, Effect, Grammar, Layout, ReadFault, Readable, Result, Shorten, Walk,
 };
 use wasm_insn::Plain;
 
@@ -60,30 +60,13 @@ impl<A: Allocator> Shorten for Expression<A> {
     }
 }
 
-/// Skips a constant expression with its `End`, and allocates nothing.
-impl<'a, A: Allocator + Copy, G: Grammar> Skip<'a, A, G> for Expression<A> {
-    #[tactic(auto, using(wasm_insn::proofs::InstructionLaws::any_begins))]
-    fn skip(bytes: &'a [u8], alloc: A) -> Result<&'a [u8], DecodeError> {
-        let mut rest = bytes;
-        loop {
-            let [first, after @ ..] = rest else {
-                return Err(ReadFault::Ended.at(b""));
-            };
-            if *first == END {
-                return Ok(after);
-            }
-            rest = <Plain<A> as Skip<'a, A, G>>::skip(rest, alloc)?;
-        }
-    }
-}
-
-/// Minimizes the instructions one by one, up to the first `End`.
-impl<G: Grammar, C: Allocator> Minimize<G> for Expression<C> {
-    #[tactic(auto, using(wasm_base::proofs::MinimalEncodings::front_steps))]
-    fn minimize<'a, A: Allocator + Copy, B: Allocator>(
+/// Walks over the instructions one by one, up to the first `End`.
+impl<G: Grammar, C: Allocator> Walk<G> for Expression<C> {
+    #[tactic(auto, using(wasm_base::proofs::WalkLaws::keep_steps))]
+    fn walk<'a, A: Allocator + Copy, E: Effect>(
         bytes: &'a [u8],
         alloc: A,
-        sink: &mut Vec<u8, B>,
+        effect: &mut E,
     ) -> Result<&'a [u8], DecodeError> {
         let mut rest = bytes;
         loop {
@@ -91,10 +74,10 @@ impl<G: Grammar, C: Allocator> Minimize<G> for Expression<C> {
                 return Err(ReadFault::Ended.at(b""));
             };
             if *first == END {
-                sink.push(END)?;
+                effect.put(&END)?;
                 return Ok(after);
             }
-            rest = <Plain<C> as Minimize<G>>::minimize(rest, alloc, sink)?;
+            rest = <Plain<C> as Walk<G>>::walk(rest, alloc, effect)?;
         }
     }
 }

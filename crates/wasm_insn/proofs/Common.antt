@@ -8,7 +8,7 @@ pub use Rattle.wasm_insn.proofs.DecodeArguments.{HasArguments, arguments_done, a
 pub use Rattle.wasm_insn.proofs.DecodeArguments.{ordering_none, part_none, part_skipped, shape_rejects, signed32_none, signed64_none}
 pub use Rattle.wasm_insn.proofs.DecodeInstructions.{instruction_decodes, instruction_no_arguments, op_none}
 pub use Rattle.wasm_insn.proofs.DecodeOperands.{encoded_operand, encoded_same, memory_rejected, short_memory, short_operation, short_signed32, short_signed64, signed32_operand, signed32_rejected, signed64_operand, signed64_rejected}
-pub use Rattle.wasm_insn.proofs.DecodePlain.{arguments_plain, instruction_appended, plain_at}
+pub use Rattle.wasm_insn.proofs.DecodePlain.{arguments_plain, formed_encodable, instruction_appended, plain_at}
 pub use Rattle.wasm_insn.proofs.InstructionLaws.{decodes, one_encoding, unique}
 pub use Rattle.wasm_insn.proofs.TableRows.{instruction_row}
 pub use Rattle.wasm_insn.specs.{AreOperands, Argument, DecodesOperands, IsWellFormedWhereAligned, argument_encoding, argument_view, arguments, catches, handles, instruction, labels, parts_of, table, types}

@@ -5,9 +5,10 @@ use Rattle.wasm_base.proofs.Words.{flat_map, minimal, padded, u32, mapped, fixed
 use Rattle.wasm_base.proofs.Words.{val_type_is, vec_is}
 use Rattle.wasm_immediates.proofs.Words.{IsWellFormedCatch, IsWellFormedHandle, catch, handle, memory_is, block_is, catch_is, handle_is}
 use Rattle.wasm_insn.specs.declared.op.Op.{Op}
-use Rattle.wasm_insn.specs.{parts_of, op_encoding, Argument, memory, part_of, argument_encoding, arguments_encoding, IsWellFormed, IsOpcode, IsWellFormedArgument, AreWellFormed, normal_argument}
+use Rattle.wasm_insn.specs.{parts_of, op_encoding, Argument, argument_encodable, memory, part_of, argument_encoding, arguments_encoding, IsWellFormed, IsOpcode, IsWellFormedArgument, AreWellFormed, normal_argument}
 use Rattle.wasm_insn.specs.{normal_arguments, normal, part, arguments, arguments_after, opcode, op_after, is_prefix, shape_of, plain_of, plain_encoding, instruction, table, argument_view}
 use Rattle.wasm_insn.specs.Words.{Plain}
+use Rattle.wasm_insn.specs.Arguments.{unsigned, signed32, signed64, float32, float64, vector, lane, lanes, block, heap, ordering, labels, catches, types, handles, flag}
 use Rattle.wasm_insn.specs.declared.op.Op.TheVariants.{Byte, Prefixed}
 use Rattle.wasm_insn.specs.declared.op.Shape.{Shape}
 use Rattle.wasm_insn.specs.declared.part.Part.{Part}
@@ -91,6 +92,25 @@ instruction_appended op xs old middle new e f = record {
 
 pub any_members : {T : Type 0} (P : T → Type 0) (xs : List T) → IsEncodableVec P xs → IsEncodableVec (λ x. Unit {0}) xs
 any_members P xs h = record { count = h.count; members = λ k d l. tt }
+
+pub formed_encodable : (x : Argument) → IsWellFormedArgument x → argument_encodable x
+formed_encodable (labels ns) h = any_members _ ns h
+formed_encodable (catches cs) h = any_members _ cs h
+formed_encodable (types ts) h = any_members _ ts h
+formed_encodable (handles hs) h = any_members _ hs h
+formed_encodable (unsigned n) h = tt
+formed_encodable (signed32 v) h = tt
+formed_encodable (signed64 v) h = tt
+formed_encodable (float32 float) h = tt
+formed_encodable (float64 float) h = tt
+formed_encodable (vector v) h = tt
+formed_encodable (memory m) h = tt
+formed_encodable (lane n) h = tt
+formed_encodable (lanes ns) h = tt
+formed_encodable (block type) h = tt
+formed_encodable (heap type) h = tt
+formed_encodable (ordering o) h = tt
+formed_encodable (flag n) h = tt
 
 pub arguments_plain : (i : Plain) → HasEncoding builders_alone (instruction table) i → AreWellFormed i.arguments
 arguments_plain i h = (instruction_is (padded_of h.grammar) h.bytes i h.decoded).0.arguments

@@ -11,4 +11,4 @@ pub mod DecodeArguments
 pub mod DecodeInstructions
 pub mod DecodePlain
 pub mod DecodeOperands
-pub mod MinimizeInstructions
+pub mod WalkInstructions

@@ -1,4 +1,4 @@
-// The arguments (immediates) of decoded instructions: decoded, skipped, and encoded again.
+// The arguments (immediates) of decoded instructions: decoded, and encoded again.
 ghost use Rattle.std.specs.Prelude.{◌≡◌, ◌≢◌, ◌++◌, [], ◌∷◌, IfOk, IfErr, Err, OnOk, OnErr, map, List};
 ghost use Rattle.std.specs.List.{flat_map};
 ghost use Rattle.wasm_base.specs.Numbers.{padded_of};
@@ -6,8 +6,8 @@ ghost use Rattle.wasm_base.specs.Decoding.{Decodes, Rejects};
 ghost use Rattle.wasm_base.specs.declared.refused.Refused.TheVariants.{TooLong};
 ghost use Rattle.wasm_insn.specs.Parts.{IsList, parts_of};
 ghost use Rattle.wasm_insn.specs.declared.part.Part.TheVariants as parts;
-ghost use Rattle.wasm_insn.specs.Arguments.{argument_encoding, Argument};
-ghost use Rattle.wasm_insn.specs.Plain.{part, arguments, IsWellFormedArgument, AreWellFormed};
+ghost use Rattle.wasm_insn.specs.Arguments.{argument_encodable, argument_encoding};
+ghost use Rattle.wasm_insn.specs.Plain.{part, arguments, AreWellFormed};
 ghost use Rattle.wasm_insn.specs.Views.{argument_view};
 ghost use Rattle.wasm_base.specs.Minimal.{IsFrontOf};
 ghost use Rattle.wasm_base.specs.declared.fault.ReadFault.TheVariants.{Memory};
@@ -16,8 +16,7 @@ use crate::op::Shape;
 use crate::part::Part;
 use std::alloc::{Allocator, Global};
 use wasm_base::{
-    DecodeError, Dropped, Encode, Grammar, HeapType, ReadFault, Readable, Result, Skip, ValType,
-    skip_many,
+    DecodeError, Encode, Grammar, HeapType, ReadFault, Readable, Result, ValType,
 };
 use wasm_immediates::{BlockType, Catch, Handle, Ieee32, Ieee64, MemArg, Ordering};
 
@@ -389,34 +388,32 @@ pub(crate) fn list_one<A: Allocator + Copy>(
     Ok(args)
 }
 
-/// Appends the minimal encoding of the argument.
-#[tactic(auto, using(wasm_immediates::proofs::FixedBytes::vector_bytes, crate::proofs::DecodePlain::any_members))]
-pub(crate) fn append_argument<A: Allocator, B: Allocator>(
-    arg: &Arg<A>,
-    sink: &mut Vec<u8, B>,
-) -> Result<()>
-    ensures ok { OnOk result (sink.new.items ≡ sink.old.items ++ argument_encoding (argument_view arg.now)) }
-    ensures err { OnErr result (sink.new.items ≡ sink.old.items) }
-    ensures too_long { IsWellFormedArgument (argument_view arg.now) → result ≢ Err TooLong }
-{
-    match arg {
-        Arg::U32(n) => n.encode(sink),
-        Arg::S32(n) => n.encode(sink),
-        Arg::S64(n) => n.encode(sink),
-        Arg::F32(float) => float.encode(sink),
-        Arg::F64(float) => float.encode(sink),
-        Arg::V128(vector) => vector.to_le_bytes().encode(sink),
-        Arg::Mem(memory) => memory.encode(sink),
-        Arg::Lane(lane) => lane.encode(sink),
-        Arg::Lanes(lanes) => lanes.encode(sink),
-        Arg::Block(block) => block.encode(sink),
-        Arg::Heap(heap) => heap.encode(sink),
-        Arg::Order(ordering) => ordering.encode(sink),
-        Arg::Labels(labels) => labels.as_slice().encode(sink),
-        Arg::Catches(catches) => catches.as_slice().encode(sink),
-        Arg::Types(types) => types.as_slice().encode(sink),
-        Arg::Handles(handles) => handles.as_slice().encode(sink),
-        Arg::Flag(flag) => flag.encode(sink),
+impl<A: Allocator> Encode for Arg<A> {
+    ghost encoding = { λ a. argument_encoding (argument_view a) };
+
+    ghost encodable = { λ a. argument_encodable (argument_view a) };
+
+    #[tactic(auto, using(wasm_immediates::proofs::FixedBytes::vector_bytes))]
+    fn encode<B: Allocator>(&self, sink: &mut Vec<u8, B>) -> Result<()> {
+        match self {
+            Arg::U32(n) => n.encode(sink),
+            Arg::S32(n) => n.encode(sink),
+            Arg::S64(n) => n.encode(sink),
+            Arg::F32(float) => float.encode(sink),
+            Arg::F64(float) => float.encode(sink),
+            Arg::V128(vector) => vector.to_le_bytes().encode(sink),
+            Arg::Mem(memory) => memory.encode(sink),
+            Arg::Lane(lane) => lane.encode(sink),
+            Arg::Lanes(lanes) => lanes.encode(sink),
+            Arg::Block(block) => block.encode(sink),
+            Arg::Heap(heap) => heap.encode(sink),
+            Arg::Order(ordering) => ordering.encode(sink),
+            Arg::Labels(labels) => labels.as_slice().encode(sink),
+            Arg::Catches(catches) => catches.as_slice().encode(sink),
+            Arg::Types(types) => types.as_slice().encode(sink),
+            Arg::Handles(handles) => handles.as_slice().encode(sink),
+            Arg::Flag(flag) => flag.encode(sink),
+        }
     }
 }
 
@@ -430,73 +427,7 @@ pub(crate) fn append_arguments<A: Allocator, B: Allocator>(
     ensures too_long { AreWellFormed (map argument_view args.now) → result ≢ Err TooLong }
 {
     for arg in args {
-        append_argument(arg, sink)?;
+        arg.encode(sink)?;
     }
     Ok(())
-}
-
-/// Skips one argument, and returns the remaining bytes. Lists are skipped member by member.
-fn skip_part<'a, A: Allocator + Copy, G: Grammar>(
-    wanted: Part,
-    bytes: &'a [u8],
-    alloc: A,
-) -> Result<&'a [u8], DecodeError>
-    ensures found { IfOk result (λ rest. (x : Argument) × Decodes (part wanted) (padded_of G.grammar) bytes.now x rest.now) }
-    ensures none { IfErr result (λ e. e.cause ≢ Memory → Rejects (part wanted) (padded_of G.grammar) bytes.now) }
-    ensures no_memory { IfErr result (λ e. e.cause ≢ Memory) }
-{
-    match wanted {
-        Part::Labels => {
-            let (_count, rest) = skip_many::<'a, Dropped<u32>, A, G>(bytes, alloc)?;
-            Ok(rest)
-        }
-        Part::Catches => {
-            let (_count, rest) = skip_many::<'a, Dropped<Catch>, A, G>(bytes, alloc)?;
-            Ok(rest)
-        }
-        Part::Types => {
-            let (_count, rest) = skip_many::<'a, Dropped<ValType>, A, G>(bytes, alloc)?;
-            Ok(rest)
-        }
-        Part::Handles => {
-            let (_count, rest) = skip_many::<'a, Dropped<Handle>, A, G>(bytes, alloc)?;
-            Ok(rest)
-        }
-        _ => {
-            let (_arg, rest) = read_part::<A, G>(wanted, bytes, alloc)?;
-            Ok(rest)
-        }
-    }
-}
-
-/// Skips one argument for each of `wanted`, and returns the remaining bytes.
-fn skip_parts<'a, A: Allocator + Copy, G: Grammar>(
-    wanted: &[Part],
-    bytes: &'a [u8],
-    alloc: A,
-) -> Result<&'a [u8], DecodeError>
-    ensures found { IfOk result (λ rest. (xs : List Argument) × Decodes (arguments wanted.now) (padded_of G.grammar) bytes.now xs rest.now) }
-    ensures none { IfErr result (λ e. e.cause ≢ Memory → Rejects (arguments wanted.now) (padded_of G.grammar) bytes.now) }
-    ensures no_memory { IfErr result (λ e. e.cause ≢ Memory) }
-{
-    let mut rest = bytes;
-    for part in wanted {
-        rest = skip_part::<A, G>(*part, rest, alloc)?;
-    }
-    Ok(rest)
-}
-
-/// Skips the arguments of any shape, and returns the remaining bytes. Out of line, for rare shapes.
-#[inline(never)]
-#[tactic(auto, using(crate::proofs::DecodeArguments::shape_steps))]
-pub(crate) fn skip_any<'a, A: Allocator + Copy, G: Grammar>(
-    shape: Shape,
-    bytes: &'a [u8],
-    alloc: A,
-) -> Result<&'a [u8], DecodeError>
-    ensures found { IfOk result (λ rest. (xs : List Argument) × Decodes (arguments (parts_of shape)) (padded_of G.grammar) bytes.now xs rest.now) }
-    ensures none { IfErr result (λ e. e.cause ≢ Memory → Rejects (arguments (parts_of shape)) (padded_of G.grammar) bytes.now) }
-    ensures no_memory { IfErr result (λ e. e.cause ≢ Memory) }
-{
-    skip_parts::<A, G>(shape.parts(), bytes, alloc)
 }

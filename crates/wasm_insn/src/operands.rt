@@ -13,11 +13,12 @@ ghost use Rattle.wasm_insn.specs.Plain.{instruction, arguments};
 ghost use Rattle.wasm_insn.specs.Table.{table};
 ghost use Rattle.wasm_insn.specs.Views.{argument_view};
 
-use crate::arguments::{Arg, list_one, read_any, skip_any};
+use crate::arguments::{Arg, list_one, read_any};
 use crate::op::{Op, Shape, read_op};
 use crate::table::byte_shape;
+use crate::walk::walk_any;
 use std::alloc::Allocator;
-use wasm_base::{DecodeError, Grammar, ReadFault, Readable, Result, Standard};
+use wasm_base::{DecodeError, Discard, Grammar, ReadFault, Readable, Result, Standard};
 use wasm_immediates::{BlockType, MemArg, MemArgTarget};
 
 /// The operands (immediates) of a decoded instruction. They borrow the bytes that were decoded, and
@@ -204,7 +205,7 @@ fn read_encoded<'a, A: Allocator + Copy, G: Grammar>(
     ensures none { IfErr result (λ e. e.cause ≢ Memory → Rejects (arguments (parts_of shape)) (padded_of G.grammar) bytes.now) }
     ensures no_memory { IfErr result (λ e. e.cause ≢ Memory) }
 {
-    let rest = skip_any::<A, G>(shape, bytes, alloc)?;
+    let rest = walk_any::<A, G, _>(shape, bytes, alloc, &mut Discard)?;
     let (encoded, rest) = bytes.split_at(bytes.len() - rest.len());
     Ok((Operands::Encoded(shape, encoded), rest))
 }

@@ -1,4 +1,4 @@
-// An instruction in normal form, an opcode and its arguments: decoded, skipped and minimized.
+// An instruction in normal form, an opcode and its arguments: decoded and encoded.
 ghost use Rattle.std.specs.Prelude.{◌≢◌, IfOk, IfErr, Err, OnOk, map};
 ghost use Rattle.wasm_base.specs.Numbers.{padded_of};
 ghost use Rattle.wasm_base.specs.Decoding.{Decodes, Rejects};
@@ -11,9 +11,9 @@ ghost use Rattle.wasm_insn.specs.Views.{argument_view, plain_view};
 
 use crate::arguments::{Arg, append_arguments};
 use crate::op::Op;
-use crate::operands::{read_instruction, read_long, read_short};
+use crate::operands::{read_long, read_short};
 use std::alloc::{Allocator, Global};
-use wasm_base::{DecodeError, Encode, Grammar, Layout, Readable, Result, Shorten, Skip};
+use wasm_base::{DecodeError, Encode, Grammar, Layout, Readable, Result, Shorten};
 
 /// An instruction in normal form: its opcode, and an argument for each immediate of the opcode's
 /// shape.
@@ -82,14 +82,5 @@ impl<A: Allocator> Shorten for Plain<A> {
 
     fn write_minimal<B: Allocator>(&self, sink: &mut Vec<u8, B>) -> Result<()> {
         append_instruction(self.op, &self.args, sink)
-    }
-}
-
-/// Skips the instruction at the front, and allocates nothing.
-impl<'a, A: Allocator + Copy, G: Grammar> Skip<'a, A, G> for Plain<A> {
-    #[inline(always)]
-    fn skip(bytes: &'a [u8], alloc: A) -> Result<&'a [u8], DecodeError> {
-        let (_op, _operands, rest) = read_instruction::<A, G>(bytes, alloc)?;
-        Ok(rest)
     }
 }

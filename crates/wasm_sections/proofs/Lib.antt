@@ -16,6 +16,6 @@ pub mod GlobalLaws
 pub mod ImportLaws
 pub mod DataLaws
 pub mod ElementLaws
-pub mod MinimizeItems
+pub mod WalkItems
 pub mod Calls
 pub mod RejectionLaws

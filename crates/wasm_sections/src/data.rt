@@ -19,8 +19,8 @@ ghost use Rattle.wasm_sections.specs.DataSegments.{data_items, DataItem, active,
 use crate::counted_section::{CountedSection, ItemKind};
 use std::alloc::{Allocator, Global};
 use wasm_base::{
-    DecodeError, Dropped, Encode, Grammar, Kind, Layout, Lent, ReadFault, Readable, Result,
-    SectionId, Shorten, Skip, bytes_of, encode_size_prefixed, read_whole,
+    DecodeError, Encode, Grammar, Kind, Layout, Lent, ReadFault, Readable, Result,
+    SectionId, Shorten, bytes_of, encode_size_prefixed, read_whole,
 };
 use wasm_code::{ConstExpr, Expression};
 
@@ -388,36 +388,6 @@ impl<'a, A: Allocator> Shorten for Segment<'a, A> {
                 1u32.encode(sink)?;
                 encode_size_prefixed(sink, bytes)
             }
-        }
-    }
-}
-
-impl<'a, A: Allocator + Copy, G: Grammar> Skip<'a, A, G> for Segment<'a, A> {
-    #[tactic(auto, using(crate::proofs::DataLaws::segment_steps))]
-    fn skip(bytes: &'a [u8], alloc: A) -> Result<&'a [u8], DecodeError> {
-        let (flag, rest) = <u32 as Readable<'a, A, G>>::read(bytes, alloc)?;
-        match flag {
-            0 => {
-                let rest = <(Expression<A>, Dropped<Bytes<'a>>) as Skip<'a, A, G>>::skip(
-                    rest, alloc,
-                )?;
-                Ok(rest)
-            }
-            1 => {
-                let (_bytes, rest) = <Bytes<'a> as Readable<'a, A, G>>::read(rest, alloc)?;
-                Ok(rest)
-            }
-            2 => {
-                let (memory, rest) = <u32 as Readable<'a, A, G>>::read(rest, alloc)?;
-                if !has_index::<G>(memory) {
-                    return Err(ReadFault::UnknownTag.just_before(rest));
-                }
-                let rest = <(Expression<A>, Dropped<Bytes<'a>>) as Skip<'a, A, G>>::skip(
-                    rest, alloc,
-                )?;
-                Ok(rest)
-            }
-            _ => Err(ReadFault::UnknownTag.just_before(rest)),
         }
     }
 }

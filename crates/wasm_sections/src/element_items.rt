@@ -12,8 +12,7 @@ ghost use Rattle.wasm_sections.specs.Elements.{ElementItem, ElementFlag as FlagM
 
 use std::alloc::{Allocator, Global};
 use wasm_base::{
-    DecodeError, Dropped, Encode, Grammar, Layout, ReadFault, Readable, RefType, Result, Shorten,
-    Skip, skip_many,
+    DecodeError, Encode, Grammar, Layout, ReadFault, Readable, RefType, Result, Shorten,
 };
 use wasm_code::Expression;
 
@@ -339,99 +338,5 @@ impl<A: Allocator> Shorten for ElementItem<A> {
         flag.code().encode(sink)?;
         self.append_segment_mode(sink)?;
         append_elements(flag.has_kind(), &self.elements, sink)
-    }
-}
-
-/// Skips the table and the offset that the flag selects.
-#[tactic(auto, using(crate::proofs::ElementLaws::segment_mode_steps))]
-fn skip_segment_mode<'a, A: Allocator + Copy, G: Grammar>(
-    flag: ElementFlag,
-    bytes: &'a [u8],
-    alloc: A,
-) -> Result<&'a [u8], DecodeError>
-    ensures found { IfOk result (λ rest. (x : SegmentMode (List Plain)) × Decodes (segment_mode (element_flag_view flag)) (padded_of G.grammar) bytes.now x rest.now) }
-    ensures none { IfErr result (λ e. e.cause ≢ Memory → Rejects (segment_mode (element_flag_view flag)) (padded_of G.grammar) bytes.now) }
-    ensures no_memory { IfErr result (λ e. e.cause ≢ Memory) }
-{
-    match (flag.not_active, flag.second) {
-        (true, true) => Ok(bytes),
-        (true, false) => Ok(bytes),
-        (false, true) => {
-            let rest = <(Dropped<u32>, Expression<A>) as Skip<'a, A, G>>::skip(bytes, alloc)?;
-            Ok(rest)
-        }
-        (false, false) => {
-            let rest = <Expression<A> as Skip<'a, A, G>>::skip(bytes, alloc)?;
-            Ok(rest)
-        }
-    }
-}
-
-/// Skips the indices of functions, and the byte of their kind if that is explicit.
-fn skip_functions<'a, A: Allocator + Copy, G: Grammar>(
-    explicit: bool,
-    bytes: &'a [u8],
-    alloc: A,
-) -> Result<&'a [u8], DecodeError>
-    ensures found { IfOk result (λ rest. (x : ListModel (List Plain)) × Decodes (elements_as explicit false) (padded_of G.grammar) bytes.now x rest.now) }
-    ensures none { IfErr result (λ e. e.cause ≢ Memory → Rejects (elements_as explicit false) (padded_of G.grammar) bytes.now) }
-    ensures no_memory { IfErr result (λ e. e.cause ≢ Memory) }
-{
-    if explicit {
-        let (kind, rest) = <u8 as Readable<'a, A, G>>::read(bytes, alloc)?;
-        if kind != 0x00 {
-            return Err(ReadFault::UnknownTag.just_before(rest));
-        }
-        let (_count, rest) = skip_many::<'a, Dropped<u32>, A, G>(rest, alloc)?;
-        return Ok(rest);
-    }
-    let (_count, rest) = skip_many::<'a, Dropped<u32>, A, G>(bytes, alloc)?;
-    Ok(rest)
-}
-
-/// Skips expressions, and their type if that is explicit.
-fn skip_expressions<'a, A: Allocator + Copy, G: Grammar>(
-    explicit: bool,
-    bytes: &'a [u8],
-    alloc: A,
-) -> Result<&'a [u8], DecodeError>
-    ensures found { IfOk result (λ rest. (x : ListModel (List Plain)) × Decodes (elements_as explicit true) (padded_of G.grammar) bytes.now x rest.now) }
-    ensures none { IfErr result (λ e. e.cause ≢ Memory → Rejects (elements_as explicit true) (padded_of G.grammar) bytes.now) }
-    ensures no_memory { IfErr result (λ e. e.cause ≢ Memory) }
-{
-    if explicit {
-        let (_type, rest) = <RefType as Readable<'a, A, G>>::read(bytes, alloc)?;
-        let (_count, rest) = skip_many::<'a, Expression<A>, A, G>(rest, alloc)?;
-        return Ok(rest);
-    }
-    let (_count, rest) = skip_many::<'a, Expression<A>, A, G>(bytes, alloc)?;
-    Ok(rest)
-}
-
-/// Skips the elements of the kind that the flag selects.
-fn skip_elements<'a, A: Allocator + Copy, G: Grammar>(
-    explicit: bool,
-    of_expressions: bool,
-    bytes: &'a [u8],
-    alloc: A,
-) -> Result<&'a [u8], DecodeError>
-    ensures found { IfOk result (λ rest. (x : ListModel (List Plain)) × Decodes (elements_as explicit of_expressions) (padded_of G.grammar) bytes.now x rest.now) }
-    ensures none { IfErr result (λ e. e.cause ≢ Memory → Rejects (elements_as explicit of_expressions) (padded_of G.grammar) bytes.now) }
-    ensures no_memory { IfErr result (λ e. e.cause ≢ Memory) }
-{
-    if of_expressions {
-        skip_expressions::<A, G>(explicit, bytes, alloc)
-    } else {
-        skip_functions::<A, G>(explicit, bytes, alloc)
-    }
-}
-
-impl<'a, A: Allocator + Copy, G: Grammar> Skip<'a, A, G> for ElementItem<A> {
-    #[tactic(auto, using(crate::proofs::ElementLaws::element_steps))]
-    fn skip(bytes: &'a [u8], alloc: A) -> Result<&'a [u8], DecodeError> {
-        let (flag, rest) = <ElementFlag as Readable<'a, A, G>>::read(bytes, alloc)?;
-        let rest = skip_segment_mode::<A, G>(flag, rest, alloc)?;
-        let rest = skip_elements::<A, G>(flag.has_kind(), flag.expressions, rest, alloc)?;
-        Ok(rest)
     }
 }

@@ -11,8 +11,8 @@ use crate::counted_section::{CountedSection, ItemKind};
 use crate::flags::where_set;
 use std::alloc::{Allocator, Global};
 use wasm_base::{
-    DecodeError, Dropped, Encode, Grammar, Kind, Layout, Lent, ReadFault, Readable, Result,
-    SectionId, Shorten, Skip, ValType,
+    DecodeError, Encode, Grammar, Kind, Layout, Lent, ReadFault, Readable, Result,
+    SectionId, Shorten, ValType,
 };
 use wasm_code::{ConstExpr, Expression};
 
@@ -202,13 +202,5 @@ impl<A: Allocator> Shorten for GlobalItem<A> {
     fn write_minimal<B: Allocator>(&self, sink: &mut Vec<u8, B>) -> Result<()> {
         self.global_type.encode(sink)?;
         self.init.write_minimal(sink)
-    }
-}
-
-impl<'a, A: Allocator + Copy, G: Grammar> Skip<'a, A, G> for GlobalItem<A> {
-    #[tactic(auto, using(crate::proofs::GlobalLaws::item_steps))]
-    fn skip(bytes: &'a [u8], alloc: A) -> Result<&'a [u8], DecodeError> {
-        let rest = <(Dropped<GlobalType>, Expression<A>) as Skip<'a, A, G>>::skip(bytes, alloc)?;
-        Ok(rest)
     }
 }

@@ -17,10 +17,10 @@ mod global;
 mod import;
 pub mod laws;
 mod memory;
-mod minimize;
 mod start;
 mod table;
 mod tag;
+mod walk;
 
 pub use counted_section::{CountedSection, ItemKind, RecordOf};
 pub use data::{DataItems, DataSection, DataSegment, DataSegmentMode, Segment, read_segments};

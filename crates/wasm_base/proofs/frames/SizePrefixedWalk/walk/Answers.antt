@@ -14,4 +14,4 @@ pub prefix_size-requires : goal.prefix_size-requires
 prefix_size-requires g c = is_marked g.E.Effect.seen g.E.Effect.mark c.position-start.result _ _ g.E.Effect.some c.position-start.ensures c.in-Ok.ensures.front
 
 pub returns-clause-found : goal.returns-clause-found
-returns-clause-found g c = sized_walks g.E.Effect.seen g.E.Effect.mark c.position-start.result _ _ _ g.G.Grammar.grammar g.T.Layout.format c.args.bytes.now _ _ c.laws.ensures c.in_ok-content.ensures.found c.position-start.ensures c.in-Ok.ensures.found c.in_ok-prefix_size.ensures.ok
+returns-clause-found g c = sized_walks g.E.Effect.seen g.E.Effect.mark c.position-start.result _ _ _ g.G.Grammar.grammar g.T.Layout.format c.args.bytes.now _ _ c.laws.ensures.encodings c.in_ok-content.ensures.found c.position-start.ensures c.in-Ok.ensures.found c.in_ok-prefix_size.ensures.ok

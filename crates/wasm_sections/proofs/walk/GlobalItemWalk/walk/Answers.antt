@@ -1,0 +1,10 @@
+use Rattle.wasm_base.proofs.Words.{fault_stays}
+use Rattle.wasm_sections.proofs.GlobalLaws.{item_none}
+use Rattle.wasm_sections.proofs.WalkItems.{global_walks}
+use Rattle.wasm_sections.proofs.walk.GlobalItemWalk.walk.Goals as goal
+
+pub returns-in_err-rest-clause-none : goal.returns-in_err-rest-clause-none
+returns-in_err-rest-clause-none g c = fault_stays c.from_residual.result _ c.from_residual.ensures.1 λ n. item_none c.args.bytes.now (c.in_err-rest.ensures.none n)
+
+pub returns-clause-found : goal.returns-clause-found
+returns-clause-found g c = global_walks c.in_ok-rest.ensures.found
