@@ -1,9 +1,9 @@
 -- This file proves that the encodings of decoded immediates are minimal in both grammars.
 use Rattle.wasm_base.proofs.Words.{Grammar, builders, admitted, minimal, padded_of, ◌≡◌, ℕ, pos, List, [], ◌++◌, Bool, true, false, refl, subst, inl, inr, s33, Decodes, s33_encodes}
 use Rattle.wasm_base.specs.Numbers.{minimal_of, signed_encoding}
-use Rattle.wasm_base.specs.Minimal.{Minimizes, EncodesMinimally}
+use Rattle.wasm_base.specs.Minimal.{EncodesMinimally}
+use Rattle.wasm_base.specs.Walks.{EncodesIn}
 use Rattle.wasm_base.proofs.GrammarLaws.{AreMinimalInBoth, minimal_in, canonical_by, u32_both, u64_both, s33_both, fixed_both, impossible_both, coded_both, such_both, when_both, mapped_both, pair_both, tagged_both, choices_both, optional_both}
-use Rattle.wasm_base.proofs.MinimizeLaws.{minimized_as}
 use Rattle.wasm_base.proofs.TightTypes.{val_encodes_in}
 use Rattle.wasm_immediates.specs.declared.memory.MemArgTarget.TheVariants.{Memory, Array}
 use Rattle.wasm_immediates.specs.declared.block_type.BlockType.{BlockType}
@@ -69,5 +69,5 @@ block_encodes_in admitted blocks.Empty h = inl (refl, refl)
 block_encodes_in admitted (blocks.Result ty) h = inr (inl (ty, refl, val_encodes_in admitted ty h))
 block_encodes_in admitted (blocks.FunctionType index) h = inr (inr (index, refl, s33_both.same (signed_encoding (pos index)) index (s33_encodes index h)))
 
-pub block_minimized : (w : Grammar) (b : BlockType) (bytes rest old new : List ℕ) → Decodes block_type (padded_of w) bytes b rest → new ≡ old ++ block_encoding_in w b → Minimizes w block_type bytes rest old new
-block_minimized w b bytes rest old new h e = minimized_as w block_type b bytes rest old new (block_encoding_in w b) h (block_encodes_in w b (block_is (padded_of w) h.front b h.encodes)) e
+pub block_in : (w : Grammar) → EncodesIn w block_type (λ b. b) (block_encoding_in w)
+block_in w = record { minimal_in = λ s b h. block_encodes_in w b (block_is (padded_of w) s b h) }

@@ -10,8 +10,8 @@ ghost use Rattle.wasm_base.specs.declared.fault.ReadFault.TheVariants.{Memory};
 
 use std::alloc::Allocator;
 use wasm_base::{
-    DecodeError, Encode, Grammar, Layout, Minimize, Readable, Result, ValType, read_index,
-    read_val_after,
+    DecodeError, Effect, Encode, EncodeIn, Grammar, Layout, Readable, Result, ValType, Walk,
+    read_index, read_val_after, walk_in,
 };
 
 /// The type of a block: its parameters and results.
@@ -90,28 +90,27 @@ impl<'a, A: Allocator + Copy, G: Grammar> Readable<'a, A, G> for BlockType {
     }
 }
 
-impl BlockType {
-    /// Appends the minimal encoding in the grammar `G`.
-    fn encode_in<G: Grammar, A: Allocator>(self, sink: &mut Vec<u8, A>) -> Result<()>
-        ensures { Appends (block_encoding_in G.grammar self) ⊤ sink.old sink.new result }
-    {
+impl<G: Grammar> EncodeIn<G> for BlockType {
+    ghost encoding_in = { block_encoding_in G.grammar };
+
+    fn encode_in<A: Allocator>(&self, sink: &mut Vec<u8, A>) -> Result<()> {
         match self {
-            BlockType::Result(ty) => ty.encode_in::<G, _>(sink),
+            BlockType::Result(ty) => <ValType as EncodeIn<G>>::encode_in(ty, sink),
             _ => self.encode(sink),
         }
     }
+
+    #[tactic(auto, using(crate::proofs::MinimalImmediates::block_in))]
+    fn minimal_in() {}
 }
 
-impl<G: Grammar> Minimize<G> for BlockType {
-    #[tactic(auto, using(wasm_base::proofs::MinimalEncodings::front_steps))]
+impl<G: Grammar> Walk<G> for BlockType {
     #[inline]
-    fn minimize<'a, A: Allocator + Copy, B: Allocator>(
+    fn walk<'a, A: Allocator + Copy, E: Effect>(
         bytes: &'a [u8],
         alloc: A,
-        sink: &mut Vec<u8, B>,
+        effect: &mut E,
     ) -> Result<&'a [u8], DecodeError> {
-        let (block, rest) = <BlockType as Readable<'a, A, G>>::read(bytes, alloc)?;
-        block.encode_in::<G, _>(sink)?;
-        Ok(rest)
+        walk_in::<BlockType, A, G, _>(bytes, alloc, effect)
     }
 }

@@ -7,8 +7,8 @@ ghost use Rattle.wasm_immediates.specs.declared.control.Handle.{Handle as Handle
 
 use std::alloc::Allocator;
 use wasm_base::{
-    Canonical, DecodeError, Encode, Grammar, Layout, Minimize, ReadFault, Readable, Result,
-    minimize_value,
+    Canonical, DecodeError, Effect, Encode, Grammar, Layout, ReadFault, Readable, Result, Walk,
+    walk_value,
 };
 
 /// A clause of `try_table`: the exceptions that it catches, and the label that it then branches to.
@@ -132,13 +132,13 @@ impl Canonical for Catch {
     fn canonical() {}
 }
 
-impl<G: Grammar> Minimize<G> for Catch {
-    fn minimize<'a, A: Allocator + Copy, B: Allocator>(
+impl<G: Grammar> Walk<G> for Catch {
+    fn walk<'a, A: Allocator + Copy, E: Effect>(
         bytes: &'a [u8],
         alloc: A,
-        sink: &mut Vec<u8, B>,
+        effect: &mut E,
     ) -> Result<&'a [u8], DecodeError> {
-        minimize_value::<Catch, A, G, _>(bytes, alloc, sink)
+        walk_value::<Catch, A, G, _>(bytes, alloc, effect)
     }
 }
 
@@ -147,12 +147,12 @@ impl Canonical for Handle {
     fn canonical() {}
 }
 
-impl<G: Grammar> Minimize<G> for Handle {
-    fn minimize<'a, A: Allocator + Copy, B: Allocator>(
+impl<G: Grammar> Walk<G> for Handle {
+    fn walk<'a, A: Allocator + Copy, E: Effect>(
         bytes: &'a [u8],
         alloc: A,
-        sink: &mut Vec<u8, B>,
+        effect: &mut E,
     ) -> Result<&'a [u8], DecodeError> {
-        minimize_value::<Handle, A, G, _>(bytes, alloc, sink)
+        walk_value::<Handle, A, G, _>(bytes, alloc, effect)
     }
 }

@@ -14,8 +14,8 @@ ghost use Rattle.wasm_base.specs.declared.fault.ReadFault.TheVariants.{Memory};
 use std::alloc::Allocator;
 use std::default::Default;
 use wasm_base::{
-    Canonical, DecodeError, Encode, Grammar, Layout, Minimize, ReadFault, Readable, Result,
-    minimize_value, read_optional,
+    Canonical, DecodeError, Effect, Encode, Grammar, Layout, ReadFault, Readable, Result, Walk,
+    walk_value, read_optional,
 };
 
 /// The index of a lane of a vector.
@@ -336,13 +336,13 @@ impl Canonical for MemArg {
     fn canonical() {}
 }
 
-impl<G: Grammar> Minimize<G> for MemArg {
+impl<G: Grammar> Walk<G> for MemArg {
     #[inline]
-    fn minimize<'a, A: Allocator + Copy, B: Allocator>(
+    fn walk<'a, A: Allocator + Copy, E: Effect>(
         bytes: &'a [u8],
         alloc: A,
-        sink: &mut Vec<u8, B>,
+        effect: &mut E,
     ) -> Result<&'a [u8], DecodeError> {
-        minimize_value::<MemArg, A, G, _>(bytes, alloc, sink)
+        walk_value::<MemArg, A, G, _>(bytes, alloc, effect)
     }
 }
