@@ -98,7 +98,7 @@ module _ {E X Y : Type 0} {seen : E → List ℕ → Type 0} {w : Grammar} {byte
   tagged_walks h g = mapped_walks (λ p. p.1) (then_walks h g)
 
 module _ {E X : Type 0} {seen : E → List ℕ → Type 0} {w : Grammar} {b : ℕ} {bytes behind rest : List ℕ} {old middle new : E} (h : Decodes byte (padded_of w) bytes b behind) (a : Takes seen (b ∷ []) old middle) where
-  byte_then : (G : ℕ → Format X) → Walks seen w (G b) behind rest middle new → Walks seen w (tagged byte G) bytes rest old new
+  pub byte_then : (G : ℕ → Format X) → Walks seen w (G b) behind rest middle new → Walks seen w (tagged byte G) bytes rest old new
   byte_then G m =
       let first : Walks seen w byte bytes behind old middle = record { value = b; decoded = h; encoding = b ∷ []; encodes = refl; taken = a } in
       mapped_walks (λ p. p.1) (then_walks {F = byte} {G = G} first m)

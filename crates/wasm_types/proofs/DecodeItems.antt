@@ -49,13 +49,6 @@ final_list_empty w xs r h is f z = record {
       no_prefix w p.0 p.1 r is f (ap length (sym same.0) ∙ z) g.encodes.1;
 }
 
--- The supertypes were skipped, and not kept.
-pub final_skipped : (w : Grammar) {bytes middle rest : List ℕ} (xs : List ℕ) (x : Composite) → Decodes (vec u32) (padded_of w) bytes xs middle → HasFinalPrefix w (xs, x) → Decodes composite_type (padded_of w) middle x rest → Decodes (such (HasFinalPrefix w) supertypes_and) (padded_of w) bytes (xs, x) rest
-final_skipped w xs x h p g = such_decodes (HasFinalPrefix w) (then_decodes h g) p
-
-pub final_empty : (w : Grammar) {bytes middle : List ℕ} (xs : List ℕ) (r : Bool) → Decodes (vec u32) (padded_of w) bytes xs middle → r ≡ is_admitted w → r ≡ false → length xs ≡ 0 → Rejects (such (HasFinalPrefix w) supertypes_and) (padded_of w) bytes
-final_empty w {bytes = bytes} {middle = middle} xs r h is f z = final_list_empty w xs r (subst (λ ys. Decodes (vec u32) (padded_of w) bytes ys middle) (sym (map-id xs)) h) is f z
-
 pub final_list_none : (w : Grammar) {bytes : List ℕ} → Rejects (vec u32) (padded_of w) bytes → Rejects (such (HasFinalPrefix w) supertypes_and) (padded_of w) bytes
 final_list_none w none = such_none (HasFinalPrefix w) (supertypes_none none)
 

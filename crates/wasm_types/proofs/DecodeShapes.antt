@@ -68,9 +68,6 @@ module _ {X : Type 0} (tag : ℕ) (F : ℕ → Format X) (here : with_index tag 
             none.none (p.0, parts.2.encodes.0.0) inner.0 (then_decodes parts.1 inner.1);
       }
 
-  pub no_index_decodes : {m : Mode} {b : ℕ} {x : X} {bytes rest : List ℕ} → b ≢ tag → Decodes (F b) m bytes x rest → Decodes (with_index tag F b) m bytes (None, x) rest
-  no_index_decodes p h = at_other ((tag, mapped given_index (pair u32 (tagged byte F))) ∷ []) (λ c. mapped no_index (F c)) (p, tt) (mapped_decodes no_index h)
-
   pub no_index_none : {m : Mode} {b : ℕ} {bytes : List ℕ} → b ≢ tag → Rejects (F b) m bytes → Rejects (with_index tag F b) m bytes
   no_index_none p none = not_other ((tag, mapped given_index (pair u32 (tagged byte F))) ∷ []) (λ c. mapped no_index (F c)) (p, tt) (mapped_rejects no_index none)
 

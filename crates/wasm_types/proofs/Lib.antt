@@ -8,4 +8,4 @@ pub mod DecodeFields
 pub mod DecodeShapes
 pub mod DecodeItems
 pub mod MinimalTypes
-pub mod MinimizeTypes
+pub mod WalkTypes

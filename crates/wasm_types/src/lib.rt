@@ -1,5 +1,5 @@
 //! The type section of a module, by the core specification, "Binary Format", "Types" and "Type
-//! Section": its builder, its reader and its minimizer.
+//! Section": its builder, its reader and the walk over its types.
 //!
 //! The reader is exact: `Ok` holds the items that the bytes encode in its grammar, and any error
 //! but `ReadFault::Memory` means that the bytes encode no such items.
@@ -8,11 +8,10 @@
 mod fields;
 mod items;
 pub mod laws;
-mod minimize;
 mod shapes;
-mod skip;
 mod type_section;
 mod types;
+mod walk;
 
 pub use items::{SubItem, TypeEntry};
 pub use type_section::{CoreTypeEncoder, TypeItems, TypeSection, append_types, read_types};
