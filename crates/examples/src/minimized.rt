@@ -13,7 +13,7 @@ ghost use Rattle.wasm_reader.specs.Kinds.{Contents, content};
 ghost use Rattle.wasm_reader.specs.Outlines.{section_kind_of};
 
 use std::alloc::Allocator;
-use wasm_base::{DecodeError, Minimize, RefType, Standard};
+use wasm_base::{DecodeError, RefType, Standard, Walk};
 use wasm_code::shorten_body;
 use wasm_reader::{ReadError, Section};
 
@@ -27,7 +27,7 @@ pub fn one_byte_reference<A: Allocator + Copy>(
     ensures one { OnOk result ((ty : AbstractHeapType) (rest : List ℕ) → Decodes ref_type standard bytes.now (nullable_to (Abstract false ty)) rest → sink.new.items ≡ sink.old.items ++ abstract_code ty ∷ []) }
     ensures accepted { IfErr result (λ e. e.cause ≢ Memory → (r : Reference) (rest : List ℕ) → Decodes ref_type standard bytes.now r rest → ⊥) }
 {
-    let _rest = <RefType as Minimize<Standard>>::minimize(bytes, alloc, sink)?;
+    let _rest = <RefType as Walk<Standard>>::walk(bytes, alloc, sink)?;
     Ok(())
 }
 

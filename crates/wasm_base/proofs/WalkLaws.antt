@@ -3,7 +3,7 @@
 use Rattle.wasm_base.proofs.Std.{◌≡◌, ◌≢◌, map-id, ℕ, ◌+◌, List, [], ◌∷◌, ◌++◌, length, refl, sym, ap, subst, ◌∙◌, append_assoc, append-nil, arith}
 use Rattle.std.proofs.lemmas.List.{length-append}
 use Rattle.wasm_base.specs.{Grammar, minimal_of, padded_of, Format, u32, byte, mapped, such, Then, pair, tagged, members, vec, Decodes, Grammars, Includes, both_grammars, HasEncodableSize, HasEncodings, size_prefixed, any_bytes, Unambiguous, EncodesMinimally, unsigned_encoding, size_prefixed_encoding, name}
-use Rattle.wasm_base.specs.Walks.{Takes, Keeps, IsIdle, TakesMinimal, Marks, IsMarked, Replaces, KeepsMarked, Walks, WalksMany, WalksWhole, EncodesIn}
+use Rattle.wasm_base.specs.Walks.{TakesBytes, Keeps, IsIdle, TakesMinimal, Marks, IsMarked, Replaces, KeepsMarked, Walks, WalksMany, WalksWhole, EncodesIn}
 use Rattle.wasm_base.proofs.DecodingSteps.{then_decodes, mapped_decodes, such_decodes, members_start, members_step, members_push, vec_decodes}
 use Rattle.wasm_base.proofs.DecodeSizePrefixed.{filled_decodes}
 use Rattle.wasm_base.proofs.DecodeWhole.{HasMembers, members_begun, members_continued, members_done, whole_decodes}
@@ -25,13 +25,13 @@ module _ {E : Type 0} (seen : E → List ℕ → Type 0) where
         (m.0 ++ n.0, subst (seen new) (append_assoc l m.0 n.0) n.1);
   }
 
-  pub take_nothing : (e : E) → Takes seen [] e e
+  pub take_nothing : (e : E) → TakesBytes seen [] e e
   take_nothing e = record { after = λ l h. subst (seen e) (sym (append-nil l)) h }
 
-  pub take_then : (s t : List ℕ) (old middle new : E) → Takes seen s old middle → Takes seen t middle new → Takes seen (s ++ t) old new
+  pub take_then : (s t : List ℕ) (old middle new : E) → TakesBytes seen s old middle → TakesBytes seen t middle new → TakesBytes seen (s ++ t) old new
   take_then s t old middle new h g = record { after = λ l k. subst (seen new) (append_assoc l s t) (g.after (l ++ s) (h.after l k)) }
 
-  pub keep_taken : (s : List ℕ) (old new : E) → Takes seen s old new → Keeps seen old new
+  pub keep_taken : (s : List ℕ) (old new : E) → TakesBytes seen s old new → Keeps seen old new
   keep_taken s old new h = record { after = λ l k. (s, h.after l k) }
 
 pub ruleset keep_steps = (keep_same, keep_then, keep_taken)
@@ -40,13 +40,13 @@ pub ruleset keep_steps = (keep_same, keep_then, keep_taken)
 
 module _ {E X : Type 0} (seen : E → List ℕ → Type 0) (w : Grammar) (F : Format X) where
   -- The effect takes a minimal encoding of the decoded value.
-  abbrev pub walked_as : (x : X) (bytes rest encoding : List ℕ) (old new : E) → Decodes F (padded_of w) bytes x rest → F (minimal_of w) encoding x → Takes seen encoding old new → Walks seen w F bytes rest old new
+  abbrev pub walked_as : (x : X) (bytes rest encoding : List ℕ) (old new : E) → Decodes F (padded_of w) bytes x rest → F (minimal_of w) encoding x → TakesBytes seen encoding old new → Walks seen w F bytes rest old new
   walked_as x bytes rest encoding old new h e t = record { value = x; decoded = h; encoding = encoding; encodes = e; taken = t }
 
-  pub value_walks : {T : Type 0} (view : T → X) (encoding : T → List ℕ) (x : T) (bytes rest : List ℕ) (old new : E) → EncodesMinimally F view encoding → Decodes F (padded_of w) bytes (view x) rest → Takes seen (encoding x) old new → Walks seen w F bytes rest old new
+  pub value_walks : {T : Type 0} (view : T → X) (encoding : T → List ℕ) (x : T) (bytes rest : List ℕ) (old new : E) → EncodesMinimally F view encoding → Decodes F (padded_of w) bytes (view x) rest → TakesBytes seen (encoding x) old new → Walks seen w F bytes rest old new
   value_walks view encoding x bytes rest old new k h t = walked_as (view x) bytes rest (encoding x) old new h (k.minimal_in w h.front x h.encodes) t
 
-  pub value_walks_in : {T : Type 0} (view : T → X) (encoding : T → List ℕ) (x : T) (bytes rest : List ℕ) (old new : E) → EncodesIn w F view encoding → Decodes F (padded_of w) bytes (view x) rest → Takes seen (encoding x) old new → Walks seen w F bytes rest old new
+  pub value_walks_in : {T : Type 0} (view : T → X) (encoding : T → List ℕ) (x : T) (bytes rest : List ℕ) (old new : E) → EncodesIn w F view encoding → Decodes F (padded_of w) bytes (view x) rest → TakesBytes seen (encoding x) old new → Walks seen w F bytes rest old new
   value_walks_in view encoding x bytes rest old new k h t = walked_as (view x) bytes rest (encoding x) old new h (k.minimal_in h.front x h.encodes) t
 
   -- The effect takes the minimal encoding of the decoded value in both grammars.
@@ -61,13 +61,13 @@ module _ {E X : Type 0} (seen : E → List ℕ → Type 0) (w : Grammar) (F : Fo
       let m = unique.encodings.shorter w h.1.front h.0 h.1.encodes in
       walked_as h.0 bytes rest m.0 e e h.1 m.1 (idle.stays m.0 e)
 
-pub byte_walks : {E : Type 0} (seen : E → List ℕ → Type 0) (w : Grammar) (b : ℕ) (bytes rest : List ℕ) (old new : E) → Decodes byte (padded_of w) bytes b rest → Takes seen (b ∷ []) old new → Walks seen w byte bytes rest old new
+pub byte_walks : {E : Type 0} (seen : E → List ℕ → Type 0) (w : Grammar) (b : ℕ) (bytes rest : List ℕ) (old new : E) → Decodes byte (padded_of w) bytes b rest → TakesBytes seen (b ∷ []) old new → Walks seen w byte bytes rest old new
 byte_walks seen w b bytes rest old new h t = value_walks seen w byte (λ b. b) (λ b. b ∷ []) b bytes rest old new byte_canonical h t
 
-pub name_walks : {E : Type 0} (seen : E → List ℕ → Type 0) (w : Grammar) (n bytes rest : List ℕ) (old new : E) → Decodes name (padded_of w) bytes n rest → Takes seen (size_prefixed_encoding n) old new → Walks seen w name bytes rest old new
+pub name_walks : {E : Type 0} (seen : E → List ℕ → Type 0) (w : Grammar) (n bytes rest : List ℕ) (old new : E) → Decodes name (padded_of w) bytes n rest → TakesBytes seen (size_prefixed_encoding n) old new → Walks seen w name bytes rest old new
 name_walks seen w n bytes rest old new h t = value_walks seen w name (λ n. n) size_prefixed_encoding n bytes rest old new name_canonical h t
 
-pub bytes_walks : {E : Type 0} (seen : E → List ℕ → Type 0) (w : Grammar) (content bytes rest : List ℕ) (old new : E) → Decodes (size_prefixed any_bytes) (padded_of w) bytes content rest → Takes seen (size_prefixed_encoding content) old new → Walks seen w (size_prefixed any_bytes) bytes rest old new
+pub bytes_walks : {E : Type 0} (seen : E → List ℕ → Type 0) (w : Grammar) (content bytes rest : List ℕ) (old new : E) → Decodes (size_prefixed any_bytes) (padded_of w) bytes content rest → TakesBytes seen (size_prefixed_encoding content) old new → Walks seen w (size_prefixed any_bytes) bytes rest old new
 bytes_walks seen w content bytes rest old new h t = value_walks seen w (size_prefixed any_bytes) (λ b. b) size_prefixed_encoding content bytes rest old new bytes_canonical h t
 
 -- ---- combinators
@@ -97,7 +97,7 @@ module _ {E X Y : Type 0} {seen : E → List ℕ → Type 0} {w : Grammar} {byte
   abbrev pub tagged_walks : {F : Format X} {G : X → Format Y} (h : Walks seen w F bytes behind old middle) → Walks seen w (G h.value) behind rest middle new → Walks seen w (tagged F G) bytes rest old new
   tagged_walks h g = mapped_walks (λ p. p.1) (then_walks h g)
 
-module _ {E X : Type 0} {seen : E → List ℕ → Type 0} {w : Grammar} {b : ℕ} {bytes behind rest : List ℕ} {old middle new : E} (h : Decodes byte (padded_of w) bytes b behind) (a : Takes seen (b ∷ []) old middle) where
+module _ {E X : Type 0} {seen : E → List ℕ → Type 0} {w : Grammar} {b : ℕ} {bytes behind rest : List ℕ} {old middle new : E} (h : Decodes byte (padded_of w) bytes b behind) (a : TakesBytes seen (b ∷ []) old middle) where
   pub byte_then : (G : ℕ → Format X) → Walks seen w (G b) behind rest middle new → Walks seen w (tagged byte G) bytes rest old new
   byte_then G m =
       let first : Walks seen w byte bytes behind old middle = record { value = b; decoded = h; encoding = b ∷ []; encodes = refl; taken = a } in
@@ -117,7 +117,7 @@ pub record HasWalked {E X : Type 0} (seen : E → List ℕ → Type 0) (w : Gram
   pub counted : length values ≡ count
   pub encoding : List ℕ
   pub encodes : members F (minimal_of w) encoding values
-  pub taken : Takes seen encoding old new
+  pub taken : TakesBytes seen encoding old new
 
 module _ {E X : Type 0} {seen : E → List ℕ → Type 0} {w : Grammar} (F : Format X) where
   pub walked_start : (start : List ℕ) (old : E) → HasWalked seen w F start 0 start old old
@@ -137,7 +137,7 @@ module _ {E X : Type 0} {seen : E → List ℕ → Type 0} {w : Grammar} (F : Fo
   walked_skip h = record { values = h.values; read = h.read; counted = h.counted }
 
   -- The count was decoded and taken before the members.
-  pub walked_vec : {bytes start rest : List ℕ} {old middle new : E} {count : ℕ} (n : ℕ) → Decodes u32 (padded_of w) bytes n start → Takes seen (unsigned_encoding n) old middle → HasWalked seen w F start count rest middle new → count ≡ n → WalksMany seen w F bytes n rest old new
+  pub walked_vec : {bytes start rest : List ℕ} {old middle new : E} {count : ℕ} (n : ℕ) → Decodes u32 (padded_of w) bytes n start → TakesBytes seen (unsigned_encoding n) old middle → HasWalked seen w F start count rest middle new → count ≡ n → WalksMany seen w F bytes n rest old new
   walked_vec {old = old} {middle = middle} {new = new} n h e m all =
       let same : length m.values ≡ n = m.counted ∙ all in
       let count : u32 (minimal_of w) (unsigned_encoding n) n = u32_canonical.minimal_in w h.front n h.encodes in
@@ -195,7 +195,7 @@ pub record HasWalkedMembers {E X : Type 0} (seen : E → List ℕ → Type 0) (w
   pub read : HasMembers F (padded_of w) (λ x. x) bytes values rest
   pub encoding : List ℕ
   pub encodes : members F (minimal_of w) encoding values
-  pub taken : Takes seen encoding old new
+  pub taken : TakesBytes seen encoding old new
 
 module _ {E X : Type 0} {seen : E → List ℕ → Type 0} {w : Grammar} (F : Format X) (bytes : List ℕ) where
   pub walked_begun : (old : E) → HasWalkedMembers seen w F bytes bytes old old

@@ -8,7 +8,7 @@ use Rattle.wasm_base.specs.Decoding.{Decodes}
 use Rattle.wasm_base.specs.Minimal.{Grammars, Includes}
 
 -- The state takes these bytes.
-pub record Takes {E : Type 0} (seen : E → List ℕ → Type 0) (bytes : List ℕ) (old new : E) : Type 0 where
+pub record TakesBytes {E : Type 0} (seen : E → List ℕ → Type 0) (bytes : List ℕ) (old new : E) : Type 0 where
   pub after : (l : List ℕ) → seen old l → seen new (l ++ bytes)
 
 -- The state takes some bytes, so all earlier ones stay.
@@ -17,12 +17,12 @@ pub record Keeps {E : Type 0} (seen : E → List ℕ → Type 0) (old new : E) :
 
 -- A state that does not change has taken any bytes.
 pub record IsIdle {E : Type 0} (seen : E → List ℕ → Type 0) : Type 0 where
-  pub stays : (bytes : List ℕ) (e : E) → Takes seen bytes e e
+  pub stays : (bytes : List ℕ) (e : E) → TakesBytes seen bytes e e
 
 -- In each of these grammars in which some bytes decode to `x`, the state takes the minimal encoding
 -- of `x`.
 pub record TakesMinimal {E X : Type 0} (seen : E → List ℕ → Type 0) (k : Grammars) (F : Format X) (x : X) (old new : E) : Type 0 where
-  pub encoded : (w : Grammar) → Includes k w → (s : List ℕ) → F (padded_of w) s x → (encoding : List ℕ) × F (minimal_of w) encoding x × Takes seen encoding old new
+  pub encoded : (w : Grammar) → Includes k w → (s : List ℕ) → F (padded_of w) s x → (encoding : List ℕ) × F (minimal_of w) encoding x × TakesBytes seen encoding old new
 
 -- The number marks the end of all bytes that the state has taken.
 pub record Marks {E : Type 0} (seen : E → List ℕ → Type 0) (mark : ℕ → List ℕ → Type 0) (e : E) (n : ℕ) : Type 0 where
@@ -50,7 +50,7 @@ pub record Walks {E X : Type 0} (seen : E → List ℕ → Type 0) (w : Grammar)
   pub decoded : Decodes F (padded_of w) bytes value rest
   pub encoding : List ℕ
   pub encodes : F (minimal_of w) encoding value
-  pub taken : Takes seen encoding old new
+  pub taken : TakesBytes seen encoding old new
 
 -- The same for a vector of this many members.
 pub record WalksMany {E X : Type 0} (seen : E → List ℕ → Type 0) (w : Grammar) (F : Format X) (bytes : List ℕ) (count : ℕ) (rest : List ℕ) (old new : E) : Type 0 where
@@ -59,7 +59,7 @@ pub record WalksMany {E X : Type 0} (seen : E → List ℕ → Type 0) (w : Gram
   pub counted : count ≡ length value
   pub encoding : List ℕ
   pub encodes : vec F (minimal_of w) encoding value
-  pub taken : Takes seen encoding old new
+  pub taken : TakesBytes seen encoding old new
 
 -- The same for a value that occupies all of the bytes.
 pub record WalksWhole {E X : Type 0} (seen : E → List ℕ → Type 0) (w : Grammar) (F : Format X) (bytes : List ℕ) (old new : E) : Type 0 where
@@ -67,7 +67,7 @@ pub record WalksWhole {E X : Type 0} (seen : E → List ℕ → Type 0) (w : Gra
   pub decoded : F (padded_of w) bytes value
   pub encoding : List ℕ
   pub encodes : F (minimal_of w) encoding value
-  pub taken : Takes seen encoding old new
+  pub taken : TakesBytes seen encoding old new
 
 -- Whatever bytes a value decodes from in this grammar, its encoding is the minimal one there.
 pub record EncodesIn {T X : Type 0} (w : Grammar) (F : Format X) (view : T → X) (encoding : T → List ℕ) : Type 0 where

@@ -2,7 +2,7 @@
 ghost use Rattle.std.specs.Prelude.{◌≡◌, ◌++◌, ℕ, List, length, OnOk, OnErr, refl, [], true, ⊤};
 ghost use Rattle.wasm_base.specs.Encodings.{size_prefixed_encoding};
 ghost use Rattle.wasm_base.specs.Minimal.{IsFrontOf};
-ghost use Rattle.wasm_base.specs.Walks.{EncodesIn, IsIdle, IsMarked, Keeps, KeepsMarked, Marks, Replaces, Takes, TakesMinimal};
+ghost use Rattle.wasm_base.specs.Walks.{EncodesIn, IsIdle, IsMarked, Keeps, KeepsMarked, Marks, Replaces, TakesBytes, TakesMinimal};
 
 use crate::encode::Encode;
 use crate::frames::prefix_size_since;
@@ -43,19 +43,19 @@ pub trait Effect {
     // The effect has taken some bytes.
     ghost some: { (e : Self) → (l : List ℕ) × seen e l };
 
-    /// Takes the encoding of the value.
+    /// TakesBytes the encoding of the value.
     fn put<T: Encode>(&mut self, value: &T) -> Result<()>
-        ensures ok { OnOk result (Takes seen (T.encoding value.now) self.old self.new) }
+        ensures ok { OnOk result (TakesBytes seen (T.encoding value.now) self.old self.new) }
         ensures err { OnErr result may_fail }
         ensures front { Keeps seen self.old self.new };
 
-    /// Takes the minimal encoding of the value in the grammar `G`.
+    /// TakesBytes the minimal encoding of the value in the grammar `G`.
     fn put_in<G: Grammar, T: EncodeIn<G>>(&mut self, value: &T) -> Result<()>
-        ensures ok { OnOk result (Takes seen (T.encoding_in value.now) self.old self.new) }
+        ensures ok { OnOk result (TakesBytes seen (T.encoding_in value.now) self.old self.new) }
         ensures err { OnErr result may_fail }
         ensures front { Keeps seen self.old self.new };
 
-    /// Takes the minimal encoding of the decoded value.
+    /// TakesBytes the minimal encoding of the decoded value.
     fn put_minimal<T: Shorten>(&mut self, value: &T) -> Result<()>
         ensures ok { OnOk result (TakesMinimal seen T.grammars T.format (T.view value.now) self.old self.new) }
         ensures err { OnErr result may_fail }

@@ -1,11 +1,11 @@
 -- This file proves walks over expressions and bodies.
 use Rattle.wasm_base.proofs.Words.{◌≡◌, ◌≢◌, ℕ, List, [], ◌∷◌, ◌++◌, length, refl, sym, subst, map-id, append-nil, Grammar, builders, padded, minimal_of, padded_of, members, pair, vec, such, u32, val_type, Decodes, AppendsMinimal, built_appended, builders_alone, such_unambiguous}
-use Rattle.wasm_base.specs.Walks.{Takes, Walks, WalksWhole}
+use Rattle.wasm_base.specs.Minimal.{MinimizesWhole}
+use Rattle.wasm_base.specs.Walks.{TakesBytes, Walks, WalksWhole}
 use Rattle.wasm_base.proofs.Words.{HasEncodableSize, size_prefixed, size_prefixed_encoding}
 use Rattle.wasm_base.proofs.Words.{drop, take, size_prefixed_appended}
 use Rattle.wasm_base.proofs.DecodingSteps.{members_push}
 use Rattle.wasm_base.proofs.WalkLaws.{take_nothing, take_then}
-use Rattle.wasm_base.proofs.Std.{Vec}
 use Rattle.wasm_insn.proofs.Words.{Plain, instruction, table, unique}
 use Rattle.wasm_code.specs.{IsNoEnd, expression, Body, body, body_of}
 use Rattle.wasm_code.proofs.DecodeLists.{HasEnded, ended_start, ended_step, ended_done, not_end, body_fills}
@@ -20,7 +20,7 @@ pub record HasWalkedCode {E : Type 0} (seen : E → List ℕ → Type 0) (w : Gr
   pub read : HasEnded 0x0B (such IsNoEnd (instruction table)) (padded_of w) (λ i. i) bytes values rest
   pub encoding : List ℕ
   pub encodes : members (such IsNoEnd (instruction table)) (minimal_of w) encoding values
-  pub taken : Takes seen encoding old new
+  pub taken : TakesBytes seen encoding old new
 
 module _ {E : Type 0} {seen : E → List ℕ → Type 0} {w : Grammar} (bytes : List ℕ) where
   pub code_begun : (old : E) → HasWalkedCode seen w bytes bytes old old
@@ -37,7 +37,7 @@ module _ {E : Type 0} {seen : E → List ℕ → Type 0} {w : Grammar} (bytes : 
         taken = take_then seen h.encoding g.encoding old middle new h.taken g.taken;
       }
 
-  pub code_done : (rest after : List ℕ) (old middle new : E) → HasWalkedCode seen w bytes rest old middle → rest ≡ 0x0B ∷ after → Takes seen (0x0B ∷ []) middle new → Walks seen w expression bytes after old new
+  pub code_done : (rest after : List ℕ) (old middle new : E) → HasWalkedCode seen w bytes rest old middle → rest ≡ 0x0B ∷ after → TakesBytes seen (0x0B ∷ []) middle new → Walks seen w expression bytes after old new
   code_done rest after old middle new h e is = record {
     value = h.values;
     decoded = subst (λ z. Decodes expression (padded_of w) bytes z after) (map-id h.values) (ended_done 0x0B (such IsNoEnd (instruction table)) (λ i. i) bytes rest after h.values h.read e);
@@ -59,9 +59,9 @@ body_walks {seen = seen} w bytes after old middle new h g = record {
 }
 
 -- In the builders' grammar the encoding is that of the decoded body.
-pub body_shortened : {A : Type 0} (bytes : List ℕ) (old middle : Vec ℕ A) (new : List ℕ) (start : ℕ) → start ≡ length old.items → WalksWhole (λ e l. e.items ≡ l) builders body bytes old middle → HasEncodableSize (drop start middle.items) → new ≡ take start middle.items ++ size_prefixed_encoding (drop start middle.items) → (x : Body) × body padded bytes x × AppendsMinimal builders_alone (size_prefixed body) x old.items new
+pub body_shortened : (bytes old middle new : List ℕ) (start : ℕ) → start ≡ length old → MinimizesWhole builders body bytes old middle → HasEncodableSize (drop start middle) → new ≡ take start middle ++ size_prefixed_encoding (drop start middle) → (x : Body) × body padded bytes x × AppendsMinimal builders_alone (size_prefixed body) x old new
 body_shortened bytes old middle new start e h encodable is = (
   h.value,
   h.decoded,
-  size_prefixed_appended body h.value start old.items middle.items new e (built_appended body h.value h.encoding old.items middle.items (λ s k. h.encodes) (h.taken.after old.items refl)) encodable is,
+  size_prefixed_appended body h.value start old middle new e (built_appended body h.value h.encoding old middle (λ s k. h.encodes) h.appended) encodable is,
 )

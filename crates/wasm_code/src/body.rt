@@ -7,7 +7,7 @@ ghost use Rattle.wasm_insn.specs.Plain.{instruction, Plain as PlainInstruction};
 ghost use Rattle.wasm_insn.specs.Table.{table};
 ghost use Rattle.wasm_code.specs.Bodies.{Body as BodyModel, body};
 ghost use Rattle.wasm_base.specs.declared.refused.Refused.TheVariants.{TooLong};
-ghost use Rattle.wasm_base.specs.Minimal.{AppendsMinimal, IsFrontOf, HasEncoding, builders_alone};
+ghost use Rattle.wasm_base.specs.Minimal.{AppendsMinimal, IsFrontOf, HasEncoding, MinimizesWhole, builders_alone};
 ghost use Rattle.wasm_base.specs.Walks.{Keeps, WalksWhole};
 ghost use Rattle.wasm_base.specs.declared.fault.ReadFault.TheVariants.{Memory};
 ghost use Rattle.wasm_insn.specs.Views.{plain_view};
@@ -141,9 +141,24 @@ fn walk_content<'a, A: Allocator + Copy, G: Grammar, E: Effect>(
     walk_to_end::<Plain<A>, A, G, _>(rest, alloc, effect)
 }
 
+/// Appends the minimal encoding of the content of a body, without its size prefix. After an error,
+/// part of it may follow the old bytes of the sink.
+#[tactic(auto, using(wasm_base::proofs::EffectLaws::appending))]
+fn minimize_content<A: Allocator + Copy, G: Grammar, B: Allocator>(
+    bytes: &[u8],
+    alloc: A,
+    sink: &mut Vec<u8, B>,
+) -> Result<(), DecodeError>
+    ensures found { OnOk result (MinimizesWhole G.grammar body bytes.now sink.old.items sink.new.items) }
+    ensures none { IfErr result (λ e. e.cause ≢ Memory → RejectsWhole body (padded_of G.grammar) bytes.now) }
+    ensures front { IsFrontOf sink.old.items sink.new.items }
+{
+    walk_content::<A, G, _>(bytes, alloc, sink)
+}
+
 /// Appends the minimal encoding of a body with its size prefix. After an error, part of it may
 /// follow the old bytes of the sink.
-#[tactic(auto, using(wasm_base::proofs::MinimalEncodings::front_steps, wasm_base::proofs::EffectLaws::front_kept))]
+#[tactic(auto, using(wasm_base::proofs::MinimalEncodings::front_steps))]
 fn write_body<A: Allocator + Copy, B: Allocator>(
     bytes: &[u8],
     alloc: A,
@@ -154,7 +169,7 @@ fn write_body<A: Allocator + Copy, B: Allocator>(
     ensures front { IsFrontOf sink.old.items sink.new.items }
 {
     let start = sink.len();
-    walk_content::<A, Padded, _>(bytes, alloc, sink)?;
+    minimize_content::<A, Padded, _>(bytes, alloc, sink)?;
     prefix_size_since(sink, start)?;
     Ok(())
 }

@@ -3,7 +3,7 @@
 use Rattle.wasm_base.proofs.Words.{Grammar, minimal, padded_of, ◌≡◌, ◌≢◌, ℕ, ◌+◌, ◌<◌, ◌≤◌, List, [], ◌∷◌, ◌++◌, length, get_or, take, Some, refl, sym, ap, subst, ◌∙◌, append_assoc, append-nil, take_more, take_all}
 use Rattle.wasm_base.proofs.Words.{Mode, Decodes}
 use Rattle.wasm_base.specs.Numbers.{minimal_of}
-use Rattle.wasm_base.specs.Walks.{Takes, Walks}
+use Rattle.wasm_base.specs.Walks.{TakesBytes, Walks}
 use Rattle.wasm_base.proofs.GrammarLaws.{AreMinimalInBoth, minimal_in, u32_both, s32_both, s64_both, little_endian_both, vector_both, byte_both, raw_bytes_both, fixed_both, such_both, when_both, mapped_both, tagged_both, vec_both}
 use Rattle.wasm_base.proofs.WalkLaws.{walked_as, mapped_walks, then_walks, take_nothing, take_then}
 use Rattle.wasm_base.proofs.TightTypes.{heap_both}
@@ -42,7 +42,7 @@ part_both parts.Handles b t = mapped_both handles (vec_both handle_both)
 part_both parts.Flag b t = mapped_both flag (such_both (λ b. b < 4) byte_both)
 
 -- A decoded argument is encoded again.
-pub rare_walks : {E : Type 0} (seen : E → List ℕ → Type 0) (w : Grammar) (p : Part) (x : Argument) (bytes rest : List ℕ) (old new : E) → p ≢ parts.Block → p ≢ parts.Types → Decodes (part p) (padded_of w) bytes x rest → Takes seen (argument_encoding x) old new → Walks seen w (part p) bytes rest old new
+pub rare_walks : {E : Type 0} (seen : E → List ℕ → Type 0) (w : Grammar) (p : Part) (x : Argument) (bytes rest : List ℕ) (old new : E) → p ≢ parts.Block → p ≢ parts.Types → Decodes (part p) (padded_of w) bytes x rest → TakesBytes seen (argument_encoding x) old new → Walks seen w (part p) bytes rest old new
 rare_walks seen w p x bytes rest old new b t h e =
     let is = argument_is p (padded_of w) h.front x h.encodes in
     let encodes : part p minimal (argument_encoding x) x = subst (λ q. part q minimal (argument_encoding x) x) is.2 (subst (λ y. part (part_of x) minimal (argument_encoding x) y) is.1 (argument_encodes x is.0)) in
@@ -67,7 +67,7 @@ pub record HasWalkedArguments {E : Type 0} (seen : E → List ℕ → Type 0) (w
   pub read : HasArguments ps (padded_of w) k bytes values rest
   pub encoding : List ℕ
   pub encodes : arguments (take k ps) (minimal_of w) encoding values
-  pub taken : Takes seen encoding old new
+  pub taken : TakesBytes seen encoding old new
 
 module _ {E : Type 0} {seen : E → List ℕ → Type 0} {w : Grammar} (ps : List Part) (bytes : List ℕ) where
   pub walked_arguments_start : (old : E) → HasWalkedArguments seen w ps 0 bytes bytes old old
@@ -116,7 +116,7 @@ opcode_both = tagged_both byte_both after
     after : (b : ℕ) → AreMinimalInBoth (op_after b)
     after b = when_both (is_prefix b) (mapped_both (Prefixed b) u32_both) (fixed_both [] (Byte b))
 
-pub instruction_walks : {E : Type 0} (seen : E → List ℕ → Type 0) (w : Grammar) (op : Op) (shape : Shape) (bytes rest last : List ℕ) (old middle new : E) → Decodes opcode (padded_of w) bytes op rest → shape_of table op ≡ Some shape → Takes seen (op_encoding op) old middle → Walks seen w (arguments (parts_of shape)) rest last middle new
+pub instruction_walks : {E : Type 0} (seen : E → List ℕ → Type 0) (w : Grammar) (op : Op) (shape : Shape) (bytes rest last : List ℕ) (old middle new : E) → Decodes opcode (padded_of w) bytes op rest → shape_of table op ≡ Some shape → TakesBytes seen (op_encoding op) old middle → Walks seen w (arguments (parts_of shape)) rest last middle new
     → Walks seen w (instruction table) bytes last old new
 instruction_walks seen w op shape bytes rest last old middle new h e m g =
     let first = walked_as seen w opcode op bytes rest (op_encoding op) old middle h (minimal_in w op (op_encoding op) opcode_both (opcode_encodes op (opcode_is (padded_of w) h.front op h.encodes))) m in

@@ -19,7 +19,7 @@ use Rattle.wasm_sections.specs.Exports.{kind_code}
 use Rattle.wasm_sections.specs.declared.export.Export.{Export}
 use Rattle.wasm_sections.specs.declared.memory.MemoryType.{MemoryType}
 use Rattle.wasm_sections.specs.declared.tag.TagType.{TagType}
-use Rattle.wasm_sections.proofs.MinimizeItems.{export_canonical, memory_canonical, tag_canonical}
+use Rattle.wasm_sections.proofs.WalkItems.{export_canonical, memory_canonical, tag_canonical}
 use Rattle.wasm_types.proofs.Words.{type_item, types_section}
 use Rattle.wasm_custom.proofs.Words.{core_name, modules_name, instances_name, core_payload, modules_payload, instances_payload, stack_name, stack_payload, hints_name, hints_payload, linking_name}
 use Rattle.wasm_custom.proofs.Words.{linking_payload, name_name, name_payload, producers_name, producers_payload, core_whole, modules_section, instances_section, stack_whole, hints_section}

@@ -7,7 +7,7 @@ use Rattle.wasm_base.proofs.Words.{◌≡◌, ◌≢◌, ◌↔◌, ℕ, ◌+◌
 use Rattle.wasm_base.proofs.Words.{Format, u32, mapped, vec, size_prefixed, Result, OnOk, Unambiguous, IsIncludedIn, size_prefixed_unambiguous, decodes_same, AppendsMinimal, on_ok, u32_unambiguous}
 use Rattle.wasm_base.specs.Faults.{Failure}
 use Rattle.wasm_base.specs.Minimal.{Includes, both_grammars, Minimizes, MinimizesWhole}
-use Rattle.wasm_base.proofs.MinimizeLaws.{decoded_whole_minimizes}
+use Rattle.wasm_base.proofs.EffectLaws.{decoded_whole_minimizes}
 use Rattle.std.proofs.lemmas.List.{length-append}
 use Rattle.wasm_code.proofs.Words.{body}
 use Rattle.wasm_sections.proofs.Words.{data_item, element, export, global_item, import_format, memory_type, table_item, tag_type}

@@ -10,21 +10,21 @@ ghost use Rattle.wasm_reader.specs.Outlines.{section_of, section_kind_of};
 use crate::kinds::{SectionKind, read_content, read_number};
 use crate::standing::Standing;
 use std::alloc::Allocator;
-use wasm_base::{DecodeError, Grammar, ReadFault, Skip, Standard, skip_many};
+use wasm_base::{DecodeError, Grammar, ReadFault, Standard, Walk, skip_vector};
 use wasm_custom::{
     check_dylink, check_features, check_hints, check_instances, check_links, check_modules,
     check_names, check_producers, check_relocations, check_stack,
 };
 
 /// Skips the members of a vector that occupies all of the bytes, and returns their number.
-pub(crate) fn count_skipped<'a, P: Skip<'a, A, G>, A: Allocator + Copy, G: Grammar>(
+pub(crate) fn count_skipped<'a, P: Walk<G>, A: Allocator + Copy, G: Grammar>(
     bytes: &'a [u8],
     alloc: A,
 ) -> Result<Option<u32>, DecodeError>
     ensures found { IfOk result (λ count. (xs : List P.Value) × vec P.format (padded_of G.grammar) bytes.now xs × (count ≡ Some (length xs))) }
     ensures none { IfErr result (λ e. e.cause ≢ Memory → RejectsWhole (vec P.format) (padded_of G.grammar) bytes.now) }
 {
-    let (count, rest) = skip_many::<'a, P, A, G>(bytes, alloc)?;
+    let (count, rest) = skip_vector::<P, A, G>(bytes, alloc)?;
     P::laws();
     if rest.is_empty() {
         Ok(Some(count))

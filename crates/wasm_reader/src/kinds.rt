@@ -10,7 +10,7 @@ ghost use Rattle.wasm_reader.specs.declared.kinds.SectionKind.TheVariants as kin
 
 use crate::counts::count_skipped;
 use std::alloc::{Allocator, Global};
-use wasm_base::{DecodeError, Dropped, Encode, Grammar, Readable, Result, Shorten, read_whole};
+use wasm_base::{DecodeError, Encode, Grammar, Readable, Result, Shorten, read_whole};
 use wasm_code::Body;
 use wasm_custom::{
     BranchHint, CoreFrame, DylinkItem, FeaturePrefix, LinkItem, NameItem, Relocation,
@@ -331,13 +331,13 @@ pub(crate) fn read_number<'a, A: Allocator + Copy, G: Grammar>(
         SectionKind::Bodies => count_skipped::<'a, Body<A>, A, G>(bytes, alloc),
         SectionKind::Segments => count_skipped::<'a, Segment<'a, A>, A, G>(bytes, alloc),
         SectionKind::Elements => count_skipped::<'a, ElementItem<A>, A, G>(bytes, alloc),
-        SectionKind::Exports => count_skipped::<'a, Dropped<Export<'a>>, A, G>(bytes, alloc),
-        SectionKind::Functions => count_skipped::<'a, Dropped<u32>, A, G>(bytes, alloc),
+        SectionKind::Exports => count_skipped::<'a, Export<'a>, A, G>(bytes, alloc),
+        SectionKind::Functions => count_skipped::<'a, u32, A, G>(bytes, alloc),
         SectionKind::Globals => count_skipped::<'a, GlobalItem<A>, A, G>(bytes, alloc),
         SectionKind::Imports => count_skipped::<'a, Imports<'a, A>, A, G>(bytes, alloc),
-        SectionKind::Memories => count_skipped::<'a, Dropped<MemoryType>, A, G>(bytes, alloc),
+        SectionKind::Memories => count_skipped::<'a, MemoryType, A, G>(bytes, alloc),
         SectionKind::Tables => count_skipped::<'a, TableItem<A>, A, G>(bytes, alloc),
-        SectionKind::Tags => count_skipped::<'a, Dropped<TagType>, A, G>(bytes, alloc),
+        SectionKind::Tags => count_skipped::<'a, TagType, A, G>(bytes, alloc),
         SectionKind::Types => count_skipped::<'a, TypeEntry<A>, A, G>(bytes, alloc),
         SectionKind::DataCount | SectionKind::Start => {
             drop(read_content::<A, G>(kind, bytes, alloc)?);

@@ -11,7 +11,7 @@ ghost use Rattle.wasm_reader.specs.Sections.{section, Shortens, ShortensIn};
 use crate::kinds::{SectionKind, encode_items, read_content};
 use std::alloc::Allocator;
 use wasm_base::{
-    DecodeError, Grammar, Minimize, Padded, ReadFault, Readable, minimize_whole, prefix_size_since,
+    DecodeError, Grammar, Padded, ReadFault, Readable, minimize_whole, prefix_size_since,
 };
 use wasm_code::Body;
 use wasm_custom::{
@@ -77,7 +77,7 @@ pub(crate) fn minimize_content<A: Allocator + Copy, G: Grammar, B: Allocator>(
 }
 
 /// Minimizes the section at the front, without its id, and returns the remaining bytes.
-#[tactic(auto, using(wasm_base::proofs::MinimizeLaws::sized_minimizes, wasm_base::proofs::MinimalEncodings::front_steps))]
+#[tactic(auto, using(wasm_base::proofs::EffectLaws::sized_minimizes, wasm_base::proofs::MinimalEncodings::front_steps))]
 fn minimize_section<'a, A: Allocator + Copy, G: Grammar, B: Allocator>(
     kind: SectionKind,
     bytes: &'a [u8],

@@ -5,7 +5,7 @@ use Rattle.wasm_base.proofs.Words.{Grammar, builders, admitted, padded_of, minim
 use Rattle.wasm_base.proofs.Words.{HasEncodableSize, size_prefixed_encoding, unsigned_encoding, optional_encoding, ref_type, u32_encodes, u64_encodes, name_encodes, pair_encodes, optional_encodes, tagged_encodes, fixed_decodes}
 use Rattle.wasm_base.specs.Numbers.{minimal_of}
 use Rattle.wasm_base.specs.Minimal.{EncodesMinimally}
-use Rattle.wasm_base.specs.Walks.{Takes, Walks, EncodesIn}
+use Rattle.wasm_base.specs.Walks.{TakesBytes, Walks, EncodesIn}
 use Rattle.wasm_base.specs.Types.{ref_encoding_in, val_encoding_in}
 use Rattle.wasm_base.specs.Types.{FUNCREF}
 use Rattle.wasm_base.proofs.GrammarLaws.{AreMinimalInBoth, minimal_in, canonical_by, u32_canonical, u32_both, u64_both, byte_both, name_both, coded_both, mapped_both, pair_both, tagged_both, when_both, optional_both, impossible_both, vec_both}
@@ -77,7 +77,7 @@ abbrev fixed_walks : {E X : Type 0} {seen : E → List ℕ → Type 0} {w : Gram
 fixed_walks {seen = seen} v bytes old = record { value = v; decoded = fixed_decodes bytes v; encoding = []; encodes = (refl, refl); taken = take_nothing seen old }
 
 -- Fixed bytes, then a value.
-abbrev prefixed_walks : {E X : Type 0} {seen : E → List ℕ → Type 0} {w : Grammar} (front : List ℕ) {F : Format X} {bytes after rest : List ℕ} {old between new : E} → bytes ≡ front ++ after → Takes seen front old between → Walks seen w F after rest between new → Walks seen w (prefixed front F) bytes rest old new
+abbrev prefixed_walks : {E X : Type 0} {seen : E → List ℕ → Type 0} {w : Grammar} (front : List ℕ) {F : Format X} {bytes after rest : List ℕ} {old between new : E} → bytes ≡ front ++ after → TakesBytes seen front old between → Walks seen w F after rest between new → Walks seen w (prefixed front F) bytes rest old new
 prefixed_walks {seen = seen} front {F} {old = old} {between = between} {new = new} split e g = record {
   value = g.value;
   decoded = prefixed_decodes front F split g.decoded;
@@ -132,7 +132,7 @@ table_type_in w = record { minimal_in = λ s t h. table_encodes_in w t (table_is
 pub table_walks : {E : Type 0} {seen : E → List ℕ → Type 0} {w : Grammar} {bytes rest : List ℕ} {old new : E} → Walks seen w table_type bytes rest old new → Walks seen w table_item bytes rest old new
 table_walks {bytes = bytes} {rest = rest} h = record { value = without_init h.value; decoded = table_decodes bytes rest h.value h.decoded; encoding = h.encoding; encodes = inl (h.value, refl, h.encodes); taken = h.taken }
 
-pub table_init_walks : {E : Type 0} {seen : E → List ℕ → Type 0} {w : Grammar} {bytes middle after rest : List ℕ} {old between new : E} {b c : ℕ} → Decodes byte (padded_of w) bytes b middle → b ≡ 0x40 → Decodes byte (padded_of w) middle c after → c ≡ 0x00 → Takes seen before_init old between → Walks seen w (pair table_type expression) after rest between new → Walks seen w table_item bytes rest old new
+pub table_init_walks : {E : Type 0} {seen : E → List ℕ → Type 0} {w : Grammar} {bytes middle after rest : List ℕ} {old between new : E} {b c : ℕ} → Decodes byte (padded_of w) bytes b middle → b ≡ 0x40 → Decodes byte (padded_of w) middle c after → c ≡ 0x00 → TakesBytes seen before_init old between → Walks seen w (pair table_type expression) after rest between new → Walks seen w table_item bytes rest old new
 table_init_walks {seen = seen} {bytes = bytes} {middle = middle} {after = after} {rest = rest} {old = old} {between = between} {new = new} {b = b} {c = c} h p k q e g = record {
   value = with_init g.value;
   decoded = table_with bytes middle after rest b c g.value.0 g.value.1 h p k q g.decoded;
@@ -143,7 +143,7 @@ table_init_walks {seen = seen} {bytes = bytes} {middle = middle} {after = after}
 
 -- ---- data segments
 
-pub segment_bytes_walk : {E : Type 0} (seen : E → List ℕ → Type 0) (w : Grammar) (content bytes rest : List ℕ) (old new : E) → Decodes (size_prefixed any_bytes) (padded_of w) bytes content rest → Takes seen (size_prefixed_encoding content) old new → Walks seen w (vec byte) bytes rest old new
+pub segment_bytes_walk : {E : Type 0} (seen : E → List ℕ → Type 0) (w : Grammar) (content bytes rest : List ℕ) (old new : E) → Decodes (size_prefixed any_bytes) (padded_of w) bytes content rest → TakesBytes seen (size_prefixed_encoding content) old new → Walks seen w (vec byte) bytes rest old new
 segment_bytes_walk seen w content bytes rest old new h e =
     let size = h.encodes in
     let encodable : HasEncodableSize content = subst HasEncodableSize size.encodes (omega (arith, size.size.range)) in
@@ -155,7 +155,7 @@ item_in builders s x h = h
 item_in admitted s x h = h
 
 module _ {E : Type 0} {seen : E → List ℕ → Type 0} {w : Grammar} {n : ℕ} {bytes middle rest : List ℕ} {old between new : E} (h : Decodes u32 (padded_of w) bytes n middle) where
-  pub first_walks : n ≡ 0 → Takes seen (unsigned_encoding 0) old between → Walks seen w (pair expression (vec byte)) middle rest between new → Walks seen w data_item bytes rest old new
+  pub first_walks : n ≡ 0 → TakesBytes seen (unsigned_encoding 0) old between → Walks seen w (pair expression (vec byte)) middle rest between new → Walks seen w data_item bytes rest old new
   first_walks e a g = record {
     value = active 0 g.value.0 g.value.1;
     decoded = first_decodes bytes middle rest n g.value.0 g.value.1 h e g.decoded;
@@ -164,7 +164,7 @@ module _ {E : Type 0} {seen : E → List ℕ → Type 0} {w : Grammar} {n : ℕ}
     taken = take_then seen (unsigned_encoding 0) g.encoding old between new a g.taken;
   }
 
-  pub passive_walks : n ≡ 1 → Takes seen (unsigned_encoding 1) old between → Walks seen w (vec byte) middle rest between new → Walks seen w data_item bytes rest old new
+  pub passive_walks : n ≡ 1 → TakesBytes seen (unsigned_encoding 1) old between → Walks seen w (vec byte) middle rest between new → Walks seen w data_item bytes rest old new
   passive_walks e a g = record {
     value = passive g.value;
     decoded = passive_decodes bytes middle rest n g.value h e g.decoded;
@@ -189,7 +189,7 @@ active_encodes_in w (suc n) small encoding p g = (
 )
 
 -- An active segment of a memory with an explicit index.
-pub memory_walks : {E : Type 0} {seen : E → List ℕ → Type 0} {w : Grammar} {n memory : ℕ} {bytes middle after rest : List ℕ} {old between new : E} → Decodes u32 (padded_of w) bytes n middle → n ≡ 2 → Decodes u32 (padded_of w) middle memory after → HasIndex w memory → Takes seen (active_front memory) old between → Walks seen w (pair expression (vec byte)) after rest between new → Walks seen w data_item bytes rest old new
+pub memory_walks : {E : Type 0} {seen : E → List ℕ → Type 0} {w : Grammar} {n memory : ℕ} {bytes middle after rest : List ℕ} {old between new : E} → Decodes u32 (padded_of w) bytes n middle → n ≡ 2 → Decodes u32 (padded_of w) middle memory after → HasIndex w memory → TakesBytes seen (active_front memory) old between → Walks seen w (pair expression (vec byte)) after rest between new → Walks seen w data_item bytes rest old new
 memory_walks {seen = seen} {w = w} {n = n} {memory = memory} {bytes = bytes} {middle = middle} {after = after} {rest = rest} {old = old} {between = between} {new = new} h e k p a g = record {
   value = in_memory (memory, g.value);
   decoded = other_decodes w bytes middle after n memory h e k p rest g.value.0 g.value.1 g.decoded;
@@ -198,16 +198,16 @@ memory_walks {seen = seen} {w = w} {n = n} {memory = memory} {bytes = bytes} {mi
   taken = take_then seen (active_front memory) g.encoding old between new a g.taken;
 }
 
-pub front_of_zero : {E : Type 0} (seen : E → List ℕ → Type 0) (memory : ℕ) (old new : E) → memory ≡ 0 → Takes seen (unsigned_encoding 0) old new → Takes seen (active_front memory) old new
-front_of_zero seen memory old new z e = subst (λ n. Takes seen (active_front n) old new) (sym z) e
+pub front_of_zero : {E : Type 0} (seen : E → List ℕ → Type 0) (memory : ℕ) (old new : E) → memory ≡ 0 → TakesBytes seen (unsigned_encoding 0) old new → TakesBytes seen (active_front memory) old new
+front_of_zero seen memory old new z e = subst (λ n. TakesBytes seen (active_front n) old new) (sym z) e
 
-pub front_of_other : {E : Type 0} (seen : E → List ℕ → Type 0) (memory : ℕ) (old new : E) → memory ≢ 0 → Takes seen (unsigned_encoding 2 ++ unsigned_encoding memory) old new → Takes seen (active_front memory) old new
+pub front_of_other : {E : Type 0} (seen : E → List ℕ → Type 0) (memory : ℕ) (old new : E) → memory ≢ 0 → TakesBytes seen (unsigned_encoding 2 ++ unsigned_encoding memory) old new → TakesBytes seen (active_front memory) old new
 front_of_other seen zero old new other e = absurd (other refl)
 front_of_other seen (suc n) old new other e = e
 
 -- ---- element segments
 
-abbrev flag_walks : {E : Type 0} {seen : E → List ℕ → Type 0} {w : Grammar} (f : ElementFlag) {bytes rest : List ℕ} {old new : E} → Decodes (numbered flag_code) (padded_of w) bytes f rest → Takes seen (unsigned_encoding (flag_code f)) old new → Walks seen w (numbered flag_code) bytes rest old new
+abbrev flag_walks : {E : Type 0} {seen : E → List ℕ → Type 0} {w : Grammar} (f : ElementFlag) {bytes rest : List ℕ} {old new : E} → Decodes (numbered flag_code) (padded_of w) bytes f rest → TakesBytes seen (unsigned_encoding (flag_code f)) old new → Walks seen w (numbered flag_code) bytes rest old new
 flag_walks {seen = seen} {w = w} f {bytes = bytes} {rest = rest} {old = old} {new = new} h e = walked_as seen w (numbered flag_code) f bytes rest (unsigned_encoding (flag_code f)) old new h (u32_canonical.minimal_in w h.front (flag_code f) h.encodes) e
 
 abbrev segment_mode_at : Bool → Bool → Format (SegmentMode (List Plain))
@@ -233,7 +233,7 @@ module _ {E : Type 0} {seen : E → List ℕ → Type 0} {w : Grammar} (explicit
   elements_walk : (given of_expressions : Bool) → explicit ≡ given → Walks seen w (elements_as given of_expressions) bytes rest old new → Walks seen w (elements_as explicit of_expressions) bytes rest old new
   elements_walk given of_expressions e h = subst (λ z. Walks seen w (elements_as z of_expressions) bytes rest old new) (sym e) h
 
-  pub functions_walk : {b : ℕ} {after : List ℕ} {between : E} → explicit ≡ true → Decodes byte (padded_of w) bytes b after → b ≡ 0x00 → Takes seen (0x00 ∷ []) old between → Walks seen w (vec u32) after rest between new → Walks seen w (elements_as explicit false) bytes rest old new
+  pub functions_walk : {b : ℕ} {after : List ℕ} {between : E} → explicit ≡ true → Decodes byte (padded_of w) bytes b after → b ≡ 0x00 → TakesBytes seen (0x00 ∷ []) old between → Walks seen w (vec u32) after rest between new → Walks seen w (elements_as explicit false) bytes rest old new
   functions_walk {after = after} p h e a g =
       let split : bytes ≡ 0x00 ∷ after = h.split ∙ ap (λ z. z ++ after) h.encodes ∙ ap (λ z. z ∷ after) e in
       elements_walk true false p (mapped_walks functions (prefixed_walks (0x00 ∷ []) split a g))
@@ -248,7 +248,7 @@ module _ {E : Type 0} {seen : E → List ℕ → Type 0} {w : Grammar} (explicit
   only_expressions_walk p g = elements_walk false true p (mapped_walks list_of (pair_walks (fixed [] FUNCREF) (vec expression) (fixed_walks FUNCREF bytes old) g))
 
 -- The flag, the mode, and the elements that the flag selects.
-pub element_walks : {E : Type 0} {seen : E → List ℕ → Type 0} {w : Grammar} (f : ElementFlag) (explicit : Bool) {bytes start middle rest : List ℕ} {old first second new : E} → Decodes (numbered flag_code) (padded_of w) bytes f start → Takes seen (unsigned_encoding (flag_code f)) old first → Walks seen w (segment_mode f) start middle first second
+pub element_walks : {E : Type 0} {seen : E → List ℕ → Type 0} {w : Grammar} (f : ElementFlag) (explicit : Bool) {bytes start middle rest : List ℕ} {old first second new : E} → Decodes (numbered flag_code) (padded_of w) bytes f start → TakesBytes seen (unsigned_encoding (flag_code f)) old first → Walks seen w (segment_mode f) start middle first second
     → explicit ≡ has_kind f → Walks seen w (elements_as explicit f.expressions) middle rest second new → Walks seen w element bytes rest old new
 element_walks {seen = seen} {w = w} f explicit {middle = middle} {rest = rest} {second = second} {new = new} h e g p k =
     let elements = subst (λ z. Walks seen w (elements_as z f.expressions) middle rest second new) p k in
@@ -268,9 +268,9 @@ pub entity_in : (w : Grammar) → EncodesIn w entity (λ ty. ty) (entity_encodin
 entity_in w = record { minimal_in = λ s ty h. entity_encodes_in w ty (entity_is (padded_of w) s ty h) }
 
 -- The bytes of a group: 00, the byte of its kind, and its content.
-group_taken : {E : Type 0} {seen : E → List ℕ → Type 0} {w : Grammar} {bytes after : List ℕ} {old middle : E} → (h : Walks seen w name bytes after old middle) (kind b : ℕ) (content : List ℕ) (between new : E) → kind ≡ b → Takes seen (0x00 ∷ kind ∷ []) middle between → Takes seen content between new → Takes seen (h.encoding ++ 0x00 ∷ b ∷ content) old new
+group_taken : {E : Type 0} {seen : E → List ℕ → Type 0} {w : Grammar} {bytes after : List ℕ} {old middle : E} → (h : Walks seen w name bytes after old middle) (kind b : ℕ) (content : List ℕ) (between new : E) → kind ≡ b → TakesBytes seen (0x00 ∷ kind ∷ []) middle between → TakesBytes seen content between new → TakesBytes seen (h.encoding ++ 0x00 ∷ b ∷ content) old new
 group_taken {seen = seen} {old = old} {middle = middle} h kind b content between new e a g =
-    let front : Takes seen (0x00 ∷ b ∷ []) middle between = subst (λ z. Takes seen (0x00 ∷ z ∷ []) middle between) e a in
+    let front : TakesBytes seen (0x00 ∷ b ∷ []) middle between = subst (λ z. TakesBytes seen (0x00 ∷ z ∷ []) middle between) e a in
     take_then seen h.encoding (0x00 ∷ b ∷ content) old middle new h.taken (take_then seen (0x00 ∷ b ∷ []) content middle between new front g)
 
 module _ {E : Type 0} {seen : E → List ℕ → Type 0} {w : Grammar} {bytes after rest : List ℕ} {old middle new : E} (h : Walks seen w name bytes after old middle) where
@@ -293,7 +293,7 @@ module _ {E : Type 0} {seen : E → List ℕ → Type 0} {w : Grammar} {bytes af
     taken = take_then seen h.encoding (g.encoding ++ k.encoding) old middle new h.taken (take_then seen g.encoding k.encoding middle between new g.taken k.taken);
   }
 
-  pub named_walks : (kind : ℕ) {group : List ℕ} {between : E} → after ≡ 0x00 ∷ kind ∷ group → kind ≡ 0x7F → Takes seen (0x00 ∷ kind ∷ []) middle between → Walks seen w (vec (pair name entity)) group rest between new → Walks seen w import_format bytes rest old new
+  pub named_walks : (kind : ℕ) {group : List ℕ} {between : E} → after ≡ 0x00 ∷ kind ∷ group → kind ≡ 0x7F → TakesBytes seen (0x00 ∷ kind ∷ []) middle between → Walks seen w (vec (pair name entity)) group rest between new → Walks seen w import_format bytes rest old new
   named_walks kind {group = group} {between = between} e p a g = record {
     value = record { module_name = h.value; imported = named g.value };
     decoded = named_decodes bytes after group rest h.value kind g.value h.decoded e p g.decoded;
@@ -312,7 +312,7 @@ module _ {E : Type 0} {seen : E → List ℕ → Type 0} {w : Grammar} {bytes af
     taken = group_taken h kind 0x7F g.encoding between new p a g.taken;
   }
 
-  pub alike_walks : (kind : ℕ) {group next : List ℕ} {between last : E} → after ≡ 0x00 ∷ kind ∷ group → kind ≡ 0x7E → Takes seen (0x00 ∷ kind ∷ []) middle between → Walks seen w entity group next between last → Walks seen w (vec name) next rest last new → Walks seen w import_format bytes rest old new
+  pub alike_walks : (kind : ℕ) {group next : List ℕ} {between last : E} → after ≡ 0x00 ∷ kind ∷ group → kind ≡ 0x7E → TakesBytes seen (0x00 ∷ kind ∷ []) middle between → Walks seen w entity group next between last → Walks seen w (vec name) next rest last new → Walks seen w import_format bytes rest old new
   alike_walks kind {group = group} {next = next} {between = between} {last = last} e p a g k = record {
     value = record { module_name = h.value; imported = alike g.value k.value };
     decoded = alike_decodes bytes after group next rest h.value kind g.value k.value h.decoded e p g.decoded k.decoded;

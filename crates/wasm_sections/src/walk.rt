@@ -4,7 +4,7 @@ ghost use Rattle.wasm_base.specs.Numbers.{padded_of};
 ghost use Rattle.wasm_base.specs.Formats.{byte, pair, vec};
 ghost use Rattle.wasm_base.specs.Decoding.{Rejects};
 ghost use Rattle.wasm_base.specs.Minimal.{EncodesMinimally};
-ghost use Rattle.wasm_base.specs.Walks.{Keeps, Takes, Walks};
+ghost use Rattle.wasm_base.specs.Walks.{Keeps, TakesBytes, Walks};
 ghost use Rattle.wasm_base.specs.declared.fault.ReadFault.TheVariants.{Memory};
 ghost use Rattle.wasm_code.specs.Expressions.{expression};
 ghost use Rattle.wasm_sections.specs.DataSegments.{active_front, data_item};
@@ -238,7 +238,7 @@ impl<'s, G: Grammar, C: Allocator> Walk<G> for Segment<'s, C> {
 /// Gives the effect the flag of an active segment, and the memory's index unless it is 0.
 #[tactic(auto, using(crate::proofs::WalkItems::front_of_zero, crate::proofs::WalkItems::front_of_other))]
 fn put_memory<E: Effect>(memory: u32, effect: &mut E) -> Result<()>
-    ensures ok { OnOk result (Takes E.seen (active_front memory) effect.old effect.new) }
+    ensures ok { OnOk result (TakesBytes E.seen (active_front memory) effect.old effect.new) }
     ensures err { OnErr result E.may_fail }
     ensures front { Keeps E.seen effect.old effect.new }
 {

@@ -2,7 +2,7 @@
 use Rattle.wasm_base.proofs.Words.{Grammar, builders, admitted, padded_of, ◌≡◌, ◌≢◌, ℕ, pos, ◌<◌, List, [], ◌∷◌, ◌++◌, length, Bool, true, false, refl, sym, subst, append_assoc, arith, inl, inr}
 use Rattle.wasm_base.proofs.Words.{is_admitted, ints, vec_u32_unambiguous, byte_unambiguous, u32_unambiguous, decodes_same, then_decodes, mapped_decodes, mapped_rejects, such_decodes, such_none, tagged_decodes, tagged_rejects, no_choice, one_of_right, one_of_rejects, coded, Format, u32, s33, byte, mapped, such, pair, choice, impossible, tagged, vec, Decodes, Rejects}
 use Rattle.wasm_base.specs.Numbers.{minimal_of, unsigned_encoding, signed_encoding}
-use Rattle.wasm_base.specs.Walks.{EncodesIn, Takes, Walks}
+use Rattle.wasm_base.specs.Walks.{EncodesIn, TakesBytes, Walks}
 use Rattle.wasm_base.proofs.DecodingSteps.{members_start, vec_decodes, then_rejects_second}
 use Rattle.wasm_base.proofs.EncodingLaws.{s33_encodes, tagged_encodes}
 use Rattle.wasm_base.proofs.GrammarLaws.{minimal_in, u32_canonical, s33_both}
@@ -20,7 +20,7 @@ use Rattle.wasm_types.proofs.MinimalTypes.{storage_is}
 
 -- ---- fields
 
-pub mutable_walks : {E : Type 0} (seen : E → List ℕ → Type 0) (w : Grammar) (m : Bool) (bytes rest : List ℕ) (old new : E) → Decodes (coded mutable_code) (padded_of w) bytes m rest → Takes seen (mutable_code m ∷ []) old new → Walks seen w (coded mutable_code) bytes rest old new
+pub mutable_walks : {E : Type 0} (seen : E → List ℕ → Type 0) (w : Grammar) (m : Bool) (bytes rest : List ℕ) (old new : E) → Decodes (coded mutable_code) (padded_of w) bytes m rest → TakesBytes seen (mutable_code m ∷ []) old new → Walks seen w (coded mutable_code) bytes rest old new
 mutable_walks seen w m bytes rest old new h t = walked_as seen w (coded mutable_code) m bytes rest (mutable_code m ∷ []) old new h refl t
 
 storage_encodes_in : (w : Grammar) (ty : StorageType) (s : List ℕ) → storage_type (padded_of w) s ty → storage_type (minimal_of w) (storage_encoding_in w ty) ty
@@ -31,7 +31,7 @@ storage_encodes_in w (Val ty) s h = inr (ty, refl, val_encodes_in w ty (storage_
 pub storage_in : (w : Grammar) → EncodesIn w storage_type (λ ty. ty) (storage_encoding_in w)
 storage_in w = record { minimal_in = λ s ty h. storage_encodes_in w ty s h }
 
-pub index_walks : {E : Type 0} (seen : E → List ℕ → Type 0) (w : Grammar) (n : ℕ) (bytes rest : List ℕ) (old new : E) → Decodes s33 (padded_of w) bytes n rest → Takes seen (signed_encoding (pos n)) old new → Walks seen w s33 bytes rest old new
+pub index_walks : {E : Type 0} (seen : E → List ℕ → Type 0) (w : Grammar) (n : ℕ) (bytes rest : List ℕ) (old new : E) → Decodes s33 (padded_of w) bytes n rest → TakesBytes seen (signed_encoding (pos n)) old new → Walks seen w s33 bytes rest old new
 index_walks seen w n bytes rest old new h t = walked_as seen w s33 n bytes rest (signed_encoding (pos n)) old new h (minimal_in w {F = s33} n (signed_encoding (pos n)) s33_both (s33_encodes n (omega (arith, ints, h.encodes.below)))) t
 
 pub field_walks : {E : Type 0} {seen : E → List ℕ → Type 0} {w : Grammar} {bytes rest : List ℕ} {old new : E} → Walks seen w (pair storage_type (coded mutable_code)) bytes rest old new → Walks seen w field_type bytes rest old new
@@ -52,7 +52,7 @@ module _ {E X : Type 0} {seen : E → List ℕ → Type 0} {w : Grammar} {bytes 
 
 module _ {E X : Type 0} {seen : E → List ℕ → Type 0} {w : Grammar} (tag : ℕ) (F : ℕ → Format X) (here : with_index tag F tag ≡ mapped given_index (pair u32 (tagged byte F))) {bytes rest : List ℕ} {old new : E} where
   -- The index and the next byte were put, then the value that this byte selects.
-  pub given_walks : {b n next : ℕ} {middle : List ℕ} {between : E} → b ≡ tag → Decodes (pair u32 byte) (padded_of w) bytes (n, next) middle → Takes seen (unsigned_encoding n ++ next ∷ []) old between → Walks seen w (F next) middle rest between new → Walks seen w (with_index tag F b) bytes rest old new
+  pub given_walks : {b n next : ℕ} {middle : List ℕ} {between : E} → b ≡ tag → Decodes (pair u32 byte) (padded_of w) bytes (n, next) middle → TakesBytes seen (unsigned_encoding n ++ next ∷ []) old between → Walks seen w (F next) middle rest between new → Walks seen w (with_index tag F b) bytes rest old new
   given_walks {n = n} {next = next} {middle = middle} {between = between} e h t g =
       let parts = first_of_both h in
       let both : Walks seen w (pair u32 (tagged byte F)) bytes rest old new = record {
@@ -76,7 +76,7 @@ module _ {E X : Type 0} {seen : E → List ℕ → Type 0} {w : Grammar} (tag : 
 -- ---- composite types
 
 module _ {E : Type 0} {seen : E → List ℕ → Type 0} {w : Grammar} {bytes rest : List ℕ} {old new : E} where
-  pub shared_walks : {b next : ℕ} {middle : List ℕ} {between : E} → b ≡ 0x65 → Decodes byte (padded_of w) bytes next middle → Takes seen (next ∷ []) old between → Walks seen w (after_describes next) middle rest between new → Walks seen w (after_composite b) bytes rest old new
+  pub shared_walks : {b next : ℕ} {middle : List ℕ} {between : E} → b ≡ 0x65 → Decodes byte (padded_of w) bytes next middle → TakesBytes seen (next ∷ []) old between → Walks seen w (after_describes next) middle rest between new → Walks seen w (after_composite b) bytes rest old new
   shared_walks {next = next} e h t g = tag_walks after_composite 0x65 e (mapped_walks (composite_of true) (byte_then h t after_describes g))
 
   pub unshared_walks : {b : ℕ} → b ≢ 0x65 → Walks seen w (after_describes b) bytes rest old new → Walks seen w (after_composite b) bytes rest old new
@@ -91,19 +91,19 @@ sub_minimal builders x encoding g = g
 sub_minimal admitted x encoding g = g
 
 module _ {E : Type 0} {seen : E → List ℕ → Type 0} {w : Grammar} {bytes rest : List ℕ} {old new : E} where
-  sub_walked : (x : Sub) (encoding : List ℕ) → Decodes sub_type (padded_of w) bytes x rest → prefixed_sub builders (minimal_of w) encoding x → Takes seen encoding old new → Walks seen w sub_type bytes rest old new
+  sub_walked : (x : Sub) (encoding : List ℕ) → Decodes sub_type (padded_of w) bytes x rest → prefixed_sub builders (minimal_of w) encoding x → TakesBytes seen encoding old new → Walks seen w sub_type bytes rest old new
   sub_walked x encoding h g t = walked_as seen w sub_type x bytes rest encoding old new h (sub_minimal w x encoding g) t
 
   -- An open subtype: 0x50, supertypes and a composite type.
-  pub open_walks : {b : ℕ} {middle : List ℕ} {between : E} → Decodes byte (padded_of w) bytes b middle → b ≡ 0x50 → Takes seen (b ∷ []) old between → Walks seen w supertypes_and middle rest between new → Walks seen w sub_type bytes rest old new
+  pub open_walks : {b : ℕ} {middle : List ℕ} {between : E} → Decodes byte (padded_of w) bytes b middle → b ≡ 0x50 → TakesBytes seen (b ∷ []) old between → Walks seen w supertypes_and middle rest between new → Walks seen w sub_type bytes rest old new
   open_walks {b = b} {between = between} h e t g =
       sub_walked (sub_of false g.value) (0x50 ∷ g.encoding)
       (sub_decodes h (open_decodes w e g.decoded))
       (tagged_encodes {G = after_in builders} (minimal_of w) 0x50 g.encoding (sub_of false g.value) (g.value, refl, g.encodes))
-      (take_then seen (0x50 ∷ []) g.encoding old between new (subst (λ z. Takes seen (z ∷ []) old between) e t) g.taken)
+      (take_then seen (0x50 ∷ []) g.encoding old between new (subst (λ z. TakesBytes seen (z ∷ []) old between) e t) g.taken)
 
   -- A composite type alone.
-  pub alone_walks : {b : ℕ} {middle : List ℕ} {between : E} → Decodes byte (padded_of w) bytes b middle → b ≢ 0x50 → b ≢ 0x4F → Takes seen (b ∷ []) old between → Walks seen w (after_composite b) middle rest between new → Walks seen w sub_type bytes rest old new
+  pub alone_walks : {b : ℕ} {middle : List ℕ} {between : E} → Decodes byte (padded_of w) bytes b middle → b ≢ 0x50 → b ≢ 0x4F → TakesBytes seen (b ∷ []) old between → Walks seen w (after_composite b) middle rest between new → Walks seen w sub_type bytes rest old new
   alone_walks {b = b} {between = between} h p q t g =
       sub_walked (alone_of g.value) (b ∷ g.encoding)
       (sub_decodes h (alone_reads w p q refl g.decoded))
@@ -119,7 +119,7 @@ count_is w h g =
 
 module _ {E : Type 0} {seen : E → List ℕ → Type 0} {w : Grammar} {n : ℕ} {bytes after rest : List ℕ} {old new : E} (h : Decodes u32 (padded_of w) bytes n after) where
   -- A final subtype with supertypes: 0x4F, which precedes the bytes, supertypes and a composite type.
-  pub final_walks : {between : E} → 0 < n → Takes seen (0x4F ∷ []) old between → Walks seen w supertypes_and bytes rest between new → Walks seen w sub_type (0x4F ∷ bytes) rest old new
+  pub final_walks : {between : E} → 0 < n → TakesBytes seen (0x4F ∷ []) old between → Walks seen w supertypes_and bytes rest between new → Walks seen w sub_type (0x4F ∷ bytes) rest old new
   final_walks {between = between} l t g =
       let some : 0 < length g.value.0 = omega (arith, l, count_is w h g.decoded) in
       let first : Decodes byte (padded_of w) (0x4F ∷ bytes) 0x4F bytes = record { front = 0x4F ∷ []; split = refl; encodes = refl } in
@@ -156,11 +156,11 @@ empty_not w {after = after} h e none = final_not w (then_rejects_second vec_u32_
 -- ---- entries
 
 module _ {E : Type 0} {seen : E → List ℕ → Type 0} {w : Grammar} {bytes rest : List ℕ} {old new : E} where
-  pub group_walks : {b : ℕ} {middle : List ℕ} {between : E} → Decodes byte (padded_of w) bytes b middle → b ≡ 0x4E → Takes seen (b ∷ []) old between → Walks seen w (vec sub_type) middle rest between new → Walks seen w type_item bytes rest old new
+  pub group_walks : {b : ℕ} {middle : List ℕ} {between : E} → Decodes byte (padded_of w) bytes b middle → b ≡ 0x4E → TakesBytes seen (b ∷ []) old between → Walks seen w (vec sub_type) middle rest between new → Walks seen w type_item bytes rest old new
   group_walks {between = between} h e t g =
       walked_as seen w type_item (group g.value) bytes rest (0x4E ∷ g.encoding) old new (group_decodes h e g.decoded)
       (inl (tagged_encodes {G = λ c. choice group_tags (λ d. impossible) c} (minimal_of w) 0x4E g.encoding (group g.value) (g.value, refl, g.encodes)))
-      (take_then seen (0x4E ∷ []) g.encoding old between new (subst (λ z. Takes seen (z ∷ []) old between) e t) g.taken)
+      (take_then seen (0x4E ∷ []) g.encoding old between new (subst (λ z. TakesBytes seen (z ∷ []) old between) e t) g.taken)
 
   pub single_walks : Walks seen w sub_type bytes rest old new → Walks seen w type_item bytes rest old new
   single_walks g = walked_as seen w type_item (single g.value) bytes rest g.encoding old new (one_of_right group_type (mapped_decodes single g.decoded)) (inr (g.value, refl, g.encodes)) g.taken

@@ -39,7 +39,11 @@ NAMES = [
     Name('was_encodable', r'(?:IfOk|OnOk) result .*(?:[Ee]ncodable|≤ longest).*', 'After `Ok`, the counts and lengths that were encoded were at most 4294967295.'),
     Name('too_long', r'(?:.* → )?result ≢ Err (?:\w+\.)?TooLong', 'When the call does not return `TooLong`.'),
     Name('spare', r'.* → IsOk result', 'When the call succeeds within the spare capacity.'),
-    Name('front', r'IsFrontOf sink\.old\.items sink\.new\.items', 'The bytes that the sink had are the front of those that it has afterwards.'),
+    Name(
+        'front',
+        r'IsFrontOf sink\.old\.items sink\.new\.items|Keeps(?:Marked seen mark start)? ?(?:(?:E\.)?seen )?(?:effect|self)\.old (?:effect|self)\.new',
+        'The bytes that the sink or the effect had are the front of those that it has afterwards.',
+    ),
     Name('capacity', r'vec_capacity sink\.(?:old ≤ vec_capacity sink\.new|new ≡ vec_capacity sink\.old)', 'The capacity does not shrink.'),
 ]
 
@@ -81,6 +85,12 @@ SAID = (
     (r'IfOk result \(λ bytes\. bytes\.items ≡ recipe_module \(.*\)\)', 'the bytes are the module of the recipe'),
     (r'IfOk result \(λ number\. \(x : Contents\) × content .* × \(number ≡ number_in x\)\)', 'the payload encodes items, and the result is their number if they are counted'),
     (r'vec_capacity sink\.old ≤ vec_capacity sink\.new', 'the capacity does not shrink'),
+    (r'OnOk result \(TakesBytes seen .*\)', 'the effect takes the encoding'),
+    (r'OnErr result (?:E\.)?may_fail', 'the effect is one whose calls may fail'),
+    (r'IfErr result \(λ e\. e\.cause ≡ Memory → E\.may_fail\)', 'the cause is `Memory` only with an effect whose calls may fail'),
+    (r'Keeps (?:E\.)?seen (?:effect|self)\.old (?:effect|self)\.new', 'the effect keeps what it took before'),
+    (r'IfOk result \(λ rest\. Walks E\.seen G\.grammar .* bytes\.now rest\.now effect\.old effect\.new\)', 'the bytes begin with an encoding, the effect takes the minimal one, and the returned bytes follow it'),
+    (r'OnOk result \(WalksWhole E\.seen G\.grammar .* bytes\.now effect\.old effect\.new\)', 'the bytes as a whole are an encoding, and the effect takes the minimal one'),
     (r'self\.new\.sink\.ghost_name ≡ self\.old\.sink\.ghost_name', 'the sink writes to the buffer that it wrote to'),
     (r'IfErr result \(λ e\. IsInPayload self\.now e\.offset\)', 'the offset of the error is in the payload'),
     (r'IsTrue result ↔ \(length self\.now ≡ 0\)', 'the result is true exactly if there are no entries'),

@@ -19,7 +19,7 @@ def turn_sinks(source: Source) -> None:
         angle = source.skip(name + 1)
         if source.tokens[angle] == '<':
             turn_sink(source, place, angle, function_end(source, angle))
-    turn_buffer(source)
+    turn_impls(source)
 
 
 def function_end(source: Source, angle: int) -> int:
@@ -61,15 +61,20 @@ def sink_type(source: Source, use: int) -> Span | None:
     return Span(vec, source.skip(use + 1) + 1) if words == ['mut', 'Vec', '<', 'u8', ',', '>'] else None
 
 
-def turn_buffer(source: Source) -> None:
-    """Makes every sink a buffer of instructions."""
+# Traits that vectors of bytes implement, and in Rust every sink.
+SINK_TRAITS = ('Buffer', 'Effect')
+
+
+def turn_impls(source: Source) -> None:
+    """Makes every sink a buffer of instructions, and an effect of walks."""
     for place, token in enumerate(source.tokens):
         if token != 'impl':
             continue
-        end = source.after(place, 'impl', '<', 'A', ':', 'Allocator', '>', 'Buffer', 'for', 'Vec', '<', 'u8', ',', 'A', '>')
-        if end is not None:
-            source.edit(place, end, 'impl<A: Sink> Buffer for A', 'sink')
-            source.has_sinks = True
+        for name in SINK_TRAITS:
+            end = source.after(place, 'impl', '<', 'A', ':', 'Allocator', '>', name, 'for', 'Vec', '<', 'u8', ',', 'A', '>')
+            if end is not None:
+                source.edit(place, end, f'impl<A: Sink> {name} for A', 'sink')
+                source.has_sinks = True
 
 
 def turn_pairs(source: Source) -> None:

@@ -48,10 +48,11 @@ PUBLIC_LAWS = {'wasm_reader': 'reader::laws'}
 # library's module has them in a module of its own, which `reader` exports.
 READERS = {
     'wasm_base': {
-        'Canonical', 'DecodeError', 'Dropped', 'Grammar', 'Layout', 'Minimize', 'Padded', 'ReadFault', 'Readable', 'Shared',
-        'Shorten', 'SizePrefixed', 'Skip', 'Standard', 'append_all', 'check_to_end', 'check_whole', 'minimize_many',
-        'minimize_shared', 'minimize_to_end', 'minimize_value', 'minimize_whole', 'prefix_size_since', 'read_before',
-        'read_optional', 'read_to_end', 'read_whole', 'skip_many',
+        'Canonical', 'DecodeError', 'Discard', 'Effect', 'EncodeIn', 'Grammar', 'Layout', 'Padded', 'ReadFault', 'Readable',
+        'Shared', 'Shorten', 'SizePrefixed', 'SizedBytes', 'Standard', 'Walk', 'append_all', 'check_to_end', 'check_whole',
+        'minimize_many', 'minimize_to_end', 'minimize_whole', 'prefix_size_since', 'read_before', 'read_optional',
+        'read_to_end', 'read_whole', 'skip_many', 'skip_value', 'walk_in', 'walk_many', 'walk_shared', 'walk_to_end',
+        'walk_value', 'walk_whole',
     },
     'wasm_types': {'SubItem', 'TypeEntry'},
     'wasm_insn': {'Arg', 'Operands', 'Plain'},

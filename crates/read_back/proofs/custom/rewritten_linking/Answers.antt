@@ -2,7 +2,7 @@ use Rattle.std.specs.Prelude.{map}
 use Rattle.std.proofs.Common.{subst}
 use Rattle.wasm_base.specs.Minimal.{AppendsMinimal, both_grammars}
 use Rattle.wasm_base.specs.Numbers.{admitted}
-use Rattle.wasm_base.proofs.MinimizeLaws.{decoded_whole_minimizes}
+use Rattle.wasm_base.proofs.EffectLaws.{decoded_whole_minimizes}
 use Rattle.wasm_custom.specs.Linking.{link_view, linking_payload}
 use Rattle.read_back.proofs.custom.rewritten_linking.Goals as goal
 

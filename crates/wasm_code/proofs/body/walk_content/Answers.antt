@@ -12,5 +12,5 @@ returns-clause-found g c = on_ok c.walk_to_end.result _ _ c.walk_to_end.ensures.
 pub returns-clause-none : goal.returns-clause-none
 returns-clause-none g c = if_err_more c.walk_to_end.result (λ e none n. body_no_code c.args.bytes.now c.in_ok-rest.rest.now c.in_ok-rest.ensures.found.value c.in_ok-rest.ensures.found.decoded (none n)) c.walk_to_end.ensures.none
 
-pub walk_to_end-requires-begun : goal.walk_to_end-requires-begun
-walk_to_end-requires-begun g c = λ mode s x h. any_begins mode s x h
+pub walk_to_end-requires : goal.walk_to_end-requires
+walk_to_end-requires g c = record { begun = λ mode s x h. any_begins mode s x h }

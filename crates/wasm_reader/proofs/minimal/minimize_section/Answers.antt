@@ -1,5 +1,5 @@
 use Rattle.wasm_base.proofs.Words.{rules, fault_stays}
-use Rattle.wasm_base.proofs.MinimizeLaws.{sized_minimizes}
+use Rattle.wasm_base.proofs.EffectLaws.{sized_minimizes}
 use Rattle.wasm_reader.specs.{content}
 use Rattle.wasm_reader.proofs.DecodeSections.{section_none, section_rejects}
 use Rattle.wasm_reader.proofs.minimal.minimize_section.Goals as goal
