@@ -12,7 +12,7 @@ pub mod SegmentLaws
 pub mod InitLaws
 pub mod ComdatLaws
 pub mod LinkLaws
-pub mod LinkMinimal
+pub mod WalkLinks
 pub mod ProducerLaws
 pub mod FeatureLaws
 pub mod HintLaws
@@ -20,10 +20,10 @@ pub mod CoreDumpLaws
 pub mod CoreStackLaws
 pub mod SingleLaws
 pub mod DylinkLaws
-pub mod DylinkMinimal
+pub mod WalkDylink
 pub mod RelocationLaws
 pub mod RejectionLaws
 pub mod Calls
 pub mod DecodeMarked
 pub mod DecodeNamed
-pub mod MinimizeCustoms
+pub mod WalkCustoms

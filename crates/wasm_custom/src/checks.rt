@@ -1,12 +1,11 @@
 // Checks that payloads of custom sections decode. No item is kept.
-ghost use Rattle.std.specs.Prelude.{◌≡◌, ◌≢◌, List, ℕ, IfErr, OnOk};
+ghost use Rattle.std.specs.Prelude.{◌≢◌, List, ℕ, IfErr, OnOk};
 ghost use Rattle.wasm_base.specs.Continuing.{RejectsWhole};
 ghost use Rattle.wasm_base.specs.Numbers.{padded_of};
 ghost use Rattle.wasm_base.specs.declared.fault.ReadFault.TheVariants.{Memory};
 ghost use Rattle.wasm_custom.specs.CoreDumps.{Instance, modules_payload, instances_payload};
 ghost use Rattle.wasm_custom.specs.CoreStacks.{StackFrame, stack_payload};
 ghost use Rattle.wasm_custom.specs.Dylink.{DylinkItem as DylinkModel, dylink_payload};
-ghost use Rattle.wasm_custom.specs.Entries.{counted_payload};
 ghost use Rattle.wasm_custom.specs.Hints.{Hints, hints_payload};
 ghost use Rattle.wasm_custom.specs.Linking.{LinkItem as LinkModel, linking_payload};
 ghost use Rattle.wasm_custom.specs.Names.{NameItem as NameModel, name_payload};
@@ -14,35 +13,13 @@ ghost use Rattle.wasm_custom.specs.Producers.{Field, producers_payload};
 ghost use Rattle.wasm_custom.specs.Relocations.{Relocations, relocations_payload};
 ghost use Rattle.wasm_custom.specs.TargetFeatures.{Feature, features_payload};
 
-use crate::core_dumps::CoreInstance;
-use crate::core_stack::CoreFrame;
-use crate::dylink::DylinkItem;
-use crate::hints::BranchHint;
-use crate::linking::{LinkItem, after_version};
-use crate::marked::MarkedName;
-use crate::named::after_name;
-use crate::names::NameItem;
-use crate::relocations::Relocation;
-use crate::target_features::FeaturePrefix;
+use crate::core_walks::{walk_instances, walk_modules, walk_stack};
+use crate::dylink_walks::walk_dylink;
+use crate::item_walks::{walk_features, walk_hints, walk_producers, walk_relocations};
+use crate::link_walks::walk_links;
+use crate::name_walks::walk_names;
 use std::alloc::Allocator;
-use wasm_base::{
-    DecodeError, Dropped, Grammar, ReadFault, Readable, Skip, check_to_end, check_whole,
-};
-
-/// Checks the payload of a section of this name with a vector of items.
-fn check_counted<'a, P: Skip<'a, A, G>, A: Allocator + Copy, G: Grammar>(
-    name: &str,
-    bytes: &'a [u8],
-    alloc: A,
-) -> Result<(), DecodeError>
-    ensures found { OnOk result ((xs : List P.Value) × counted_payload name.now P.format (padded_of G.grammar) bytes.now xs) }
-    ensures none { IfErr result (λ e. e.cause ≢ Memory → RejectsWhole (counted_payload name.now P.format) (padded_of G.grammar) bytes.now) }
-    ensures no_memory { IfErr result (λ e. e.cause ≡ Memory → P.may_allocate) }
-{
-    let rest = after_name::<A, G>(name, bytes, alloc)?;
-    check_whole::<'a, Vec<P>, A, G>(rest, alloc)?;
-    Ok(())
-}
+use wasm_base::{DecodeError, Discard, Grammar};
 
 /// Checks that the bytes are the payload of a name section, in the grammar `G`. No item is kept.
 ///
@@ -53,6 +30,7 @@ fn check_counted<'a, P: Skip<'a, A, G>, A: Allocator + Copy, G: Grammar>(
 /// # Errors
 ///
 /// An error means that the bytes are not such a payload.
+#[tactic(auto, using(wasm_base::proofs::EffectLaws::checked_whole))]
 pub fn check_names<'a, A: Allocator + Copy, G: Grammar>(
     bytes: &'a [u8],
     alloc: A,
@@ -61,9 +39,7 @@ pub fn check_names<'a, A: Allocator + Copy, G: Grammar>(
     ensures none { IfErr result (λ e. e.cause ≢ Memory → RejectsWhole name_payload (padded_of G.grammar) bytes.now) }
     ensures no_memory { IfErr result (λ e. e.cause ≢ Memory) }
 {
-    let rest = after_name::<A, G>("name", bytes, alloc)?;
-    check_to_end::<'a, NameItem<'a, A>, A, G>(rest, alloc)?;
-    Ok(())
+    walk_names::<A, G, _>(bytes, alloc, &mut Discard)
 }
 
 /// Checks that the bytes are the payload of a linking section, in the grammar `G`. No item is kept.
@@ -75,7 +51,7 @@ pub fn check_names<'a, A: Allocator + Copy, G: Grammar>(
 /// # Errors
 ///
 /// An error means that the bytes are not such a payload.
-#[tactic(auto, using(crate::proofs::LinkLaws::section_steps))]
+#[tactic(auto, using(wasm_base::proofs::EffectLaws::checked_whole))]
 pub fn check_links<'a, A: Allocator + Copy, G: Grammar>(
     bytes: &'a [u8],
     alloc: A,
@@ -84,10 +60,7 @@ pub fn check_links<'a, A: Allocator + Copy, G: Grammar>(
     ensures none { IfErr result (λ e. e.cause ≢ Memory → RejectsWhole linking_payload (padded_of G.grammar) bytes.now) }
     ensures no_memory { IfErr result (λ e. e.cause ≢ Memory) }
 {
-    let rest = after_name::<A, G>("linking", bytes, alloc)?;
-    let rest = after_version::<A, G>(rest, alloc)?;
-    check_to_end::<'a, LinkItem<'a, A>, A, G>(rest, alloc)?;
-    Ok(())
+    walk_links::<A, G, _>(bytes, alloc, &mut Discard)
 }
 
 /// Checks that the bytes are the payload of a dynamic library's section, in the grammar `G`. No
@@ -100,6 +73,7 @@ pub fn check_links<'a, A: Allocator + Copy, G: Grammar>(
 /// # Errors
 ///
 /// An error means that the bytes are not such a payload.
+#[tactic(auto, using(wasm_base::proofs::EffectLaws::checked_whole))]
 pub fn check_dylink<'a, A: Allocator + Copy, G: Grammar>(
     bytes: &'a [u8],
     alloc: A,
@@ -108,9 +82,7 @@ pub fn check_dylink<'a, A: Allocator + Copy, G: Grammar>(
     ensures none { IfErr result (λ e. e.cause ≢ Memory → RejectsWhole dylink_payload (padded_of G.grammar) bytes.now) }
     ensures no_memory { IfErr result (λ e. e.cause ≢ Memory) }
 {
-    let rest = after_name::<A, G>("dylink.0", bytes, alloc)?;
-    check_to_end::<'a, DylinkItem<'a, A>, A, G>(rest, alloc)?;
-    Ok(())
+    walk_dylink::<A, G, _>(bytes, alloc, &mut Discard)
 }
 
 /// Checks that the bytes are the payload of a producers section, in the grammar `G`. No item is
@@ -123,6 +95,7 @@ pub fn check_dylink<'a, A: Allocator + Copy, G: Grammar>(
 /// # Errors
 ///
 /// An error means that the bytes are not such a payload.
+#[tactic(auto, using(wasm_base::proofs::EffectLaws::checked_whole))]
 pub fn check_producers<'a, A: Allocator + Copy, G: Grammar>(
     bytes: &'a [u8],
     alloc: A,
@@ -131,11 +104,7 @@ pub fn check_producers<'a, A: Allocator + Copy, G: Grammar>(
     ensures none { IfErr result (λ e. e.cause ≢ Memory → RejectsWhole producers_payload (padded_of G.grammar) bytes.now) }
     ensures no_memory { IfErr result (λ e. e.cause ≢ Memory) }
 {
-    check_counted::<(Dropped<&'a str>, Vec<Dropped<(&'a str, &'a str)>>), A, G>(
-        "producers",
-        bytes,
-        alloc,
-    )
+    walk_producers::<A, G, _>(bytes, alloc, &mut Discard)
 }
 
 /// Checks that the bytes are the payload of a target features section, in the grammar `G`. No item
@@ -148,6 +117,7 @@ pub fn check_producers<'a, A: Allocator + Copy, G: Grammar>(
 /// # Errors
 ///
 /// An error means that the bytes are not such a payload.
+#[tactic(auto, using(wasm_base::proofs::EffectLaws::checked_whole))]
 pub fn check_features<'a, A: Allocator + Copy, G: Grammar>(
     bytes: &'a [u8],
     alloc: A,
@@ -156,7 +126,7 @@ pub fn check_features<'a, A: Allocator + Copy, G: Grammar>(
     ensures none { IfErr result (λ e. e.cause ≢ Memory → RejectsWhole features_payload (padded_of G.grammar) bytes.now) }
     ensures no_memory { IfErr result (λ e. e.cause ≢ Memory) }
 {
-    check_counted::<Dropped<(FeaturePrefix, &'a str)>, A, G>("target_features", bytes, alloc)
+    walk_features::<A, G, _>(bytes, alloc, &mut Discard)
 }
 
 /// Checks that the bytes are the payload of a branch hint section, in the grammar `G`. No item is
@@ -169,6 +139,7 @@ pub fn check_features<'a, A: Allocator + Copy, G: Grammar>(
 /// # Errors
 ///
 /// An error means that the bytes are not such a payload.
+#[tactic(auto, using(wasm_base::proofs::EffectLaws::checked_whole))]
 pub fn check_hints<'a, A: Allocator + Copy, G: Grammar>(
     bytes: &'a [u8],
     alloc: A,
@@ -177,11 +148,7 @@ pub fn check_hints<'a, A: Allocator + Copy, G: Grammar>(
     ensures none { IfErr result (λ e. e.cause ≢ Memory → RejectsWhole hints_payload (padded_of G.grammar) bytes.now) }
     ensures no_memory { IfErr result (λ e. e.cause ≢ Memory) }
 {
-    check_counted::<(Dropped<u32>, Vec<Dropped<BranchHint>>), A, G>(
-        "metadata.code.branch_hint",
-        bytes,
-        alloc,
-    )
+    walk_hints::<A, G, _>(bytes, alloc, &mut Discard)
 }
 
 /// Checks that the bytes are the payload of a relocation section, in the grammar `G`. No item is
@@ -194,7 +161,7 @@ pub fn check_hints<'a, A: Allocator + Copy, G: Grammar>(
 /// # Errors
 ///
 /// An error means that the bytes are not such a payload.
-#[tactic(auto, using(crate::proofs::RelocationLaws::section_steps))]
+#[tactic(auto, using(wasm_base::proofs::EffectLaws::checked_whole))]
 pub fn check_relocations<'a, A: Allocator + Copy, G: Grammar>(
     bytes: &'a [u8],
     alloc: A,
@@ -203,12 +170,7 @@ pub fn check_relocations<'a, A: Allocator + Copy, G: Grammar>(
     ensures none { IfErr result (λ e. e.cause ≢ Memory → RejectsWhole relocations_payload (padded_of G.grammar) bytes.now) }
     ensures no_memory { IfErr result (λ e. e.cause ≢ Memory) }
 {
-    let (name, rest) = <&'a str as Readable<'a, A, G>>::read(bytes, alloc)?;
-    if !name.as_bytes().starts_with(b"reloc.") {
-        return Err(ReadFault::UnknownTag.at(name.as_bytes()).before(rest));
-    }
-    check_whole::<'a, (Dropped<u32>, Vec<Dropped<Relocation>>), A, G>(rest, alloc)?;
-    Ok(())
+    walk_relocations::<A, G, _>(bytes, alloc, &mut Discard)
 }
 
 /// Checks that the bytes are the payload of a core dump's modules section, in the grammar `G`. No
@@ -221,6 +183,7 @@ pub fn check_relocations<'a, A: Allocator + Copy, G: Grammar>(
 /// # Errors
 ///
 /// An error means that the bytes are not such a payload.
+#[tactic(auto, using(wasm_base::proofs::EffectLaws::checked_whole))]
 pub fn check_modules<'a, A: Allocator + Copy, G: Grammar>(
     bytes: &'a [u8],
     alloc: A,
@@ -229,7 +192,7 @@ pub fn check_modules<'a, A: Allocator + Copy, G: Grammar>(
     ensures none { IfErr result (λ e. e.cause ≢ Memory → RejectsWhole modules_payload (padded_of G.grammar) bytes.now) }
     ensures no_memory { IfErr result (λ e. e.cause ≢ Memory) }
 {
-    check_counted::<Dropped<MarkedName<'a>>, A, G>("coremodules", bytes, alloc)
+    walk_modules::<A, G, _>(bytes, alloc, &mut Discard)
 }
 
 /// Checks that the bytes are the payload of a core dump's instances section, in the grammar `G`. No
@@ -242,6 +205,7 @@ pub fn check_modules<'a, A: Allocator + Copy, G: Grammar>(
 /// # Errors
 ///
 /// An error means that the bytes are not such a payload.
+#[tactic(auto, using(wasm_base::proofs::EffectLaws::checked_whole))]
 pub fn check_instances<'a, A: Allocator + Copy, G: Grammar>(
     bytes: &'a [u8],
     alloc: A,
@@ -250,7 +214,7 @@ pub fn check_instances<'a, A: Allocator + Copy, G: Grammar>(
     ensures none { IfErr result (λ e. e.cause ≢ Memory → RejectsWhole instances_payload (padded_of G.grammar) bytes.now) }
     ensures no_memory { IfErr result (λ e. e.cause ≢ Memory) }
 {
-    check_counted::<CoreInstance<A>, A, G>("coreinstances", bytes, alloc)
+    walk_instances::<A, G, _>(bytes, alloc, &mut Discard)
 }
 
 /// Checks that the bytes are the payload of a core dump's stack section, in the grammar `G`. No
@@ -263,6 +227,7 @@ pub fn check_instances<'a, A: Allocator + Copy, G: Grammar>(
 /// # Errors
 ///
 /// An error means that the bytes are not such a payload.
+#[tactic(auto, using(wasm_base::proofs::EffectLaws::checked_whole))]
 pub fn check_stack<'a, A: Allocator + Copy, G: Grammar>(
     bytes: &'a [u8],
     alloc: A,
@@ -271,7 +236,5 @@ pub fn check_stack<'a, A: Allocator + Copy, G: Grammar>(
     ensures none { IfErr result (λ e. e.cause ≢ Memory → RejectsWhole stack_payload (padded_of G.grammar) bytes.now) }
     ensures no_memory { IfErr result (λ e. e.cause ≢ Memory) }
 {
-    let rest = after_name::<A, G>("corestack", bytes, alloc)?;
-    check_whole::<'a, (Dropped<MarkedName<'a>>, Vec<CoreFrame<A>>), A, G>(rest, alloc)?;
-    Ok(())
+    walk_stack::<A, G, _>(bytes, alloc, &mut Discard)
 }

@@ -4,11 +4,11 @@ ghost use Rattle.wasm_base.specs.Formats.{prefixed};
 ghost use Rattle.wasm_base.specs.Numbers.{padded_of};
 ghost use Rattle.wasm_base.specs.Decoding.{Unambiguous, Decodes, Rejects};
 ghost use Rattle.wasm_custom.specs.CoreDumps.{marked_name};
-ghost use Rattle.wasm_base.specs.Minimal.{Minimizes, IsFrontOf};
+ghost use Rattle.wasm_base.specs.Walks.{Keeps, Walks};
 ghost use Rattle.wasm_base.specs.declared.fault.ReadFault.TheVariants.{Memory};
 
 use std::alloc::Allocator;
-use wasm_base::{DecodeError, Encode, Grammar, Layout, Minimize, ReadFault, Readable, Skip};
+use wasm_base::{DecodeError, Effect, Grammar, Layout, ReadFault, Readable, Walk};
 
 /// Decodes the byte `mark` and the value after it, and returns the value with the remaining bytes.
 #[tactic(auto, using(crate::proofs::DecodeMarked::marked_steps))]
@@ -29,43 +29,25 @@ pub(crate) fn read_marked<'a, T: Readable<'a, A, G>, A: Allocator + Copy, G: Gra
     Ok((value, rest))
 }
 
-/// Skips the byte `mark` and the value after it.
-#[tactic(auto, using(crate::proofs::DecodeMarked::marked_steps))]
-pub(crate) fn skip_marked<'a, P: Skip<'a, A, G>, A: Allocator + Copy, G: Grammar>(
+/// Walks over the byte `mark` and the value after it.
+#[tactic(auto, using(crate::proofs::DecodeMarked::marked_steps, crate::proofs::WalkCustoms::marked_walks, wasm_base::proofs::WalkLaws::keep_steps))]
+pub(crate) fn walk_marked<'a, T: Walk<G>, A: Allocator + Copy, G: Grammar, E: Effect>(
     mark: u8,
     bytes: &'a [u8],
     alloc: A,
+    effect: &mut E,
 ) -> Result<&'a [u8], DecodeError>
-    ensures found { IfOk result (λ rest. (x : P.Value) × Decodes (prefixed (mark ∷ []) P.format) (padded_of G.grammar) bytes.now x rest.now) }
-    ensures none { IfErr result (λ e. e.cause ≢ Memory → Rejects (prefixed (mark ∷ []) P.format) (padded_of G.grammar) bytes.now) }
-    ensures no_memory { IfErr result (λ e. e.cause ≡ Memory → P.may_allocate) }
-{
-    let (first, after) = <u8 as Readable<'a, A, G>>::read(bytes, alloc)?;
-    if first != mark {
-        return Err(ReadFault::UnknownTag.just_before(after));
-    }
-    let rest = P::skip(after, alloc)?;
-    Ok(rest)
-}
-
-/// Minimizes the byte `mark` and the value after it.
-#[tactic(auto, using(crate::proofs::DecodeMarked::marked_steps, crate::proofs::MinimizeCustoms::marked_minimizes, wasm_base::proofs::MinimalEncodings::front_steps))]
-pub(crate) fn minimize_marked<'a, T: Minimize<G>, A: Allocator + Copy, G: Grammar, B: Allocator>(
-    mark: u8,
-    bytes: &'a [u8],
-    alloc: A,
-    sink: &mut Vec<u8, B>,
-) -> Result<&'a [u8], DecodeError>
-    ensures found { IfOk result (λ rest. Minimizes G.grammar (prefixed (mark ∷ []) T.format) bytes.now rest.now sink.old.items sink.new.items) }
+    ensures found { IfOk result (λ rest. Walks E.seen G.grammar (prefixed (mark ∷ []) T.format) bytes.now rest.now effect.old effect.new) }
     ensures none { IfErr result (λ e. e.cause ≢ Memory → Rejects (prefixed (mark ∷ []) T.format) (padded_of G.grammar) bytes.now) }
-    ensures front { IsFrontOf sink.old.items sink.new.items }
+    ensures no_memory { IfErr result (λ e. e.cause ≡ Memory → E.may_fail) }
+    ensures front { Keeps E.seen effect.old effect.new }
 {
     let (first, after) = <u8 as Readable<'a, A, G>>::read(bytes, alloc)?;
     if first != mark {
         return Err(ReadFault::UnknownTag.just_before(after));
     }
-    mark.encode(sink)?;
-    let rest = T::minimize(after, alloc, sink)?;
+    effect.put(&mark)?;
+    let rest = T::walk(after, alloc, effect)?;
     Ok(rest)
 }
 

@@ -1,154 +1,48 @@
-// Linking sections whose minimal encoding is appended while they are decoded.
-ghost use Rattle.std.specs.Prelude.{◌≢◌, IfOk, IfErr, OnOk};
-ghost use Rattle.wasm_base.specs.Numbers.{padded_of};
+// Minimizes payloads of custom sections. No item is kept.
+ghost use Rattle.std.specs.Prelude.{◌≢◌, IfErr, OnOk};
 ghost use Rattle.wasm_base.specs.Continuing.{RejectsWhole};
-ghost use Rattle.wasm_base.specs.Decoding.{Rejects};
-ghost use Rattle.wasm_base.specs.Minimal.{Minimizes, MinimizesWhole, IsFrontOf};
+ghost use Rattle.wasm_base.specs.Minimal.{MinimizesWhole, IsFrontOf};
+ghost use Rattle.wasm_base.specs.Numbers.{padded_of};
 ghost use Rattle.wasm_base.specs.declared.fault.ReadFault.TheVariants.{Memory};
-ghost use Rattle.wasm_custom.specs.Comdats.{comdat};
-ghost use Rattle.wasm_custom.specs.Linking.{link, linking_payload};
-ghost use Rattle.wasm_custom.specs.Segments.{segment};
-ghost use Rattle.wasm_custom.specs.Symbols.{symbol};
+ghost use Rattle.wasm_custom.specs.CoreDumps.{modules_payload, instances_payload};
+ghost use Rattle.wasm_custom.specs.CoreStacks.{stack_payload};
+ghost use Rattle.wasm_custom.specs.Dylink.{dylink_payload};
+ghost use Rattle.wasm_custom.specs.Hints.{hints_payload};
+ghost use Rattle.wasm_custom.specs.Linking.{linking_payload};
+ghost use Rattle.wasm_custom.specs.Names.{name_payload};
+ghost use Rattle.wasm_custom.specs.Producers.{producers_payload};
+ghost use Rattle.wasm_custom.specs.Relocations.{relocations_payload};
+ghost use Rattle.wasm_custom.specs.TargetFeatures.{features_payload};
 
-use crate::comdats::{Comdat, ComdatSymbol};
-use crate::init_functions::InitFunction;
-use crate::linking::{LinkItem, VERSION, after_version};
-use crate::named::after_name;
-use crate::segments::SegmentInfo;
-use crate::standard::require_standard;
-use crate::symbols::Symbol;
+use crate::core_walks::{walk_instances, walk_modules, walk_stack};
+use crate::dylink_walks::walk_dylink;
+use crate::item_walks::{walk_features, walk_hints, walk_producers, walk_relocations};
+use crate::link_walks::walk_links;
+use crate::name_walks::walk_names;
 use std::alloc::Allocator;
-use wasm_base::{
-    DecodeError, Encode, Grammar, Minimize, Readable, Shared, SizePrefixed, minimize_shared,
-    minimize_to_end,
-};
+use wasm_base::{DecodeError, Grammar};
 
-impl<'s, G: Grammar> Minimize<G> for SegmentInfo<'s> {
-    fn minimize<'a, A: Allocator + Copy, B: Allocator>(
-        bytes: &'a [u8],
-        alloc: A,
-        sink: &mut Vec<u8, B>,
-    ) -> Result<&'a [u8], DecodeError>
-        ensures found { IfOk result (λ rest. Minimizes G.grammar segment bytes.now rest.now sink.old.items sink.new.items) }
-        ensures none { IfErr result (λ e. e.cause ≢ Memory → Rejects segment (padded_of G.grammar) bytes.now) }
-        ensures front { IsFrontOf sink.old.items sink.new.items }
-    {
-        let rest = <(&'a str, (u32, u32)) as Minimize<G>>::minimize(bytes, alloc, sink)?;
-        Ok(rest)
-    }
-}
-
-impl<G: Grammar> Minimize<G> for InitFunction {
-    fn minimize<'a, A: Allocator + Copy, B: Allocator>(
-        bytes: &'a [u8],
-        alloc: A,
-        sink: &mut Vec<u8, B>,
-    ) -> Result<&'a [u8], DecodeError> {
-        let rest = <(u32, u32) as Minimize<G>>::minimize(bytes, alloc, sink)?;
-        Ok(rest)
-    }
-}
-
-impl Shared for ComdatSymbol {
-    fn shared() {}
-}
-
-impl<G: Grammar> Minimize<G> for ComdatSymbol {
-    fn minimize<'a, A: Allocator + Copy, B: Allocator>(
-        bytes: &'a [u8],
-        alloc: A,
-        sink: &mut Vec<u8, B>,
-    ) -> Result<&'a [u8], DecodeError> {
-        minimize_shared::<ComdatSymbol, A, G, _>(bytes, alloc, sink)
-    }
-}
-
-impl<'s, G: Grammar, C: Allocator> Minimize<G> for Comdat<'s, C> {
-    fn minimize<'a, A: Allocator + Copy, B: Allocator>(
-        bytes: &'a [u8],
-        alloc: A,
-        sink: &mut Vec<u8, B>,
-    ) -> Result<&'a [u8], DecodeError>
-        ensures found { IfOk result (λ rest. Minimizes G.grammar comdat bytes.now rest.now sink.old.items sink.new.items) }
-        ensures none { IfErr result (λ e. e.cause ≢ Memory → Rejects comdat (padded_of G.grammar) bytes.now) }
-        ensures front { IsFrontOf sink.old.items sink.new.items }
-    {
-        let rest = <(&'a str, (u32, Vec<ComdatSymbol, C>)) as Minimize<G>>::minimize(
-            bytes, alloc, sink,
-        )?;
-        Ok(rest)
-    }
-}
-
-impl<'s, G: Grammar> Minimize<G> for Symbol<'s> {
-    #[tactic(auto, using(wasm_base::proofs::MinimalEncodings::front_steps))]
-    fn minimize<'a, A: Allocator + Copy, B: Allocator>(
-        bytes: &'a [u8],
-        alloc: A,
-        sink: &mut Vec<u8, B>,
-    ) -> Result<&'a [u8], DecodeError>
-        ensures found { IfOk result (λ rest. Minimizes G.grammar symbol bytes.now rest.now sink.old.items sink.new.items) }
-        ensures none { IfErr result (λ e. e.cause ≢ Memory → Rejects symbol (padded_of G.grammar) bytes.now) }
-        ensures front { IsFrontOf sink.old.items sink.new.items }
-    {
-        let (symbol, rest) = <Symbol<'a> as Readable<'a, A, G>>::read(bytes, alloc)?;
-        symbol.append(sink)?;
-        Ok(rest)
-    }
-}
-
-impl<'s, G: Grammar, C: Allocator> Minimize<G> for LinkItem<'s, C> {
-    #[tactic(auto, using(crate::proofs::LinkLaws::link_steps, wasm_base::proofs::MinimalEncodings::front_steps))]
-    fn minimize<'a, A: Allocator + Copy, B: Allocator>(
-        bytes: &'a [u8],
-        alloc: A,
-        sink: &mut Vec<u8, B>,
-    ) -> Result<&'a [u8], DecodeError>
-        ensures found { IfOk result (λ rest. Minimizes G.grammar link bytes.now rest.now sink.old.items sink.new.items) }
-        ensures none { IfErr result (λ e. e.cause ≢ Memory → Rejects link (padded_of G.grammar) bytes.now) }
-        ensures front { IsFrontOf sink.old.items sink.new.items }
-    {
-        let (id, rest) = <u8 as Readable<'a, A, G>>::read(bytes, alloc)?;
-        id.encode(sink)?;
-        match id {
-            5 => {
-                require_standard::<G>(rest)?;
-                let rest = <SizePrefixed<Vec<SegmentInfo<'a>, C>> as Minimize<G>>::minimize(
-                    rest, alloc, sink,
-                )?;
-                Ok(rest)
-            }
-            6 => {
-                require_standard::<G>(rest)?;
-                let rest = <SizePrefixed<Vec<InitFunction, C>> as Minimize<G>>::minimize(
-                    rest, alloc, sink,
-                )?;
-                Ok(rest)
-            }
-            7 => {
-                require_standard::<G>(rest)?;
-                let rest = <SizePrefixed<Vec<Comdat<'a, C>, C>> as Minimize<G>>::minimize(
-                    rest, alloc, sink,
-                )?;
-                Ok(rest)
-            }
-            8 => {
-                let rest = <SizePrefixed<Vec<Symbol<'a>, C>> as Minimize<G>>::minimize(
-                    rest, alloc, sink,
-                )?;
-                Ok(rest)
-            }
-            9 => {
-                let rest = <SizePrefixed<&'a str> as Minimize<G>>::minimize(rest, alloc, sink)?;
-                Ok(rest)
-            }
-            _ => {
-                require_standard::<G>(rest)?;
-                let rest = <&'a [u8] as Minimize<G>>::minimize(rest, alloc, sink)?;
-                Ok(rest)
-            }
-        }
-    }
+/// Appends the minimal encoding, in the grammar `G`, of the payload of a name section. After an
+/// error, part of it may follow the old bytes of the sink.
+///
+/// ```text
+/// minimize_names::<_, Standard, _>(&payload, alloc, &mut out)?;
+/// ```
+///
+/// # Errors
+///
+/// Any error but `Memory` means that the bytes are not such a payload.
+#[tactic(auto, using(wasm_base::proofs::EffectLaws::minimized_whole, wasm_base::proofs::EffectLaws::front_kept))]
+pub fn minimize_names<'a, A: Allocator + Copy, G: Grammar, B: Allocator>(
+    bytes: &'a [u8],
+    alloc: A,
+    sink: &mut Vec<u8, B>,
+) -> Result<(), DecodeError>
+    ensures found { OnOk result (MinimizesWhole G.grammar name_payload bytes.now sink.old.items sink.new.items) }
+    ensures none { IfErr result (λ e. e.cause ≢ Memory → RejectsWhole name_payload (padded_of G.grammar) bytes.now) }
+    ensures front { IsFrontOf sink.old.items sink.new.items }
+{
+    walk_names::<A, G, _>(bytes, alloc, sink)
 }
 
 /// Appends the minimal encoding, in the grammar `G`, of the payload of a linking section. After an
@@ -161,7 +55,7 @@ impl<'s, G: Grammar, C: Allocator> Minimize<G> for LinkItem<'s, C> {
 /// # Errors
 ///
 /// Any error but `Memory` means that the bytes are not such a payload.
-#[tactic(auto, using(crate::proofs::LinkLaws::section_steps, wasm_base::proofs::MinimalEncodings::front_steps))]
+#[tactic(auto, using(wasm_base::proofs::EffectLaws::minimized_whole, wasm_base::proofs::EffectLaws::front_kept))]
 pub fn minimize_links<'a, A: Allocator + Copy, G: Grammar, B: Allocator>(
     bytes: &'a [u8],
     alloc: A,
@@ -171,10 +65,190 @@ pub fn minimize_links<'a, A: Allocator + Copy, G: Grammar, B: Allocator>(
     ensures none { IfErr result (λ e. e.cause ≢ Memory → RejectsWhole linking_payload (padded_of G.grammar) bytes.now) }
     ensures front { IsFrontOf sink.old.items sink.new.items }
 {
-    let rest = after_name::<A, G>("linking", bytes, alloc)?;
-    let rest = after_version::<A, G>(rest, alloc)?;
-    "linking".encode(sink)?;
-    VERSION.encode(sink)?;
-    minimize_to_end::<LinkItem<'a, A>, A, G, _>(rest, alloc, sink)?;
-    Ok(())
+    walk_links::<A, G, _>(bytes, alloc, sink)
+}
+
+/// Appends the minimal encoding, in the grammar `G`, of the payload of a dynamic library's section.
+/// After an error, part of it may follow the old bytes of the sink.
+///
+/// ```text
+/// minimize_dylink::<_, Standard, _>(&payload, alloc, &mut out)?;
+/// ```
+///
+/// # Errors
+///
+/// Any error but `Memory` means that the bytes are not such a payload.
+#[tactic(auto, using(wasm_base::proofs::EffectLaws::minimized_whole, wasm_base::proofs::EffectLaws::front_kept))]
+pub fn minimize_dylink<'a, A: Allocator + Copy, G: Grammar, B: Allocator>(
+    bytes: &'a [u8],
+    alloc: A,
+    sink: &mut Vec<u8, B>,
+) -> Result<(), DecodeError>
+    ensures found { OnOk result (MinimizesWhole G.grammar dylink_payload bytes.now sink.old.items sink.new.items) }
+    ensures none { IfErr result (λ e. e.cause ≢ Memory → RejectsWhole dylink_payload (padded_of G.grammar) bytes.now) }
+    ensures front { IsFrontOf sink.old.items sink.new.items }
+{
+    walk_dylink::<A, G, _>(bytes, alloc, sink)
+}
+
+/// Appends the minimal encoding, in the grammar `G`, of the payload of a producers section. After
+/// an error, part of it may follow the old bytes of the sink.
+///
+/// ```text
+/// minimize_producers::<_, Standard, _>(&payload, alloc, &mut out)?;
+/// ```
+///
+/// # Errors
+///
+/// Any error but `Memory` means that the bytes are not such a payload.
+#[tactic(auto, using(wasm_base::proofs::EffectLaws::minimized_whole, wasm_base::proofs::EffectLaws::front_kept))]
+pub fn minimize_producers<'a, A: Allocator + Copy, G: Grammar, B: Allocator>(
+    bytes: &'a [u8],
+    alloc: A,
+    sink: &mut Vec<u8, B>,
+) -> Result<(), DecodeError>
+    ensures found { OnOk result (MinimizesWhole G.grammar producers_payload bytes.now sink.old.items sink.new.items) }
+    ensures none { IfErr result (λ e. e.cause ≢ Memory → RejectsWhole producers_payload (padded_of G.grammar) bytes.now) }
+    ensures front { IsFrontOf sink.old.items sink.new.items }
+{
+    walk_producers::<A, G, _>(bytes, alloc, sink)
+}
+
+/// Appends the minimal encoding, in the grammar `G`, of the payload of a target features section.
+/// After an error, part of it may follow the old bytes of the sink.
+///
+/// ```text
+/// minimize_features::<_, Standard, _>(&payload, alloc, &mut out)?;
+/// ```
+///
+/// # Errors
+///
+/// Any error but `Memory` means that the bytes are not such a payload.
+#[tactic(auto, using(wasm_base::proofs::EffectLaws::minimized_whole, wasm_base::proofs::EffectLaws::front_kept))]
+pub fn minimize_features<'a, A: Allocator + Copy, G: Grammar, B: Allocator>(
+    bytes: &'a [u8],
+    alloc: A,
+    sink: &mut Vec<u8, B>,
+) -> Result<(), DecodeError>
+    ensures found { OnOk result (MinimizesWhole G.grammar features_payload bytes.now sink.old.items sink.new.items) }
+    ensures none { IfErr result (λ e. e.cause ≢ Memory → RejectsWhole features_payload (padded_of G.grammar) bytes.now) }
+    ensures front { IsFrontOf sink.old.items sink.new.items }
+{
+    walk_features::<A, G, _>(bytes, alloc, sink)
+}
+
+/// Appends the minimal encoding, in the grammar `G`, of the payload of a branch hint section. After
+/// an error, part of it may follow the old bytes of the sink.
+///
+/// ```text
+/// minimize_hints::<_, Standard, _>(&payload, alloc, &mut out)?;
+/// ```
+///
+/// # Errors
+///
+/// Any error but `Memory` means that the bytes are not such a payload.
+#[tactic(auto, using(wasm_base::proofs::EffectLaws::minimized_whole, wasm_base::proofs::EffectLaws::front_kept))]
+pub fn minimize_hints<'a, A: Allocator + Copy, G: Grammar, B: Allocator>(
+    bytes: &'a [u8],
+    alloc: A,
+    sink: &mut Vec<u8, B>,
+) -> Result<(), DecodeError>
+    ensures found { OnOk result (MinimizesWhole G.grammar hints_payload bytes.now sink.old.items sink.new.items) }
+    ensures none { IfErr result (λ e. e.cause ≢ Memory → RejectsWhole hints_payload (padded_of G.grammar) bytes.now) }
+    ensures front { IsFrontOf sink.old.items sink.new.items }
+{
+    walk_hints::<A, G, _>(bytes, alloc, sink)
+}
+
+/// Appends the minimal encoding, in the grammar `G`, of the payload of a relocation section. After
+/// an error, part of it may follow the old bytes of the sink. The offsets of the relocations stay
+/// as they are, even if the section that they refer to is minimized too.
+///
+/// ```text
+/// minimize_relocations::<_, Standard, _>(&payload, alloc, &mut out)?;
+/// ```
+///
+/// # Errors
+///
+/// Any error but `Memory` means that the bytes are not such a payload.
+#[tactic(auto, using(wasm_base::proofs::EffectLaws::minimized_whole, wasm_base::proofs::EffectLaws::front_kept))]
+pub fn minimize_relocations<'a, A: Allocator + Copy, G: Grammar, B: Allocator>(
+    bytes: &'a [u8],
+    alloc: A,
+    sink: &mut Vec<u8, B>,
+) -> Result<(), DecodeError>
+    ensures found { OnOk result (MinimizesWhole G.grammar relocations_payload bytes.now sink.old.items sink.new.items) }
+    ensures none { IfErr result (λ e. e.cause ≢ Memory → RejectsWhole relocations_payload (padded_of G.grammar) bytes.now) }
+    ensures front { IsFrontOf sink.old.items sink.new.items }
+{
+    walk_relocations::<A, G, _>(bytes, alloc, sink)
+}
+
+/// Appends the minimal encoding, in the grammar `G`, of the payload of a core dump's modules
+/// section. After an error, part of it may follow the old bytes of the sink.
+///
+/// ```text
+/// minimize_modules::<_, Standard, _>(&payload, alloc, &mut out)?;
+/// ```
+///
+/// # Errors
+///
+/// Any error but `Memory` means that the bytes are not such a payload.
+#[tactic(auto, using(wasm_base::proofs::EffectLaws::minimized_whole, wasm_base::proofs::EffectLaws::front_kept))]
+pub fn minimize_modules<'a, A: Allocator + Copy, G: Grammar, B: Allocator>(
+    bytes: &'a [u8],
+    alloc: A,
+    sink: &mut Vec<u8, B>,
+) -> Result<(), DecodeError>
+    ensures found { OnOk result (MinimizesWhole G.grammar modules_payload bytes.now sink.old.items sink.new.items) }
+    ensures none { IfErr result (λ e. e.cause ≢ Memory → RejectsWhole modules_payload (padded_of G.grammar) bytes.now) }
+    ensures front { IsFrontOf sink.old.items sink.new.items }
+{
+    walk_modules::<A, G, _>(bytes, alloc, sink)
+}
+
+/// Appends the minimal encoding, in the grammar `G`, of the payload of a core dump's instances
+/// section. After an error, part of it may follow the old bytes of the sink.
+///
+/// ```text
+/// minimize_instances::<_, Standard, _>(&payload, alloc, &mut out)?;
+/// ```
+///
+/// # Errors
+///
+/// Any error but `Memory` means that the bytes are not such a payload.
+#[tactic(auto, using(wasm_base::proofs::EffectLaws::minimized_whole, wasm_base::proofs::EffectLaws::front_kept))]
+pub fn minimize_instances<'a, A: Allocator + Copy, G: Grammar, B: Allocator>(
+    bytes: &'a [u8],
+    alloc: A,
+    sink: &mut Vec<u8, B>,
+) -> Result<(), DecodeError>
+    ensures found { OnOk result (MinimizesWhole G.grammar instances_payload bytes.now sink.old.items sink.new.items) }
+    ensures none { IfErr result (λ e. e.cause ≢ Memory → RejectsWhole instances_payload (padded_of G.grammar) bytes.now) }
+    ensures front { IsFrontOf sink.old.items sink.new.items }
+{
+    walk_instances::<A, G, _>(bytes, alloc, sink)
+}
+
+/// Appends the minimal encoding, in the grammar `G`, of the payload of a core dump's stack section.
+/// After an error, part of it may follow the old bytes of the sink.
+///
+/// ```text
+/// minimize_stack::<_, Standard, _>(&payload, alloc, &mut out)?;
+/// ```
+///
+/// # Errors
+///
+/// Any error but `Memory` means that the bytes are not such a payload.
+#[tactic(auto, using(wasm_base::proofs::EffectLaws::minimized_whole, wasm_base::proofs::EffectLaws::front_kept))]
+pub fn minimize_stack<'a, A: Allocator + Copy, G: Grammar, B: Allocator>(
+    bytes: &'a [u8],
+    alloc: A,
+    sink: &mut Vec<u8, B>,
+) -> Result<(), DecodeError>
+    ensures found { OnOk result (MinimizesWhole G.grammar stack_payload bytes.now sink.old.items sink.new.items) }
+    ensures none { IfErr result (λ e. e.cause ≢ Memory → RejectsWhole stack_payload (padded_of G.grammar) bytes.now) }
+    ensures front { IsFrontOf sink.old.items sink.new.items }
+{
+    walk_stack::<A, G, _>(bytes, alloc, sink)
 }
