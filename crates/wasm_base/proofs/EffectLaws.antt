@@ -35,6 +35,9 @@ pub minimized_whole : {A X T R : Type 0} (w : Grammar) (F : Format X) (bytes : L
 minimized_whole w F bytes old new (Ok t) h = record { value = h.value; decoded = h.decoded; encoding = h.encoding; encodes = h.encodes; appended = h.taken.after old.items refl }
 minimized_whole w F bytes old new (Err e) h = tt
 
+pub minimized_many : {A X : Type 0} (w : Grammar) (F : Format X) (bytes : List ℕ) (count : ℕ) (rest : List ℕ) (old new : Vec ℕ A) → WalksMany (λ e l. e.items ≡ l) w F bytes count rest old new → Minimizes w (vec F) bytes rest old.items new.items
+minimized_many w F bytes count rest old new h = record { value = h.value; decoded = h.decoded; encoding = h.encoding; encodes = h.encodes; appended = h.taken.after old.items refl }
+
 -- ---- bytes that are minimized by a call
 
 -- The minimal encoding of a decoded value is appended.
@@ -55,4 +58,4 @@ sized_minimizes w F bytes content rest old middle new start h m e encodable is =
       appended = is ∙ ap₂ (λ y z. y ++ size_prefixed_encoding z) before behind;
     }
 
-pub ruleset appending = (front_kept, minimized_whole)
+pub ruleset appending = (front_kept, minimized_many, minimized_whole)

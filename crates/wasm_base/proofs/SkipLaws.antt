@@ -23,19 +23,3 @@ module _ {X : Type 0} (F : Format X) where
 
   pub skipped_rejects : {m : Mode} (bytes start rest : List ℕ) (n taken : ℕ) → Unambiguous F → Decodes u32 m bytes n start → HasSkipped F m start taken rest → taken < n → Rejects F m rest → Rejects (vec F) m bytes
   skipped_rejects bytes start rest n taken unique count h l none = vec_rejects h.values unique count h.read (subst (λ z. z < n) (sym h.counted) l) none
-
--- ---- values up to the last byte
-
--- The reader has skipped values from the first byte on, and `rest` remains.
-abbrev pub HasSkippedMembers : {X : Type 0} → Format X → Mode → List ℕ → List ℕ → Type 0
-HasSkippedMembers {X} F m bytes rest = (xs : List X) × HasMembers F m (λ x. x) bytes xs rest
-
-module _ {X : Type 0} {m : Mode} (F : Format X) (bytes : List ℕ) where
-  pub skipping_begun : HasSkippedMembers F m bytes bytes
-  skipping_begun = ([], members_begun F (λ x. x) bytes)
-
-  pub skipping_continued : Unambiguous F → (rest after : List ℕ) (x : X) → HasSkippedMembers F m bytes rest → rest ≢ [] → Decodes F m rest x after → HasSkippedMembers F m bytes after
-  skipping_continued unique rest after x h some g = (h.0 ++ x ∷ [], members_continued F (λ x. x) bytes unique rest after h.0 x h.1 some g)
-
-  pub skipping_done : (rest : List ℕ) → HasSkippedMembers F m bytes rest → rest ≡ [] → (xs : List X) × members F m bytes xs
-  skipping_done rest h e = (map (λ x. x) h.0, members_done F (λ x. x) bytes rest h.0 h.1 e)

@@ -2,10 +2,11 @@
 ghost use Rattle.std.specs.Prelude.{◌∷◌, [], ⊤, ℕ, List, ℤ};
 ghost use Rattle.wasm_base.specs.Formats.{byte, raw_bytes, vector_format};
 
+use crate::effect::Effect;
 use crate::encode::Encode;
 use crate::fault::{DecodeError, ReadFault};
 use crate::grammar::Grammar;
-use crate::walk::Canonical;
+use crate::walk::{Canonical, Walk, walk_value};
 use crate::readable::{Layout, Readable};
 use crate::refused::Result;
 use std::alloc::Allocator;
@@ -63,6 +64,17 @@ impl<'a, A: Allocator + Copy, G: Grammar> Readable<'a, A, G> for u8 {
 impl Canonical for u8 {
     #[tactic(auto, using(crate::proofs::GrammarLaws::byte_canonical))]
     fn canonical() {}
+}
+
+impl<G: Grammar> Walk<G> for u8 {
+    #[inline]
+    fn walk<'a, A: Allocator + Copy, E: Effect>(
+        bytes: &'a [u8],
+        alloc: A,
+        effect: &mut E,
+    ) -> Result<&'a [u8], DecodeError> {
+        walk_value::<u8, A, G, _>(bytes, alloc, effect)
+    }
 }
 
 /// A vector's sixteen bytes, little-endian, in two's complement.

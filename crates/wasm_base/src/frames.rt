@@ -1,5 +1,5 @@
 // Size-prefixed values: a size, and exactly that many bytes.
-ghost use Rattle.std.specs.Prelude.{◌≡◌, ◌≢◌, ◌+◌, ◌<◌, ◌≤◌, ◌++◌, length, vec_len, vec_capacity, OnOk, OnErr, IsOk, take, drop, Err};
+ghost use Rattle.std.specs.Prelude.{◌≡◌, ◌≢◌, ◌+◌, ◌<◌, ◌≤◌, ◌++◌, ⊤, length, vec_len, vec_capacity, OnOk, OnErr, IsOk, take, drop, Err};
 ghost use Rattle.wasm_base.specs.Calls.{Appends};
 ghost use Rattle.wasm_base.specs.Numbers.{unsigned_encoding};
 ghost use Rattle.wasm_base.specs.Encodings.{longest, size_prefixed_encoding, HasEncodableSize};
@@ -16,7 +16,6 @@ use crate::walk::{Walk, walk_whole};
 use crate::readable::{Layout, Readable};
 use crate::refused::{Refused, Result};
 use crate::shorten::Shorten;
-use crate::skip::{Skip, check_whole};
 use crate::whole::read_before;
 use std::alloc::Allocator;
 
@@ -117,6 +116,22 @@ impl Encode for SizedBytes<'_> {
     }
 }
 
+/// Bytes that are encoded as they are, without their size.
+#[derive(Clone, Copy, Debug)]
+pub struct RawBytes<'a>(pub &'a [u8]);
+
+impl Encode for RawBytes<'_> {
+    ghost encoding = { λ b. b.0.now };
+
+    ghost encodable = { λ _. ⊤ };
+
+    #[inline]
+    fn encode<A: Allocator>(&self, sink: &mut Vec<u8, A>) -> Result<()> {
+        sink.extend_from_slice(self.0)?;
+        Ok(())
+    }
+}
+
 /// A size-prefixed value that occupies its payload to the last byte. Its own format determines its
 /// end too.
 #[derive(Debug, Drop)]
@@ -205,19 +220,5 @@ impl<G: Grammar, T: Walk<G>> Walk<G> for SizePrefixed<T> {
         }
         effect.prefix_size(start)?;
         Ok(rest)
-    }
-}
-
-/// Skips the payload, which the value occupies to the last byte.
-impl<'a, A: Allocator + Copy, G: Grammar, P: Skip<'a, A, G>> Skip<'a, A, G> for SizePrefixed<P> {
-    ghost may_allocate = { P.may_allocate };
-
-    #[tactic(auto, using(crate::proofs::DecodeSizePrefixed::filled_steps))]
-    fn skip(bytes: &'a [u8], alloc: A) -> Result<&'a [u8], DecodeError> {
-        let (content, rest) = <&'a [u8] as Readable<'a, A, G>>::read(bytes, alloc)?;
-        match check_whole::<'a, P, A, G>(content, alloc) {
-            Ok(()) => Ok(rest),
-            Err(error) => Err(error.before(rest)),
-        }
     }
 }

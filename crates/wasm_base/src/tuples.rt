@@ -12,7 +12,6 @@ use crate::walk::Walk;
 use crate::readable::{Layout, Readable};
 use crate::refused::Result;
 use crate::shorten::Shorten;
-use crate::skip::Skip;
 use std::alloc::Allocator;
 
 /// Appends the encodings of both values, or of neither.
@@ -60,20 +59,6 @@ impl<S: Encode, T: Encode, U: Encode> Encode for (S, T, U) {
             return Err(refused);
         }
         Ok(())
-    }
-}
-
-/// One value, and then another.
-impl<'a, A: Allocator + Copy, G: Grammar, P: Skip<'a, A, G>, Q: Skip<'a, A, G>> Skip<'a, A, G>
-    for (P, Q) {
-    ghost may_allocate = { P.may_allocate ⊎ Q.may_allocate };
-
-    #[tactic(auto, using(crate::proofs::DecodingSteps::steps))]
-    fn skip(bytes: &'a [u8], alloc: A) -> Result<&'a [u8], DecodeError> {
-        let after = P::skip(bytes, alloc)?;
-        P::laws();
-        let rest = Q::skip(after, alloc)?;
-        Ok(rest)
     }
 }
 

@@ -15,7 +15,6 @@ use crate::once::{EncodeOnce, vec_of};
 use crate::readable::{Layout, Readable};
 use crate::refused::Result;
 use crate::shorten::Shorten;
-use crate::skip::{Skip, skip_many};
 use std::alloc::Allocator;
 
 /// Encodes the members as a vector.
@@ -139,17 +138,6 @@ impl<G: Grammar, T: Walk<G>, C: Allocator> Walk<G> for Vec<T, C> {
         effect: &mut E,
     ) -> Result<&'a [u8], DecodeError> {
         let (_count, rest) = walk_many::<T, A, G, _>(bytes, alloc, effect)?;
-        Ok(rest)
-    }
-}
-
-/// Skips the members one by one, and keeps none.
-impl<'a, A: Allocator + Copy, G: Grammar, P: Skip<'a, A, G>, C: Allocator> Skip<'a, A, G>
-    for Vec<P, C> {
-    ghost may_allocate = { P.may_allocate };
-
-    fn skip(bytes: &'a [u8], alloc: A) -> Result<&'a [u8], DecodeError> {
-        let (_count, rest) = skip_many::<'a, P, A, G>(bytes, alloc)?;
         Ok(rest)
     }
 }

@@ -3,7 +3,7 @@ ghost use Rattle.std.specs.Prelude.{◌≡◌, ◌≢◌, List, length, IfOk, If
 ghost use Rattle.wasm_base.specs.Continuing.{RejectsWhole};
 ghost use Rattle.wasm_base.specs.Decoding.{BeginsWith, Decodes, Rejects};
 ghost use Rattle.wasm_base.specs.Formats.{members, vec};
-ghost use Rattle.wasm_base.specs.Minimal.{both_grammars, EncodesMinimally, IsFrontOf, MinimizesWhole};
+ghost use Rattle.wasm_base.specs.Minimal.{both_grammars, EncodesMinimally, IsFrontOf, Minimizes, MinimizesWhole};
 ghost use Rattle.wasm_base.specs.Numbers.{padded_of};
 ghost use Rattle.wasm_base.specs.Walks.{Keeps, Walks, WalksMany, WalksWhole};
 ghost use Rattle.wasm_base.specs.declared.fault.ReadFault.TheVariants.{Memory};
@@ -223,7 +223,7 @@ pub fn skip_value<'a, T: Walk<G>, A: Allocator + Copy, G: Grammar>(
 /// # Errors
 ///
 /// Any error means that no such vector is at the front.
-pub fn skip_vector<'a, T: Walk<G>, A: Allocator + Copy, G: Grammar>(
+pub fn skip_many<'a, T: Walk<G>, A: Allocator + Copy, G: Grammar>(
     bytes: &'a [u8],
     alloc: A,
 ) -> Result<(u32, &'a [u8]), DecodeError>
@@ -232,6 +232,62 @@ pub fn skip_vector<'a, T: Walk<G>, A: Allocator + Copy, G: Grammar>(
     ensures no_memory { IfErr result (λ e. e.cause ≢ Memory) }
 {
     walk_many::<T, A, G, _>(bytes, alloc, &mut Discard)
+}
+
+/// Checks that a value occupies all of the bytes. The value is not kept.
+///
+/// # Errors
+///
+/// Any error means that the bytes as a whole encode no such value.
+#[tactic(auto, using(crate::proofs::EffectLaws::checked_whole))]
+pub fn check_whole<'a, T: Walk<G>, A: Allocator + Copy, G: Grammar>(
+    bytes: &'a [u8],
+    alloc: A,
+) -> Result<(), DecodeError>
+    ensures found { OnOk result ((x : T.Value) × T.format (padded_of G.grammar) bytes.now x) }
+    ensures none { IfErr result (λ e. e.cause ≢ Memory → RejectsWhole T.format (padded_of G.grammar) bytes.now) }
+    ensures no_memory { IfErr result (λ e. e.cause ≢ Memory) }
+{
+    walk_whole::<T, A, G, _>(bytes, alloc, &mut Discard)
+}
+
+/// Checks that values occupy all of the bytes, one after another; no encoding of one is empty. The
+/// values are not kept.
+///
+/// # Errors
+///
+/// Any error means that the bytes as a whole encode no such values.
+#[tactic(auto, using(crate::proofs::EffectLaws::checked_whole))]
+pub fn check_to_end<'a, T: Walk<G>, A: Allocator + Copy, G: Grammar>(
+    bytes: &'a [u8],
+    alloc: A,
+) -> Result<(), DecodeError>
+    requires begun { BeginsWith (λ b. Unit {0}) T.format }
+    ensures found { OnOk result ((xs : List T.Value) × members T.format (padded_of G.grammar) bytes.now xs) }
+    ensures none { IfErr result (λ e. e.cause ≢ Memory → RejectsWhole (members T.format) (padded_of G.grammar) bytes.now) }
+    ensures no_memory { IfErr result (λ e. e.cause ≢ Memory) }
+{
+    walk_to_end::<T, A, G, _>(bytes, alloc, &mut Discard)
+}
+
+/// Appends the minimal encoding of the vector at the front, and keeps no member.
+///
+/// # Errors
+///
+/// Any error but `Memory` means that no such vector is at the front. After an error, part of the
+/// encoding may follow the old bytes of the sink.
+#[tactic(auto, using(crate::proofs::EffectLaws::appending))]
+pub fn minimize_many<'a, T: Walk<G>, A: Allocator + Copy, G: Grammar, B: Allocator>(
+    bytes: &'a [u8],
+    alloc: A,
+    sink: &mut Vec<u8, B>,
+) -> Result<&'a [u8], DecodeError>
+    ensures found { IfOk result (λ rest. Minimizes G.grammar (vec T.format) bytes.now rest.now sink.old.items sink.new.items) }
+    ensures none { IfErr result (λ e. e.cause ≢ Memory → Rejects (vec T.format) (padded_of G.grammar) bytes.now) }
+    ensures front { IsFrontOf sink.old.items sink.new.items }
+{
+    let (_count, rest) = walk_many::<T, A, G, _>(bytes, alloc, sink)?;
+    Ok(rest)
 }
 
 /// Appends the minimal encoding of a value that occupies all of the bytes.
@@ -251,4 +307,25 @@ pub fn minimize_whole<'a, T: Walk<G>, A: Allocator + Copy, G: Grammar, B: Alloca
     ensures front { IsFrontOf sink.old.items sink.new.items }
 {
     walk_whole::<T, A, G, _>(bytes, alloc, sink)
+}
+
+/// Appends the minimal encodings of values one after another, up to the last byte of the input; no
+/// encoding of one is empty.
+///
+/// # Errors
+///
+/// Any error but `Memory` means that the bytes as a whole encode no such values. After an error,
+/// part of the encoding may follow the old bytes of the sink.
+#[tactic(auto, using(crate::proofs::EffectLaws::appending))]
+pub fn minimize_to_end<'a, T: Walk<G>, A: Allocator + Copy, G: Grammar, B: Allocator>(
+    bytes: &'a [u8],
+    alloc: A,
+    sink: &mut Vec<u8, B>,
+) -> Result<(), DecodeError>
+    requires begun { BeginsWith (λ b. Unit {0}) T.format }
+    ensures found { OnOk result (MinimizesWhole G.grammar (members T.format) bytes.now sink.old.items sink.new.items) }
+    ensures none { IfErr result (λ e. e.cause ≢ Memory → RejectsWhole (members T.format) (padded_of G.grammar) bytes.now) }
+    ensures front { IsFrontOf sink.old.items sink.new.items }
+{
+    walk_to_end::<T, A, G, _>(bytes, alloc, sink)
 }

@@ -2,7 +2,7 @@
 use Rattle.wasm_base.proofs.Words.{◌≡◌, ℕ, List, [], ◌∷◌, ◌++◌, ◌∙◌, refl, sym, ap, subst, map-id, true, minimal, standard_minimal, Grammar, builders, admitted, is_admitted, padded_of, byte, u32, name, just, pair, members, vec, size_prefixed}
 use Rattle.wasm_base.proofs.Words.{Decodes, size_prefixed_encoding, unsigned_encoding, tagged_encodes, any_bytes, IsOther}
 use Rattle.wasm_base.specs.Numbers.{minimal_of}
-use Rattle.wasm_base.specs.Walks.{Takes, Walks, WalksWhole}
+use Rattle.wasm_base.specs.Walks.{TakesBytes, Walks, WalksWhole}
 use Rattle.wasm_base.proofs.GrammarLaws.{u32_canonical, name_canonical}
 use Rattle.wasm_base.proofs.WalkLaws.{walked_as, mapped_walks, take_then}
 use Rattle.wasm_custom.specs.{comdat_symbol, Comdat, comdat_of, comdat, SegmentInfo, segment_of, segment, init_of, init_function}
@@ -27,11 +27,11 @@ comdat_walks h = mapped_walks comdat_of h
 -- ---- subsections
 
 -- The id was put, then the content.
-id_then : {E : Type 0} (seen : E → List ℕ → Type 0) (w : Grammar) (id : ℕ) (x : LinkItem) (content : List ℕ) {b : ℕ} {bytes last : List ℕ} {old middle new : E} → Decodes link (padded_of w) bytes x last → b ≡ id → Takes seen (b ∷ []) old middle → link (minimal_of w) (id ∷ content) x → Takes seen content middle new → Walks seen w link bytes last old new
+id_then : {E : Type 0} (seen : E → List ℕ → Type 0) (w : Grammar) (id : ℕ) (x : LinkItem) (content : List ℕ) {b : ℕ} {bytes last : List ℕ} {old middle new : E} → Decodes link (padded_of w) bytes x last → b ≡ id → TakesBytes seen (b ∷ []) old middle → link (minimal_of w) (id ∷ content) x → TakesBytes seen content middle new → Walks seen w link bytes last old new
 id_then seen w id x content {bytes = bytes} {last = last} {old = old} {middle = middle} {new = new} h e a g t =
-    walked_as seen w link x bytes last (id ∷ content) old new h g (take_then seen (id ∷ []) content old middle new (subst (λ z. Takes seen (z ∷ []) old middle) e a) t)
+    walked_as seen w link x bytes last (id ∷ content) old new h g (take_then seen (id ∷ []) content old middle new (subst (λ z. TakesBytes seen (z ∷ []) old middle) e a) t)
 
-module _ {E : Type 0} {seen : E → List ℕ → Type 0} (w : Grammar) {b : ℕ} {bytes rest last : List ℕ} {old middle new : E} (h : Decodes byte (padded_of w) bytes b rest) (a : Takes seen (b ∷ []) old middle) where
+module _ {E : Type 0} {seen : E → List ℕ → Type 0} (w : Grammar) {b : ℕ} {bytes rest last : List ℕ} {old middle new : E} (h : Decodes byte (padded_of w) bytes b rest) (a : TakesBytes seen (b ∷ []) old middle) where
   pub segments_walk : b ≡ 5 → is_admitted w ≡ true → Walks seen w (size_prefixed (vec segment)) rest last middle new → Walks seen w link bytes last old new
   segments_walk e f g = id_then seen w 5 (Segments g.value) g.encoding (segments_decodes w bytes rest last b g.value h e f g.decoded) e a (encodes w f g.encoding g.value g.encodes) g.taken
     where
@@ -74,7 +74,7 @@ module _ {E : Type 0} {seen : E → List ℕ → Type 0} (w : Grammar) {b : ℕ}
 
 -- ---- sections
 
-pub links_walk : {E : Type 0} (seen : E → List ℕ → Type 0) (w : Grammar) (bytes rest last : List ℕ) (old front middle new : E) → Decodes (just linking_name name) (padded_of w) bytes tt rest → Decodes (just version u32) (padded_of w) rest tt last → Takes seen (size_prefixed_encoding linking_name) old front → Takes seen (unsigned_encoding 2) front middle
+pub links_walk : {E : Type 0} (seen : E → List ℕ → Type 0) (w : Grammar) (bytes rest last : List ℕ) (old front middle new : E) → Decodes (just linking_name name) (padded_of w) bytes tt rest → Decodes (just version u32) (padded_of w) rest tt last → TakesBytes seen (size_prefixed_encoding linking_name) old front → TakesBytes seen (unsigned_encoding 2) front middle
     → WalksWhole seen w (members link) last middle new → WalksWhole seen w linking_payload bytes old new
 links_walk seen w bytes rest last old front middle new h v e f g =
     let content = unsigned_encoding 2 ++ g.encoding in

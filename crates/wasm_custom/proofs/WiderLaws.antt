@@ -4,7 +4,7 @@ use Rattle.wasm_base.proofs.Words.{◌≡◌, ℕ, List, [], ◌∷◌, ◌++◌
 use Rattle.wasm_base.proofs.Words.{size_prefixed, prefixed, by_mode, Mode, Grammar, minimal, padded, standard_minimal, standard, builders, admitted, padded_of, IsIncludedIn, BeginsWith, Unambiguous}
 use Rattle.wasm_base.proofs.Words.{Decodes, Rejects, AppendsMinimal, both_grammars, HasEncoding, byte_unambiguous, by_mode_unambiguous, tagged_decodes, tagged_none, tagged_rejects, AllDetermine, DeterminesTag, choice_determines, tagged_unambiguous}
 use Rattle.wasm_base.proofs.Words.{choice_unambiguous, choice_other, IsOther, tagged_encodes, is_admitted, minimal_of}
-use Rattle.wasm_base.specs.Walks.{Takes, Walks}
+use Rattle.wasm_base.specs.Walks.{TakesBytes, Walks}
 use Rattle.wasm_base.proofs.FormatLaws.{AllUnambiguous, Determines}
 use Rattle.wasm_base.proofs.WalkLaws.{walked_as, take_then}
 
@@ -167,9 +167,9 @@ module _ {X : Type 0} (cs ds : List (ℕ × Format X)) (other : ℕ → Format X
     both_encodes builders s x k = tagged_encodes minimal c s x (subst (λ G. G minimal s x) (sym e) k)
     both_encodes admitted s x k = tagged_encodes standard_minimal c s x (subst (λ G. G standard_minimal s x) (sym f) k)
 
-    pub both_walks : {E : Type 0} {seen : E → List ℕ → Type 0} (w : Grammar) {b : ℕ} {bytes rest last : List ℕ} {old middle new : E} → Decodes byte (padded_of w) bytes b rest → b ≡ c → Takes seen (b ∷ []) old middle → Walks seen w F rest last middle new → Walks seen w by_tag bytes last old new
+    pub both_walks : {E : Type 0} {seen : E → List ℕ → Type 0} (w : Grammar) {b : ℕ} {bytes rest last : List ℕ} {old middle new : E} → Decodes byte (padded_of w) bytes b rest → b ≡ c → TakesBytes seen (b ∷ []) old middle → Walks seen w F rest last middle new → Walks seen w by_tag bytes last old new
     both_walks {seen = seen} w {bytes = bytes} {last = last} {old = old} {middle = middle} {new = new} h is a m =
-        walked_as seen w by_tag m.value bytes last (c ∷ m.encoding) old new (both_is w h is m.decoded) (both_encodes w m.encoding m.value m.encodes) (take_then seen (c ∷ []) m.encoding old middle new (subst (λ z. Takes seen (z ∷ []) old middle) is a) m.taken)
+        walked_as seen w by_tag m.value bytes last (c ∷ m.encoding) old new (both_is w h is m.decoded) (both_encodes w m.encoding m.value m.encodes) (take_then seen (c ∷ []) m.encoding old middle new (subst (λ z. TakesBytes seen (z ∷ []) old middle) is a) m.taken)
 
   -- A tag that the list of the standard's grammar lacks.
   module _ {b : ℕ} (o : IsOther ds b) where
@@ -185,7 +185,7 @@ module _ {X : Type 0} (cs ds : List (ℕ × Format X)) (other : ℕ → Format X
     other_encodes builders s x f k = absurd (cc f)
     other_encodes admitted s x f k = tagged_encodes standard_minimal b s x (subst (λ G. G standard_minimal s x) (sym (choice_other ds other b o)) k)
 
-    pub other_walks : {E : Type 0} {seen : E → List ℕ → Type 0} (w : Grammar) {bytes rest last : List ℕ} {old middle new : E} → is_admitted w ≡ true → Decodes byte (padded_of w) bytes b rest → Takes seen (b ∷ []) old middle → Walks seen w (other b) rest last middle new → Walks seen w by_tag bytes last old new
+    pub other_walks : {E : Type 0} {seen : E → List ℕ → Type 0} (w : Grammar) {bytes rest last : List ℕ} {old middle new : E} → is_admitted w ≡ true → Decodes byte (padded_of w) bytes b rest → TakesBytes seen (b ∷ []) old middle → Walks seen w (other b) rest last middle new → Walks seen w by_tag bytes last old new
     other_walks {seen = seen} w {bytes = bytes} {last = last} {old = old} {middle = middle} {new = new} f h a m =
         walked_as seen w by_tag m.value bytes last (b ∷ m.encoding) old new (other_is w f h m.decoded) (other_encodes w m.encoding m.value f m.encodes) (take_then seen (b ∷ []) m.encoding old middle new a m.taken)
 

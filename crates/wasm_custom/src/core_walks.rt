@@ -5,19 +5,17 @@ ghost use Rattle.wasm_base.specs.Decoding.{Rejects};
 ghost use Rattle.wasm_base.specs.Numbers.{padded_of};
 ghost use Rattle.wasm_base.specs.Walks.{Keeps, Walks, WalksWhole};
 ghost use Rattle.wasm_base.specs.declared.fault.ReadFault.TheVariants.{Memory};
-ghost use Rattle.wasm_custom.specs.CoreDumps.{marked_name, modules_payload, instances_payload};
+ghost use Rattle.wasm_custom.specs.CoreDumps.{marked_name, core_payload, modules_payload, instances_payload};
 ghost use Rattle.wasm_custom.specs.CoreStacks.{stack_payload};
 
 use crate::core_dumps::CoreInstance;
 use crate::core_stack::CoreFrame;
 use crate::core_values::CoreDumpValue;
-use crate::marked::{MarkedName, walk_marked};
 use crate::item_walks::walk_counted;
-use crate::named::after_name;
+use crate::marked::{MarkedName, walk_marked};
+use crate::single::walk_single;
 use std::alloc::Allocator;
-use wasm_base::{
-    Canonical, DecodeError, Effect, Grammar, Walk, walk_value, walk_whole,
-};
+use wasm_base::{Canonical, DecodeError, Effect, Grammar, Walk, walk_value};
 
 impl<'s, G: Grammar> Walk<G> for MarkedName<'s> {
     fn walk<'a, A: Allocator + Copy, E: Effect>(
@@ -33,6 +31,24 @@ impl<'s, G: Grammar> Walk<G> for MarkedName<'s> {
         let rest = walk_marked::<&'a str, A, G, _>(0x00, bytes, alloc, effect)?;
         Ok(rest)
     }
+}
+
+/// Walks over the payload of a core dump's process section, in the grammar `G`.
+///
+/// # Errors
+///
+/// Any error but `Memory` means that the bytes are not such a payload.
+pub fn walk_process<'a, A: Allocator + Copy, G: Grammar, E: Effect>(
+    bytes: &'a [u8],
+    alloc: A,
+    effect: &mut E,
+) -> Result<(), DecodeError>
+    ensures found { OnOk result (WalksWhole E.seen G.grammar core_payload bytes.now effect.old effect.new) }
+    ensures none { IfErr result (λ e. e.cause ≢ Memory → RejectsWhole core_payload (padded_of G.grammar) bytes.now) }
+    ensures no_memory { IfErr result (λ e. e.cause ≡ Memory → E.may_fail) }
+    ensures front { Keeps E.seen effect.old effect.new }
+{
+    walk_single::<MarkedName<'a>, A, G, _>("core", bytes, alloc, effect)
 }
 
 /// Walks over the payload of a core dump's modules section, in the grammar `G`.
@@ -119,7 +135,6 @@ impl<G: Grammar, C: Allocator> Walk<G> for CoreFrame<C> {
 /// # Errors
 ///
 /// Any error but `Memory` means that the bytes are not such a payload.
-#[tactic(auto, using(wasm_base::proofs::WalkLaws::keep_steps))]
 pub fn walk_stack<'a, A: Allocator + Copy, G: Grammar, E: Effect>(
     bytes: &'a [u8],
     alloc: A,
@@ -130,8 +145,10 @@ pub fn walk_stack<'a, A: Allocator + Copy, G: Grammar, E: Effect>(
     ensures no_memory { IfErr result (λ e. e.cause ≡ Memory → E.may_fail) }
     ensures front { Keeps E.seen effect.old effect.new }
 {
-    let rest = after_name::<A, G>("corestack", bytes, alloc)?;
-    effect.put(&"corestack")?;
-    walk_whole::<(MarkedName<'a>, Vec<CoreFrame<A>, A>), A, G, _>(rest, alloc, effect)?;
-    Ok(())
+    walk_single::<(MarkedName<'a>, Vec<CoreFrame<A>, A>), A, G, _>(
+        "corestack",
+        bytes,
+        alloc,
+        effect,
+    )
 }

@@ -6,14 +6,15 @@ ghost use Rattle.wasm_base.specs.Continuing.{RejectsWhole};
 ghost use Rattle.wasm_base.specs.Encodings.{size_prefixed_encoding};
 ghost use Rattle.wasm_base.specs.Minimal.{AppendsMinimal, HasEncoding, both_grammars};
 ghost use Rattle.wasm_base.specs.Numbers.{padded_of};
+ghost use Rattle.wasm_base.specs.Walks.{Keeps, WalksWhole};
 ghost use Rattle.wasm_base.specs.declared.fault.ReadFault.TheVariants.{Memory};
 ghost use Rattle.wasm_base.specs.declared.refused.Refused.TheVariants.{TooLong};
 ghost use Rattle.wasm_custom.specs.Customs.{named_encoding, IsEncodableNamed};
 ghost use Rattle.wasm_custom.specs.DebugFiles.{source_map_name, debug_file_name, build_id_name, source_map_payload, debug_file_payload, build_id_payload, source_map_section, debug_file_section, build_id_section, SaysText};
 
-use crate::single::{append_single, encode_single, read_single};
+use crate::single::{append_single, encode_single, read_single, walk_single};
 use std::alloc::Allocator;
-use wasm_base::{DecodeError, Encode, Grammar, Result, Section, SectionId};
+use wasm_base::{DecodeError, Effect, Encode, Grammar, Result, Section, SectionId};
 
 /// The `sourceMappingURL` section: the URL of the source map of a module.
 ///
@@ -77,6 +78,24 @@ pub fn read_source_map<'a, A: Allocator + Copy, G: Grammar>(
     ensures no_memory { IfErr result (λ e. e.cause ≢ Memory) }
 {
     read_single::<&'a str, A, G>("sourceMappingURL", bytes, alloc)
+}
+
+/// Walks over the payload of the section of a source map, in the grammar `G`.
+///
+/// # Errors
+///
+/// Any error but `Memory` means that the bytes are not such a payload.
+pub fn walk_source_map<'a, A: Allocator + Copy, G: Grammar, E: Effect>(
+    bytes: &'a [u8],
+    alloc: A,
+    effect: &mut E,
+) -> Result<(), DecodeError>
+    ensures found { OnOk result (WalksWhole E.seen G.grammar source_map_payload bytes.now effect.old effect.new) }
+    ensures none { IfErr result (λ e. e.cause ≢ Memory → RejectsWhole source_map_payload (padded_of G.grammar) bytes.now) }
+    ensures no_memory { IfErr result (λ e. e.cause ≡ Memory → E.may_fail) }
+    ensures front { Keeps E.seen effect.old effect.new }
+{
+    walk_single::<&'a str, A, G, _>("sourceMappingURL", bytes, alloc, effect)
 }
 
 /// Appends the minimal encoding of the payload of the section of this source map. On an error, the
@@ -154,6 +173,24 @@ pub fn read_debug_file<'a, A: Allocator + Copy, G: Grammar>(
     read_single::<&'a str, A, G>("external_debug_info", bytes, alloc)
 }
 
+/// Walks over the payload of the section of an external file of debug information, in the grammar `G`.
+///
+/// # Errors
+///
+/// Any error but `Memory` means that the bytes are not such a payload.
+pub fn walk_debug_file<'a, A: Allocator + Copy, G: Grammar, E: Effect>(
+    bytes: &'a [u8],
+    alloc: A,
+    effect: &mut E,
+) -> Result<(), DecodeError>
+    ensures found { OnOk result (WalksWhole E.seen G.grammar debug_file_payload bytes.now effect.old effect.new) }
+    ensures none { IfErr result (λ e. e.cause ≢ Memory → RejectsWhole debug_file_payload (padded_of G.grammar) bytes.now) }
+    ensures no_memory { IfErr result (λ e. e.cause ≡ Memory → E.may_fail) }
+    ensures front { Keeps E.seen effect.old effect.new }
+{
+    walk_single::<&'a str, A, G, _>("external_debug_info", bytes, alloc, effect)
+}
+
 /// Appends the minimal encoding of the payload of the section of this file of debug information. On
 /// an error, the sink is unchanged.
 pub fn append_debug_file<B: Allocator>(path: &str, sink: &mut Vec<u8, B>) -> Result<()>
@@ -227,6 +264,24 @@ pub fn read_build_id<'a, A: Allocator + Copy, G: Grammar>(
     ensures no_memory { IfErr result (λ e. e.cause ≢ Memory) }
 {
     read_single::<&'a [u8], A, G>("build_id", bytes, alloc)
+}
+
+/// Walks over the payload of the section of a build's identity, in the grammar `G`.
+///
+/// # Errors
+///
+/// Any error but `Memory` means that the bytes are not such a payload.
+pub fn walk_build_id<'a, A: Allocator + Copy, G: Grammar, E: Effect>(
+    bytes: &'a [u8],
+    alloc: A,
+    effect: &mut E,
+) -> Result<(), DecodeError>
+    ensures found { OnOk result (WalksWhole E.seen G.grammar build_id_payload bytes.now effect.old effect.new) }
+    ensures none { IfErr result (λ e. e.cause ≢ Memory → RejectsWhole build_id_payload (padded_of G.grammar) bytes.now) }
+    ensures no_memory { IfErr result (λ e. e.cause ≡ Memory → E.may_fail) }
+    ensures front { Keeps E.seen effect.old effect.new }
+{
+    walk_single::<&'a [u8], A, G, _>("build_id", bytes, alloc, effect)
 }
 
 /// Appends the minimal encoding of the payload of the section of these bytes. On an error, the sink

@@ -1,10 +1,11 @@
-// Custom sections of one value: their encoding, their reader and their minimizer.
+// Custom sections of one value: their encoding, their reader and their walk.
 ghost use Rattle.std.specs.Prelude.{◌≡◌, ◌≢◌, IfOk, IfErr, Err, OnOk, OnErr};
 ghost use Rattle.wasm_base.specs.Calls.{Appends};
 ghost use Rattle.wasm_base.specs.Continuing.{RejectsWhole};
 ghost use Rattle.wasm_base.specs.Encodings.{size_prefixed_encoding};
 ghost use Rattle.wasm_base.specs.Minimal.{AppendsMinimal, IsFrontOf, HasEncoding};
 ghost use Rattle.wasm_base.specs.Numbers.{padded_of};
+ghost use Rattle.wasm_base.specs.Walks.{Keeps, WalksWhole};
 ghost use Rattle.wasm_base.specs.declared.fault.ReadFault.TheVariants.{Memory};
 ghost use Rattle.wasm_base.specs.declared.refused.Refused.TheVariants.{TooLong};
 ghost use Rattle.wasm_custom.specs.Customs.{named_encoding, named_payload, IsEncodableNamed};
@@ -13,8 +14,8 @@ use crate::custom_section::begin_custom;
 use crate::named::after_name;
 use std::alloc::Allocator;
 use wasm_base::{
-    DecodeError, Encode, Grammar, Readable, Refused, Result, Shorten, encode_size_prefixed,
-    encoding_size, read_whole,
+    DecodeError, Effect, Encode, Grammar, Readable, Refused, Result, Shorten, Walk,
+    encode_size_prefixed, encoding_size, read_whole, walk_whole,
 };
 
 /// Appends a custom section of this name without its id, whose data are these bytes with their size
@@ -50,6 +51,25 @@ pub(crate) fn read_single<'a, T: Readable<'a, A, G>, A: Allocator + Copy, G: Gra
     let rest = after_name::<A, G>(name, bytes, alloc)?;
     let value = read_whole::<'a, T, A, G>(rest, alloc)?;
     Ok(value)
+}
+
+/// Walks over the payload of a custom section of this name, whose data are one value.
+#[tactic(auto, using(wasm_base::proofs::WalkLaws::keep_steps))]
+pub(crate) fn walk_single<'a, T: Walk<G>, A: Allocator + Copy, G: Grammar, E: Effect>(
+    name: &str,
+    bytes: &'a [u8],
+    alloc: A,
+    effect: &mut E,
+) -> Result<(), DecodeError>
+    ensures found { OnOk result (WalksWhole E.seen G.grammar (named_payload name.now T.format) bytes.now effect.old effect.new) }
+    ensures none { IfErr result (λ e. e.cause ≢ Memory → RejectsWhole (named_payload name.now T.format) (padded_of G.grammar) bytes.now) }
+    ensures no_memory { IfErr result (λ e. e.cause ≡ Memory → E.may_fail) }
+    ensures front { Keeps E.seen effect.old effect.new }
+{
+    let rest = after_name::<A, G>(name, bytes, alloc)?;
+    effect.put(&name)?;
+    walk_whole::<T, A, G, _>(rest, alloc, effect)?;
+    Ok(())
 }
 
 /// Writes the bytes that [`append_single`] appends. After an error, part of them may follow the old

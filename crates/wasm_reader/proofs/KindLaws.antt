@@ -281,7 +281,7 @@ kind_is m kinds.Relocations s x h = sym (ap kind_in h.1)
 abbrev pub DecodesAs : {X : Type 0} → (X → Contents) → Format X → SectionKind → Type 0
 DecodesAs {X} f F k = (m : Mode) (kind : SectionKind) (bytes : List ℕ) → kind ≡ k → (RejectsWhole F m bytes → RejectsWhole (content kind) m bytes) × ((x : X) → F m bytes x → content kind m bytes (f x))
 
-decodes_as : {X : Type 0} (f : X → Contents) {F : Format X} {k : SectionKind} → content k ≡ mapped f F → DecodesAs f F k
+pub decodes_as : {X : Type 0} (f : X → Contents) {F : Format X} {k : SectionKind} → content k ≡ mapped f F → DecodesAs f F k
 decodes_as f {F} is m kind bytes e =
     let same : mapped f F ≡ content kind = sym (ap content e ∙ is) in
     (λ n. subst (λ G. RejectsWhole G m bytes) same (record { none = λ y h. n.none h.0 h.2 }), λ x h. subst (λ G. G m bytes (f x)) same (x, refl, h))
@@ -500,9 +500,6 @@ keeps_name n = for_if (KeepsName n) (begins_with relocations_prefix n) (relocati
 -- ---- payloads that are checked
 
 -- If a call checks that `F` decodes the bytes, it checks the payload of a section of the kind.
-pub checked_as : {X : Type 0} {f : X → Contents} {F : Format X} {k : SectionKind} → DecodesAs f F k → (m : Mode) (kind : SectionKind) (bytes : List ℕ) (r : Result (Unit {0}) Failure) → kind ≡ k → OnOk r ((x : X) × F m bytes x) → OnOk r ((x : Contents) × content kind m bytes x)
-checked_as {f = f} decodes m kind bytes r e found = on_ok r _ _ found λ h. (f h.0, (decodes m kind bytes e).1 h.0 h.1)
-
 -- ---- numbers of items
 
 -- If the bytes are a vector of `F`, a section of the kind has as many items, which are the image by

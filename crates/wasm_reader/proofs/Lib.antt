@@ -3,7 +3,6 @@ pub mod Words
 pub mod Common
 pub mod Calls
 pub mod Causes
-pub mod Counting
 pub mod KeptOffsets
 pub mod KindLaws
 pub mod ModuleLaws
@@ -13,6 +12,7 @@ pub mod DecodeSections
 pub mod IteratingLaws
 pub mod MinimalAgain
 pub mod MinimalModules
+pub mod WalkSections
 pub mod MinimalSections
 pub mod OpcodesOfShapes
 pub mod ByOpcode

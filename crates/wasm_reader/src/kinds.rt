@@ -316,40 +316,6 @@ pub(crate) fn read_content<'a, A: Allocator + Copy + 'a, G: Grammar>(
     }
 }
 
-/// Returns the number of items in the payload of a section of this kind. Only a custom section is
-/// decoded to a list of items.
-#[tactic(auto, using(crate::proofs::KindLaws::number_steps))]
-pub(crate) fn read_number<'a, A: Allocator + Copy, G: Grammar>(
-    kind: SectionKind,
-    bytes: &'a [u8],
-    alloc: A,
-) -> Result<Option<u32>, DecodeError>
-    ensures found { IfOk result (λ number. (x : Contents) × content kind (padded_of G.grammar) bytes.now x × (number ≡ number_in x)) }
-    ensures none { IfErr result (λ e. e.cause ≢ Memory → RejectsWhole (content kind) (padded_of G.grammar) bytes.now) }
-{
-    match kind {
-        SectionKind::Bodies => count_skipped::<'a, Body<A>, A, G>(bytes, alloc),
-        SectionKind::Segments => count_skipped::<'a, Segment<'a, A>, A, G>(bytes, alloc),
-        SectionKind::Elements => count_skipped::<'a, ElementItem<A>, A, G>(bytes, alloc),
-        SectionKind::Exports => count_skipped::<'a, Export<'a>, A, G>(bytes, alloc),
-        SectionKind::Functions => count_skipped::<'a, u32, A, G>(bytes, alloc),
-        SectionKind::Globals => count_skipped::<'a, GlobalItem<A>, A, G>(bytes, alloc),
-        SectionKind::Imports => count_skipped::<'a, Imports<'a, A>, A, G>(bytes, alloc),
-        SectionKind::Memories => count_skipped::<'a, MemoryType, A, G>(bytes, alloc),
-        SectionKind::Tables => count_skipped::<'a, TableItem<A>, A, G>(bytes, alloc),
-        SectionKind::Tags => count_skipped::<'a, TagType, A, G>(bytes, alloc),
-        SectionKind::Types => count_skipped::<'a, TypeEntry<A>, A, G>(bytes, alloc),
-        SectionKind::DataCount | SectionKind::Start => {
-            drop(read_content::<A, G>(kind, bytes, alloc)?);
-            Ok(Some(1))
-        }
-        _ => {
-            drop(read_content::<A, G>(kind, bytes, alloc)?);
-            Ok(None)
-        }
-    }
-}
-
 /// Appends the minimal encoding of a custom section's payload: its name, and its data. On an error,
 /// the sink is unchanged.
 #[tactic(auto, using(crate::proofs::KindLaws::custom_fits))]

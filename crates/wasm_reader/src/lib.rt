@@ -11,7 +11,6 @@
 mod by_opcode;
 mod code_bodies;
 mod convert;
-mod counts;
 mod kinds;
 pub mod laws;
 mod minimal;
@@ -21,6 +20,7 @@ mod read_error;
 mod section;
 mod sections;
 mod standing;
+mod walk;
 mod whole;
 
 pub use code_bodies::{Bodies, CodeBody};

@@ -8,24 +8,13 @@ ghost use Rattle.wasm_base.specs.declared.fault.ReadFault.TheVariants.{Memory};
 ghost use Rattle.wasm_reader.specs.Kinds.{content};
 ghost use Rattle.wasm_reader.specs.Sections.{section, Shortens, ShortensIn};
 
-use crate::kinds::{SectionKind, encode_items, read_content};
+use crate::kinds::SectionKind;
+use crate::walk::walk_content;
 use std::alloc::Allocator;
-use wasm_base::{
-    DecodeError, Grammar, Padded, ReadFault, Readable, minimize_whole, prefix_size_since,
-};
-use wasm_code::Body;
-use wasm_custom::{
-    minimize_dylink, minimize_features, minimize_hints, minimize_instances, minimize_links,
-    minimize_modules, minimize_names, minimize_producers, minimize_relocations, minimize_stack,
-};
-use wasm_sections::{
-    ElementItem, Export, GlobalItem, Imports, MemoryType, Segment, TableItem, TagType,
-};
-use wasm_types::TypeEntry;
+use wasm_base::{DecodeError, Grammar, Padded, ReadFault, Readable, prefix_size_since};
 
-/// Minimizes the payload of a section of this kind. No list of items is kept. A payload that is one
-/// name or one sequence of bytes is decoded, and then encoded.
-#[tactic(auto, using(wasm_base::proofs::MinimalEncodings::front_steps))]
+/// Minimizes the payload of a section of this kind. No list of items is kept.
+#[tactic(auto, using(wasm_base::proofs::EffectLaws::appending))]
 pub(crate) fn minimize_content<A: Allocator + Copy, G: Grammar, B: Allocator>(
     kind: SectionKind,
     bytes: &[u8],
@@ -36,44 +25,7 @@ pub(crate) fn minimize_content<A: Allocator + Copy, G: Grammar, B: Allocator>(
     ensures front { IsFrontOf sink.old.items sink.new.items }
     ensures none { IfErr result (λ e. e.cause ≢ Memory → RejectsWhole (content kind) (padded_of G.grammar) bytes.now) }
 {
-    match kind {
-        SectionKind::Bodies => minimize_whole::<Vec<Body<A>, A>, A, G, _>(bytes, alloc, sink),
-        SectionKind::Segments => minimize_whole::<Vec<Segment<'_, A>, A>, A, G, _>(
-            bytes, alloc, sink,
-        ),
-        SectionKind::DataCount => minimize_whole::<u32, A, G, _>(bytes, alloc, sink),
-        SectionKind::Elements => minimize_whole::<Vec<ElementItem<A>, A>, A, G, _>(
-            bytes, alloc, sink,
-        ),
-        SectionKind::Exports => minimize_whole::<Vec<Export<'_>, A>, A, G, _>(bytes, alloc, sink),
-        SectionKind::Functions => minimize_whole::<Vec<u32, A>, A, G, _>(bytes, alloc, sink),
-        SectionKind::Globals => minimize_whole::<Vec<GlobalItem<A>, A>, A, G, _>(
-            bytes, alloc, sink,
-        ),
-        SectionKind::Imports => minimize_whole::<Vec<Imports<'_, A>, A>, A, G, _>(
-            bytes, alloc, sink,
-        ),
-        SectionKind::Memories => minimize_whole::<Vec<MemoryType, A>, A, G, _>(bytes, alloc, sink),
-        SectionKind::Start => minimize_whole::<u32, A, G, _>(bytes, alloc, sink),
-        SectionKind::Tables => minimize_whole::<Vec<TableItem<A>, A>, A, G, _>(bytes, alloc, sink),
-        SectionKind::Tags => minimize_whole::<Vec<TagType, A>, A, G, _>(bytes, alloc, sink),
-        SectionKind::Types => minimize_whole::<Vec<TypeEntry<A>, A>, A, G, _>(bytes, alloc, sink),
-        SectionKind::Names => minimize_names::<A, G, _>(bytes, alloc, sink),
-        SectionKind::Linking => minimize_links::<A, G, _>(bytes, alloc, sink),
-        SectionKind::Producers => minimize_producers::<A, G, _>(bytes, alloc, sink),
-        SectionKind::Hints => minimize_hints::<A, G, _>(bytes, alloc, sink),
-        SectionKind::CoreModules => minimize_modules::<A, G, _>(bytes, alloc, sink),
-        SectionKind::CoreInstances => minimize_instances::<A, G, _>(bytes, alloc, sink),
-        SectionKind::CoreStack => minimize_stack::<A, G, _>(bytes, alloc, sink),
-        SectionKind::TargetFeatures => minimize_features::<A, G, _>(bytes, alloc, sink),
-        SectionKind::Dylink => minimize_dylink::<A, G, _>(bytes, alloc, sink),
-        SectionKind::Relocations => minimize_relocations::<A, G, _>(bytes, alloc, sink),
-        _ => {
-            let items = read_content::<A, G>(kind, bytes, alloc)?;
-            encode_items(&items, sink)?;
-            Ok(())
-        }
-    }
+    walk_content::<A, G, _>(kind, bytes, alloc, sink)
 }
 
 /// Minimizes the section at the front, without its id, and returns the remaining bytes.

@@ -9,8 +9,9 @@ ghost use Rattle.wasm_reader.specs.Kinds.{Contents, content, kind_of_id};
 ghost use Rattle.wasm_reader.specs.Modules.{line_of, HasLines, StopsAt};
 ghost use Rattle.wasm_reader.specs.Outlines.{IsHeaderCause, ExplainsHeader};
 
-use crate::kinds::{kind_of_id, read_number};
+use crate::kinds::kind_of_id;
 use crate::sections::{Section, Sections};
+use crate::walk::count_content;
 use std::alloc::Allocator;
 use wasm_base::{Padded, ReadFault};
 
@@ -53,7 +54,7 @@ fn line_of<A: Allocator + Copy>(section: &Section<'_, A>) -> Result<Listed, Read
     ensures none { IfErr result (λ e. e ≢ Memory → RejectsWhole (content (kind_of_id section.now.section.id)) padded section.now.section.payload) }
 {
     let id = section.id();
-    let items = read_number::<A, Padded>(kind_of_id(id), section.payload(), section.allocator())?;
+    let items = count_content::<A, Padded>(kind_of_id(id), section.payload(), section.allocator())?;
     let size = section.payload().len() as u32;
     Ok(Listed { id, size, items })
 }

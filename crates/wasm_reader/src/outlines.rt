@@ -6,8 +6,8 @@ ghost use Rattle.wasm_base.specs.Numbers.{padded};
 ghost use Rattle.wasm_base.specs.declared.fault.ReadFault.TheVariants.{Memory};
 ghost use Rattle.wasm_reader.specs.Outlines.{section_kind_of, IsCount, IsOutline, HasOutline, EndsAt, ExplainsHeader};
 
-use crate::kinds::read_number;
 use crate::sections::{Section, Sections};
+use crate::walk::count_content;
 use std::alloc::Allocator;
 use wasm_base::{ReadFault, Standard};
 
@@ -37,7 +37,7 @@ fn count<A: Allocator + Copy>(section: &Section<'_, A>) -> Result<Option<u32>, R
         return Ok(None);
     }
     let kind = section.standing().kind();
-    match read_number::<A, Standard>(kind, section.payload(), section.allocator()) {
+    match count_content::<A, Standard>(kind, section.payload(), section.allocator()) {
         Ok(count) => Ok(count),
         Err(error) if error.cause() == ReadFault::Memory => Err(ReadFault::Memory),
         Err(_) => Ok(None),

@@ -11,12 +11,12 @@ ghost use Rattle.wasm_reader.specs.Kinds.{Contents, content, contents_of, number
 ghost use Rattle.wasm_reader.specs.Outlines.{section_of, section_kind_of, bytes_of, IsSection, IsDataOf};
 ghost use Rattle.wasm_reader.specs.Iterating.{Iterating, Located, IsHeaderError, IsFirstWrong, ahead, end_of, known_kind_of, IsInPayload, NextSection};
 
-use crate::counts::count_items;
 use crate::kinds::{Items, SectionKind, read_content};
 use crate::minimal::minimize_content;
 use crate::modules::{HEADER, read_header};
 use crate::read_error::ReadError;
 use crate::standing::{Standing, read_standing};
+use crate::walk::count_content;
 use std::alloc::{Allocator, Global};
 use std::iter::FusedIterator;
 use std::marker::Model;
@@ -255,19 +255,20 @@ impl<'a, A: Allocator + Copy> Section<'a, A> {
 
     /// Returns the number of items, or `None` if they are not counted: those of custom sections,
     /// and of sections of ids above 13. The items of a type section are its entries, and a
-    /// recursion group is one entry. The call decodes the payload, and keeps no list of items: as
-    /// tests show, it requests no memory.
+    /// recursion group is one entry. The call decodes the payload, keeps no list of items, and requests
+    /// no memory.
     ///
     /// # Errors
     ///
-    /// An error but `Memory` means that the payload does not decode as the section's kind.
+    /// An error means that the payload does not decode as the section's kind. It is never `Memory`.
     pub fn count(&self) -> Result<Option<u32>, ReadError>
         ensures found { IfOk result (λ number. (x : Contents) × content (section_kind_of self.now.section) standard self.now.section.payload x × (number ≡ number_in x)) }
         ensures none { IfErr result (λ e. e.cause ≢ Memory → RejectsWhole (content (section_kind_of self.now.section)) standard self.now.section.payload) }
+        ensures no_memory { IfErr result (λ e. e.cause ≢ Memory) }
         ensures within { IfErr result (λ e. IsInPayload self.now e.offset) }
     {
         let payload = self.standing.payload;
-        match count_items::<A>(&self.standing, self.alloc) {
+        match count_content::<A, Standard>(self.standing.kind(), payload, self.alloc) {
             Ok(number) => Ok(number),
             Err(error) => Err(ReadError::located(error, payload.len(), self.range().end)),
         }

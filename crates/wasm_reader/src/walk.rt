@@ -2,18 +2,16 @@
 ghost use Rattle.std.specs.Prelude.{◌≡◌, ◌≢◌, List, length, Some, IfOk, IfErr, OnOk};
 ghost use Rattle.wasm_base.specs.Continuing.{RejectsWhole};
 ghost use Rattle.wasm_base.specs.Formats.{vec};
-ghost use Rattle.wasm_base.specs.Numbers.{padded_of, standard};
+ghost use Rattle.wasm_base.specs.Numbers.{padded_of};
 ghost use Rattle.wasm_base.specs.Walks.{Keeps, WalksWhole};
 ghost use Rattle.wasm_base.specs.declared.fault.ReadFault.TheVariants.{Memory};
 ghost use Rattle.wasm_reader.specs.Kinds.{Contents, content, number_in};
-ghost use Rattle.wasm_reader.specs.Outlines.{section_of, section_kind_of};
+ghost use Rattle.wasm_reader.specs.declared.kinds.SectionKind.TheVariants as kinds;
 
 use crate::kinds::SectionKind;
-use crate::standing::Standing;
 use std::alloc::Allocator;
 use wasm_base::{
-    DecodeError, Discard, Effect, Grammar, RawBytes, ReadFault, Standard, Walk, skip_many,
-    walk_whole,
+    DecodeError, Discard, Effect, Grammar, RawBytes, ReadFault, Walk, skip_many, walk_whole,
 };
 use wasm_code::Body;
 use wasm_custom::{
@@ -27,7 +25,7 @@ use wasm_sections::{
 use wasm_types::TypeEntry;
 
 /// Walks over the name of a custom section, and then over its data, which are any bytes.
-#[tactic(auto, using(wasm_base::proofs::WalkLaws::keep_steps, crate::proofs::WalkSections::custom_none))]
+#[tactic(auto, using(wasm_base::proofs::WalkLaws::keep_steps, crate::proofs::WalkSections::custom_walks, crate::proofs::WalkSections::custom_none))]
 fn walk_custom<A: Allocator + Copy, G: Grammar, E: Effect>(
     bytes: &[u8],
     alloc: A,
@@ -140,17 +138,17 @@ pub(crate) fn count_content<'a, A: Allocator + Copy, G: Grammar>(
     ensures no_memory { IfErr result (λ e. e.cause ≢ Memory) }
 {
     match kind {
-        SectionKind::Bodies => count_members::<'a, Body<A>, A, G>(bytes, alloc),
-        SectionKind::Segments => count_members::<'a, Segment<'a, A>, A, G>(bytes, alloc),
-        SectionKind::Elements => count_members::<'a, ElementItem<A>, A, G>(bytes, alloc),
-        SectionKind::Exports => count_members::<'a, Export<'a>, A, G>(bytes, alloc),
-        SectionKind::Functions => count_members::<'a, u32, A, G>(bytes, alloc),
-        SectionKind::Globals => count_members::<'a, GlobalItem<A>, A, G>(bytes, alloc),
-        SectionKind::Imports => count_members::<'a, Imports<'a, A>, A, G>(bytes, alloc),
-        SectionKind::Memories => count_members::<'a, MemoryType, A, G>(bytes, alloc),
-        SectionKind::Tables => count_members::<'a, TableItem<A>, A, G>(bytes, alloc),
-        SectionKind::Tags => count_members::<'a, TagType, A, G>(bytes, alloc),
-        SectionKind::Types => count_members::<'a, TypeEntry<A>, A, G>(bytes, alloc),
+        SectionKind::Bodies => count_members::<Body<A>, A, G>(bytes, alloc),
+        SectionKind::Segments => count_members::<Segment<'a, A>, A, G>(bytes, alloc),
+        SectionKind::Elements => count_members::<ElementItem<A>, A, G>(bytes, alloc),
+        SectionKind::Exports => count_members::<Export<'a>, A, G>(bytes, alloc),
+        SectionKind::Functions => count_members::<u32, A, G>(bytes, alloc),
+        SectionKind::Globals => count_members::<GlobalItem<A>, A, G>(bytes, alloc),
+        SectionKind::Imports => count_members::<Imports<'a, A>, A, G>(bytes, alloc),
+        SectionKind::Memories => count_members::<MemoryType, A, G>(bytes, alloc),
+        SectionKind::Tables => count_members::<TableItem<A>, A, G>(bytes, alloc),
+        SectionKind::Tags => count_members::<TagType, A, G>(bytes, alloc),
+        SectionKind::Types => count_members::<TypeEntry<A>, A, G>(bytes, alloc),
         SectionKind::DataCount | SectionKind::Start => {
             walk_content::<A, G, _>(kind, bytes, alloc, &mut Discard)?;
             Ok(Some(1))

@@ -418,7 +418,7 @@ impl<'s, G: Grammar, C: Allocator> Walk<G> for Imports<'s, C> {
             let rest = <EntityType as Walk<G>>::walk(after, alloc, effect)?;
             return Ok(rest);
         };
-        [0x00u8, effect.put(&kind])?;
+        effect.put(&[0x00u8, kind])?;
         match kind {
             0x7F => {
                 let rest = <Vec<(&'a str, EntityType), A> as Walk<G>>::walk(group, alloc, effect)?;

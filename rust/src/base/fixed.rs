@@ -2,10 +2,11 @@
 // Fixed-width values: bytes, arrays of bytes, and vectors of 128 bits.
 
 use crate::vec::Sink;
+use crate::base::effect::Effect;
 use crate::base::encode::Encode;
 use crate::base::fault::{DecodeError, ReadFault};
 use crate::base::grammar::Grammar;
-use crate::base::minimize::Canonical;
+use crate::base::walk::{Canonical, Walk, walk_value};
 use crate::base::readable::{Layout, Readable};
 use crate::base::refused::Result;
 use crate::alloc::Allocator;
@@ -69,6 +70,17 @@ impl<'a, A: Allocator + Copy, G: Grammar> Readable<'a, A, G> for u8 {
 
 impl Canonical for u8 {
     fn canonical() {}
+}
+
+impl<G: Grammar> Walk<G> for u8 {
+    #[inline]
+    fn walk<'a, A: Allocator + Copy, E: Effect>(
+        bytes: &'a [u8],
+        alloc: A,
+        effect: &mut E,
+    ) -> Result<&'a [u8], DecodeError> {
+        walk_value::<u8, A, G, _>(bytes, alloc, effect)
+    }
 }
 
 /// A vector's sixteen bytes, little-endian, in two's complement.

@@ -2,15 +2,15 @@
 // Size-prefixed values: a size, and exactly that many bytes.
 
 use crate::vec::Sink;
+use crate::base::effect::Effect;
 use crate::base::encode::Encode;
 use crate::base::fault::DecodeError;
 use crate::base::grammar::Grammar;
 use crate::base::leb128::encoding_size;
-use crate::base::minimize::{Minimize, minimize_whole};
+use crate::base::walk::{Walk, walk_whole};
 use crate::base::readable::{Layout, Readable};
 use crate::base::refused::{Refused, Result};
 use crate::base::shorten::Shorten;
-use crate::base::skip::{Skip, check_whole};
 use crate::base::whole::read_before;
 use crate::alloc::Allocator;
 
@@ -167,6 +167,70 @@ pub fn encode_section<A: Sink>(sink: &mut A, count: u32, bytes: &[u8]) -> Result
     Ok(())
 }
 
+/// Bytes that are encoded with their size prefix.
+///
+/// # Examples
+///
+/// ```
+/// use dolzhytik::fallible::Encode;
+/// use dolzhytik::reader::SizedBytes;
+///
+/// let mut bytes = Vec::new();
+/// SizedBytes(b"abc").encode(&mut bytes)?;
+/// assert_eq!(bytes, *b"\x03abc");
+/// # Ok::<(), dolzhytik::fallible::Refused>(())
+/// ```
+#[derive(Clone, Copy, Debug)]
+pub struct SizedBytes<'a>(pub &'a [u8]);
+
+/// # Defined
+///
+/// ```text
+/// encoding = { λ b. size_prefixed_encoding b.0.now }
+/// encodable = { λ b. HasEncodableSize b.0.now }
+/// overlong = { λ b. longest < length b.0.now }
+/// ```
+///
+/// Definitions: [`size_prefixed_encoding`](crate::definitions::base::encodings::size_prefixed_encoding), [`HasEncodableSize`](crate::definitions::base::encodings::HasEncodableSize), [`longest`](crate::definitions::base::encodings::longest). [How to read clauses](crate::definitions).
+impl Encode for SizedBytes<'_> {
+    #[inline(always)]
+    fn encode<A: Sink>(&self, sink: &mut A) -> Result<()> {
+        encode_size_prefixed(sink, self.0)
+    }
+}
+
+/// Bytes that are encoded as they are, without their size.
+///
+/// # Examples
+///
+/// ```
+/// use dolzhytik::fallible::Encode;
+/// use dolzhytik::reader::RawBytes;
+///
+/// let mut bytes = Vec::new();
+/// RawBytes(b"abc").encode(&mut bytes)?;
+/// assert_eq!(bytes, *b"abc");
+/// # Ok::<(), dolzhytik::fallible::Refused>(())
+/// ```
+#[derive(Clone, Copy, Debug)]
+pub struct RawBytes<'a>(pub &'a [u8]);
+
+/// # Defined
+///
+/// ```text
+/// encoding = { λ b. b.0.now }
+/// encodable = { λ _. ⊤ }
+/// ```
+///
+/// [How to read clauses](crate::definitions).
+impl Encode for RawBytes<'_> {
+    #[inline]
+    fn encode<A: Sink>(&self, sink: &mut A) -> Result<()> {
+        sink.extend_from_slice(self.0)?;
+        Ok(())
+    }
+}
+
 /// A size-prefixed value that occupies its payload to the last byte. Its own format determines its
 /// end too.
 ///
@@ -313,39 +377,21 @@ impl<T: Shorten> Shorten for SizePrefixed<T> {
     }
 }
 
-/// Minimizes the payload, and then inserts its size.
-impl<G: Grammar, T: Minimize<G>> Minimize<G> for SizePrefixed<T> {
-    fn minimize<'a, A: Allocator + Copy, B: Sink>(
+/// Walks over the payload, and then inserts its size.
+impl<G: Grammar, T: Walk<G>> Walk<G> for SizePrefixed<T> {
+    fn walk<'a, A: Allocator + Copy, E: Effect>(
         bytes: &'a [u8],
         alloc: A,
-        sink: &mut B,
+        effect: &mut E,
     ) -> Result<&'a [u8], DecodeError> {
         let (content, rest) = <&'a [u8] as Readable<'a, A, G>>::read(bytes, alloc)?;
-        let start = sink.len();
-        match minimize_whole::<T, A, G, _>(content, alloc, sink) {
+        T::laws();
+        let start = effect.position();
+        match walk_whole::<T, A, G, _>(content, alloc, effect) {
             Ok(()) => {}
             Err(error) => return Err(error.before(rest)),
         }
-        prefix_size_since(sink, start)?;
+        effect.prefix_size(start)?;
         Ok(rest)
-    }
-}
-
-/// Skips the payload, which the value occupies to the last byte.
-///
-/// # Defined
-///
-/// ```text
-/// may_allocate = { P.may_allocate }
-/// ```
-///
-/// [How to read clauses](crate::definitions).
-impl<'a, A: Allocator + Copy, G: Grammar, P: Skip<'a, A, G>> Skip<'a, A, G> for SizePrefixed<P> {
-    fn skip(bytes: &'a [u8], alloc: A) -> Result<&'a [u8], DecodeError> {
-        let (content, rest) = <&'a [u8] as Readable<'a, A, G>>::read(bytes, alloc)?;
-        match check_whole::<'a, P, A, G>(content, alloc) {
-            Ok(()) => Ok(rest),
-            Err(error) => Err(error.before(rest)),
-        }
     }
 }

@@ -6,7 +6,8 @@ use crate::vec::Sink;
 use crate::base::encode::Encode;
 use crate::base::fault::{DecodeError, ReadFault};
 use crate::base::grammar::Grammar;
-use crate::base::minimize::{Canonical, Minimize, minimize_value};
+use crate::base::effect::Effect;
+use crate::base::walk::{Canonical, Walk, walk_value};
 use crate::base::readable::{Layout, Readable};
 use crate::base::refused::{Refused, Result};
 use crate::base::shorten::Shorten;
@@ -961,14 +962,14 @@ impl Canonical for u32 {
     fn canonical() {}
 }
 
-impl<G: Grammar> Minimize<G> for u32 {
+impl<G: Grammar> Walk<G> for u32 {
     #[inline]
-    fn minimize<'a, A: Allocator + Copy, B: Sink>(
+    fn walk<'a, A: Allocator + Copy, E: Effect>(
         bytes: &'a [u8],
         alloc: A,
-        sink: &mut B,
+        effect: &mut E,
     ) -> Result<&'a [u8], DecodeError> {
-        minimize_value::<u32, A, G, _>(bytes, alloc, sink)
+        walk_value::<u32, A, G, _>(bytes, alloc, effect)
     }
 }
 
@@ -976,14 +977,14 @@ impl Canonical for i32 {
     fn canonical() {}
 }
 
-impl<G: Grammar> Minimize<G> for i32 {
+impl<G: Grammar> Walk<G> for i32 {
     #[inline]
-    fn minimize<'a, A: Allocator + Copy, B: Sink>(
+    fn walk<'a, A: Allocator + Copy, E: Effect>(
         bytes: &'a [u8],
         alloc: A,
-        sink: &mut B,
+        effect: &mut E,
     ) -> Result<&'a [u8], DecodeError> {
-        minimize_value::<i32, A, G, _>(bytes, alloc, sink)
+        walk_value::<i32, A, G, _>(bytes, alloc, effect)
     }
 }
 
@@ -991,13 +992,13 @@ impl Canonical for i64 {
     fn canonical() {}
 }
 
-impl<G: Grammar> Minimize<G> for i64 {
+impl<G: Grammar> Walk<G> for i64 {
     #[inline]
-    fn minimize<'a, A: Allocator + Copy, B: Sink>(
+    fn walk<'a, A: Allocator + Copy, E: Effect>(
         bytes: &'a [u8],
         alloc: A,
-        sink: &mut B,
+        effect: &mut E,
     ) -> Result<&'a [u8], DecodeError> {
-        minimize_value::<i64, A, G, _>(bytes, alloc, sink)
+        walk_value::<i64, A, G, _>(bytes, alloc, effect)
     }
 }

@@ -8,6 +8,7 @@
 
 mod counted;
 mod cow;
+mod effect;
 mod encode;
 mod fault;
 mod fixed;
@@ -16,7 +17,6 @@ mod grammar;
 mod kind;
 pub mod laws;
 mod leb128;
-mod minimize;
 mod modules;
 mod names;
 mod once;
@@ -27,18 +27,19 @@ mod refused;
 mod section_id;
 mod sections;
 mod shorten;
-mod skip;
 mod tuples;
 mod types;
 mod vectors;
+mod walk;
 mod whole;
 
 pub use counted::{Counted, add_all};
 pub use cow::{CowSlice, CowStr};
+pub(crate) use effect::{Discard, Effect, EncodeIn};
 pub use encode::Encode;
 pub(crate) use fault::{DecodeError, ReadFault};
 pub use frames::{begin_size_prefixed, encode_section, encode_size_prefixed};
-pub(crate) use frames::{SizePrefixed, prefix_size_since};
+pub(crate) use frames::{RawBytes, SizePrefixed, SizedBytes, prefix_size_since};
 pub(crate) use grammar::{Grammar, Padded, Standard};
 pub use kind::Kind;
 pub use leb128::{Groups, encoding_size};
@@ -47,7 +48,6 @@ pub use leb128::{Groups, encoding_size};
 #[doc(alias = "parse")]
 pub use leb128::read_groups;
 pub(crate) use leb128::read_index;
-pub(crate) use minimize::{Canonical, Minimize, Shared, minimize_many, minimize_shared, minimize_to_end, minimize_value, minimize_whole};
 #[doc(alias = "wasm")]
 #[doc(alias = "encoder")]
 pub use modules::Module;
@@ -63,22 +63,22 @@ pub use section_id::{
 };
 pub use sections::{RawSection, Section};
 pub(crate) use shorten::Shorten;
-pub(crate) use skip::{Dropped, Skip, check_to_end, check_whole, skip_many};
 pub use types::{AbstractHeapType, HeapType, RefType, ValType};
 pub(crate) use types::read_val_after;
 pub use vectors::encode_vec;
 pub(crate) use vectors::append_all;
+pub(crate) use walk::{Canonical, Shared, Walk, check_to_end, check_whole, minimize_many, minimize_to_end, minimize_whole, skip_many, skip_value, walk_in, walk_many, walk_shared, walk_to_end, walk_value, walk_whole};
 pub(crate) use whole::{read_before, read_to_end, read_whole};
 
 /// The names that decode, which `reader` exports.
 pub(crate) mod reading {
+    pub use super::effect::{Discard, Effect, EncodeIn};
     pub use super::fault::DecodeError;
     #[doc(alias = "error")]
     #[doc(alias = "malformed")]
     pub use super::fault::ReadFault;
-    pub use super::frames::{SizePrefixed, prefix_size_since};
+    pub use super::frames::{RawBytes, SizePrefixed, SizedBytes, prefix_size_since};
     pub use super::grammar::{Grammar, Padded, Standard};
-    pub use super::minimize::{Canonical, Minimize, Shared, minimize_many, minimize_shared, minimize_to_end, minimize_value, minimize_whole};
     pub use super::parts::read_optional;
     pub use super::readable::Layout;
     #[doc(alias = "parse")]
@@ -88,7 +88,10 @@ pub(crate) mod reading {
     #[doc(alias = "minimize")]
     #[doc(alias = "shrink")]
     pub use super::shorten::Shorten;
-    pub use super::skip::{Dropped, Skip, check_to_end, check_whole, skip_many};
     pub use super::vectors::append_all;
+    pub use super::walk::{Canonical, Shared, check_to_end, check_whole, minimize_many, minimize_to_end, minimize_whole, skip_many, skip_value, walk_in, walk_many, walk_shared, walk_to_end, walk_value, walk_whole};
+    #[doc(alias = "minimize")]
+    #[doc(alias = "skip")]
+    pub use super::walk::Walk;
     pub use super::whole::{read_before, read_to_end, read_whole};
 }

@@ -4,9 +4,10 @@
 use crate::vec::Sink;
 use crate::base::encode::Encode;
 use crate::base::fault::{DecodeError, ReadFault};
-use crate::base::frames::encode_size_prefixed;
+use crate::base::effect::Effect;
+use crate::base::frames::{SizedBytes, encode_size_prefixed};
 use crate::base::grammar::Grammar;
-use crate::base::minimize::Minimize;
+use crate::base::walk::Walk;
 use crate::base::readable::{Layout, Readable};
 use crate::base::refused::Result;
 use crate::base::shorten::Shorten;
@@ -138,59 +139,58 @@ impl Shorten for &str {
     }
 }
 
-impl<'s, G: Grammar> Minimize<G> for &'s str {
+impl<'s, G: Grammar> Walk<G> for &'s str {
     /// # Proved
     ///
-    /// - After `Ok`, `found`: A value decodes from the front of the bytes in this grammar, and `rest` follows it. The call appends the minimal encoding of the value in this grammar.
-    /// - After an error, `none`: the bytes do not begin with such an encoding, unless the cause is `Memory`.
-    /// - `front`: The new bytes begin with the old ones.
+    /// After `Ok`: `found`, the bytes begin with an encoding, the effect takes the minimal one, and the returned bytes follow it. After an error: `none`, the bytes do not begin with such an encoding, unless the cause is `Memory`; `no_memory`, the cause is `Memory` only with an effect whose calls may fail. In any case: `front`, the effect keeps what it took before.
     ///
     /// ```text
     /// ensures found { IfOk result
-    ///     (λ rest. Minimizes G.grammar name bytes.now rest.now sink.old.items sink.new.items)
-    ///     }
+    ///     (λ rest. Walks E.seen G.grammar name bytes.now rest.now effect.old effect.new) }
     /// ensures none { IfErr result
     ///     (λ e. e.cause ≢ Memory → Rejects name (padded_of G.grammar) bytes.now) }
-    /// ensures front { IsFrontOf sink.old.items sink.new.items }
+    /// ensures no_memory { IfErr result (λ e. e.cause ≡ Memory → E.may_fail) }
+    /// ensures front { Keeps E.seen effect.old effect.new }
     /// ```
     ///
-    /// Definitions: [`Minimizes`](crate::definitions::base::minimal::Minimizes), [`name`](crate::definitions::base::formats::name), [`Rejects`](crate::definitions::base::decoding::Rejects), [`padded_of`](crate::definitions::base::numbers::padded_of), [`IsFrontOf`](crate::definitions::base::minimal::IsFrontOf). [How to read clauses](crate::definitions).
-    fn minimize<'a, A: Allocator + Copy, B: Sink>(
+    /// Definitions: [`Walks`](crate::definitions::base::walks::Walks), [`name`](crate::definitions::base::formats::name), [`Rejects`](crate::definitions::base::decoding::Rejects), [`padded_of`](crate::definitions::base::numbers::padded_of), [`Keeps`](crate::definitions::base::walks::Keeps). [How to read clauses](crate::definitions).
+    #[inline]
+    fn walk<'a, A: Allocator + Copy, E: Effect>(
         bytes: &'a [u8],
         alloc: A,
-        sink: &mut B,
+        effect: &mut E,
     ) -> Result<&'a [u8], DecodeError> {
         let (name, rest) = <&'a str as Readable<'a, A, G>>::read(bytes, alloc)?;
-        name.encode(sink)?;
+        effect.put(&name)?;
         Ok(rest)
     }
 }
 
-impl<'s, G: Grammar> Minimize<G> for &'s [u8] {
+impl<'s, G: Grammar> Walk<G> for &'s [u8] {
     /// # Proved
     ///
-    /// - After `Ok`, `found`: A value decodes from the front of the bytes in this grammar, and `rest` follows it. The call appends the minimal encoding of the value in this grammar.
-    /// - After an error, `none`: the bytes do not begin with such an encoding, unless the cause is `Memory`.
-    /// - `front`: The new bytes begin with the old ones.
+    /// After `Ok`: `found`, the bytes begin with an encoding, the effect takes the minimal one, and the returned bytes follow it. After an error: `none`, the bytes do not begin with such an encoding, unless the cause is `Memory`; `no_memory`, the cause is `Memory` only with an effect whose calls may fail. In any case: `front`, the effect keeps what it took before.
     ///
     /// ```text
     /// ensures found { IfOk result
-    ///     (λ rest. Minimizes G.grammar
-    ///         (size_prefixed any_bytes) bytes.now rest.now sink.old.items sink.new.items) }
+    ///     (λ rest. Walks E.seen G.grammar
+    ///         (size_prefixed any_bytes) bytes.now rest.now effect.old effect.new) }
     /// ensures none { IfErr result
     ///     (λ e. e.cause ≢ Memory → Rejects (size_prefixed any_bytes)
     ///         (padded_of G.grammar) bytes.now) }
-    /// ensures front { IsFrontOf sink.old.items sink.new.items }
+    /// ensures no_memory { IfErr result (λ e. e.cause ≡ Memory → E.may_fail) }
+    /// ensures front { Keeps E.seen effect.old effect.new }
     /// ```
     ///
-    /// Definitions: [`Minimizes`](crate::definitions::base::minimal::Minimizes), [`size_prefixed`](crate::definitions::base::formats::size_prefixed), [`any_bytes`](crate::definitions::base::formats::any_bytes), [`Rejects`](crate::definitions::base::decoding::Rejects), [`padded_of`](crate::definitions::base::numbers::padded_of), [`IsFrontOf`](crate::definitions::base::minimal::IsFrontOf). [How to read clauses](crate::definitions).
-    fn minimize<'a, A: Allocator + Copy, B: Sink>(
+    /// Definitions: [`Walks`](crate::definitions::base::walks::Walks), [`size_prefixed`](crate::definitions::base::formats::size_prefixed), [`any_bytes`](crate::definitions::base::formats::any_bytes), [`Rejects`](crate::definitions::base::decoding::Rejects), [`padded_of`](crate::definitions::base::numbers::padded_of), [`Keeps`](crate::definitions::base::walks::Keeps). [How to read clauses](crate::definitions).
+    #[inline]
+    fn walk<'a, A: Allocator + Copy, E: Effect>(
         bytes: &'a [u8],
         alloc: A,
-        sink: &mut B,
+        effect: &mut E,
     ) -> Result<&'a [u8], DecodeError> {
         let (content, rest) = <&'a [u8] as Readable<'a, A, G>>::read(bytes, alloc)?;
-        encode_size_prefixed(sink, content)?;
+        effect.put(&SizedBytes(content))?;
         Ok(rest)
     }
 }

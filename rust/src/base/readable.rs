@@ -7,7 +7,7 @@ use crate::alloc::Allocator;
 
 /// A value with a format, which defines the bytes that encode it.
 ///
-/// [`Readable`](crate::reader::Readable), [`Skip`](crate::reader::Skip) and
+/// [`Readable`](crate::reader::Readable), [`Walk`](crate::reader::Walk) and
 /// [`Shorten`](crate::reader::Shorten) have the calls of such values.
 ///
 /// # Examples

@@ -2,14 +2,14 @@
 // Several values one after another.
 
 use crate::vec::Sink;
+use crate::base::effect::Effect;
 use crate::base::encode::Encode;
 use crate::base::fault::DecodeError;
 use crate::base::grammar::Grammar;
-use crate::base::minimize::Minimize;
+use crate::base::walk::Walk;
 use crate::base::readable::{Layout, Readable};
 use crate::base::refused::Result;
 use crate::base::shorten::Shorten;
-use crate::base::skip::Skip;
 use crate::alloc::Allocator;
 
 /// Appends the encodings of both values, or of neither.
@@ -84,25 +84,6 @@ impl<S: Encode, T: Encode, U: Encode> Encode for (S, T, U) {
 /// # Defined
 ///
 /// ```text
-/// may_allocate = { P.may_allocate ⊎ Q.may_allocate }
-/// ```
-///
-/// [How to read clauses](crate::definitions).
-impl<'a, A: Allocator + Copy, G: Grammar, P: Skip<'a, A, G>, Q: Skip<'a, A, G>> Skip<'a, A, G>
-    for (P, Q) {
-    fn skip(bytes: &'a [u8], alloc: A) -> Result<&'a [u8], DecodeError> {
-        let after = P::skip(bytes, alloc)?;
-        P::laws();
-        let rest = Q::skip(after, alloc)?;
-        Ok(rest)
-    }
-}
-
-/// One value, and then another.
-///
-/// # Defined
-///
-/// ```text
 /// Value = { T.Value × U.Value }
 /// format = { pair T.format U.format }
 /// view = { λ p. (T.view p.0, U.view p.1) }
@@ -151,15 +132,16 @@ impl<T: Shorten, U: Shorten> Shorten for (T, U) {
     }
 }
 
-impl<G: Grammar, T: Minimize<G>, U: Minimize<G>> Minimize<G> for (T, U) {
-    fn minimize<'a, A: Allocator + Copy, B: Sink>(
+impl<G: Grammar, T: Walk<G>, U: Walk<G>> Walk<G> for (T, U) {
+    #[inline]
+    fn walk<'a, A: Allocator + Copy, E: Effect>(
         bytes: &'a [u8],
         alloc: A,
-        sink: &mut B,
+        effect: &mut E,
     ) -> Result<&'a [u8], DecodeError> {
-        let after = T::minimize(bytes, alloc, sink)?;
+        let after = T::walk(bytes, alloc, effect)?;
         T::laws();
-        let rest = U::minimize(after, alloc, sink)?;
+        let rest = U::walk(after, alloc, effect)?;
         Ok(rest)
     }
 }

@@ -2,11 +2,12 @@
 // Heap types, reference types and value types.
 
 use crate::vec::Sink;
+use crate::base::effect::{Effect, EncodeIn};
 use crate::base::encode::Encode;
 use crate::base::fault::{DecodeError, ReadFault};
 use crate::base::grammar::Grammar;
 use crate::base::leb128::read_index;
-use crate::base::minimize::Minimize;
+use crate::base::walk::{Walk, walk_in};
 use crate::base::readable::{Layout, Readable};
 use crate::base::refused::Result;
 use crate::base::shorten::Shorten;
@@ -319,58 +320,48 @@ impl RefType {
             _ => self.encode_heap_type(sink),
         }
     }
+}
 
-    /// Appends the minimal encoding in the grammar `G`. In the standard's, a nullable reference to
-    /// an abstract type has one byte.
-    ///
-    /// # Errors
-    ///
-    /// Returns [`Refused::Memory`](crate::base::Refused), and leaves the bytes of the sink unchanged, if
-    /// an allocation fails.
-    ///
-    /// # Proved
-    ///
-    /// The call appends the encoding, or returns an error and leaves the bytes as they were. If the value fits, the call never returns `TooLong`, and it succeeds within the spare capacity.
-    ///
-    /// ```text
-    /// ensures { Appends (ref_encoding_in G.grammar self) ⊤ sink.old sink.new result }
-    /// ```
-    ///
-    /// Definitions: [`Appends`](crate::definitions::base::calls::Appends), [`ref_encoding_in`](crate::definitions::base::types::ref_encoding_in). [How to read clauses](crate::definitions).
-    pub(crate) fn encode_in<G: Grammar, A: Sink>(self, sink: &mut A) -> Result<()> {
+/// In the standard's grammar, a nullable reference to an abstract type has one byte.
+///
+/// # Defined
+///
+/// ```text
+/// encoding_in = { ref_encoding_in G.grammar }
+/// ```
+///
+/// Definitions: [`ref_encoding_in`](crate::definitions::base::types::ref_encoding_in). [How to read clauses](crate::definitions).
+impl<G: Grammar> EncodeIn<G> for RefType {
+    fn encode_in<A: Sink>(&self, sink: &mut A) -> Result<()> {
         if G::is_standard() {
             self.encode_tight(sink)
         } else {
             self.encode(sink)
         }
     }
+
+    fn minimal_in() {}
 }
 
-impl ValType {
-    /// Appends the minimal encoding in the grammar `G`. In the standard's, a nullable reference to
-    /// an abstract type has one byte.
-    ///
-    /// # Errors
-    ///
-    /// Returns [`Refused::Memory`](crate::base::Refused), and leaves the bytes of the sink unchanged, if
-    /// an allocation fails.
-    ///
-    /// # Proved
-    ///
-    /// The call appends the encoding, or returns an error and leaves the bytes as they were. If the value fits, the call never returns `TooLong`, and it succeeds within the spare capacity.
-    ///
-    /// ```text
-    /// ensures { Appends (val_encoding_in G.grammar self) ⊤ sink.old sink.new result }
-    /// ```
-    ///
-    /// Definitions: [`Appends`](crate::definitions::base::calls::Appends), [`val_encoding_in`](crate::definitions::base::types::val_encoding_in). [How to read clauses](crate::definitions).
+/// In the standard's grammar, a nullable reference to an abstract type has one byte.
+///
+/// # Defined
+///
+/// ```text
+/// encoding_in = { val_encoding_in G.grammar }
+/// ```
+///
+/// Definitions: [`val_encoding_in`](crate::definitions::base::types::val_encoding_in). [How to read clauses](crate::definitions).
+impl<G: Grammar> EncodeIn<G> for ValType {
     #[inline]
-    pub(crate) fn encode_in<G: Grammar, A: Sink>(self, sink: &mut A) -> Result<()> {
-        match self {
+    fn encode_in<A: Sink>(&self, sink: &mut A) -> Result<()> {
+        match *self {
             ValType::Ref(ty) if G::is_standard() => ty.encode_tight(sink),
             _ => self.encode(sink),
         }
     }
+
+    fn minimal_in() {}
 }
 
 /// Encodes a number or vector type as one byte, and a reference as its reference type.
@@ -646,15 +637,14 @@ impl<'a, A: Allocator + Copy, G: Grammar> Readable<'a, A, G> for RefType {
     }
 }
 
-impl<G: Grammar> Minimize<G> for RefType {
-    fn minimize<'a, A: Allocator + Copy, B: Sink>(
+impl<G: Grammar> Walk<G> for RefType {
+    #[inline]
+    fn walk<'a, A: Allocator + Copy, E: Effect>(
         bytes: &'a [u8],
         alloc: A,
-        sink: &mut B,
+        effect: &mut E,
     ) -> Result<&'a [u8], DecodeError> {
-        let (ty, rest) = <RefType as Readable<'a, A, G>>::read(bytes, alloc)?;
-        ty.encode_in::<G, _>(sink)?;
-        Ok(rest)
+        walk_in::<RefType, A, G, _>(bytes, alloc, effect)
     }
 }
 
@@ -737,14 +727,13 @@ impl Shorten for ValType {
     }
 }
 
-impl<G: Grammar> Minimize<G> for ValType {
-    fn minimize<'a, A: Allocator + Copy, B: Sink>(
+impl<G: Grammar> Walk<G> for ValType {
+    #[inline]
+    fn walk<'a, A: Allocator + Copy, E: Effect>(
         bytes: &'a [u8],
         alloc: A,
-        sink: &mut B,
+        effect: &mut E,
     ) -> Result<&'a [u8], DecodeError> {
-        let (ty, rest) = <ValType as Readable<'a, A, G>>::read(bytes, alloc)?;
-        ty.encode_in::<G, _>(sink)?;
-        Ok(rest)
+        walk_in::<ValType, A, G, _>(bytes, alloc, effect)
     }
 }

@@ -2,15 +2,15 @@
 // Vectors: a count, and that many members.
 
 use crate::vec::{Sink, Vec};
+use crate::base::effect::Effect;
 use crate::base::encode::Encode;
 use crate::base::fault::DecodeError;
 use crate::base::grammar::Grammar;
-use crate::base::minimize::{Minimize, minimize_many};
+use crate::base::walk::{Walk, walk_many};
 use crate::base::once::{EncodeOnce, vec_of};
 use crate::base::readable::{Layout, Readable};
 use crate::base::refused::Result;
 use crate::base::shorten::Shorten;
-use crate::base::skip::{Skip, skip_many};
 use crate::alloc::Allocator;
 
 /// Encodes the members as a vector.
@@ -206,30 +206,14 @@ impl<T: Shorten, A: Allocator> Shorten for Vec<T, A> {
     }
 }
 
-/// Minimizes the members one by one, and keeps none.
-impl<G: Grammar, T: Minimize<G>, C: Allocator> Minimize<G> for Vec<T, C> {
-    fn minimize<'a, A: Allocator + Copy, B: Sink>(
+/// Walks over the members one by one, and keeps none.
+impl<G: Grammar, T: Walk<G>, C: Allocator> Walk<G> for Vec<T, C> {
+    fn walk<'a, A: Allocator + Copy, E: Effect>(
         bytes: &'a [u8],
         alloc: A,
-        sink: &mut B,
+        effect: &mut E,
     ) -> Result<&'a [u8], DecodeError> {
-        minimize_many::<T, A, G, _>(bytes, alloc, sink)
-    }
-}
-
-/// Skips the members one by one, and keeps none.
-///
-/// # Defined
-///
-/// ```text
-/// may_allocate = { P.may_allocate }
-/// ```
-///
-/// [How to read clauses](crate::definitions).
-impl<'a, A: Allocator + Copy, G: Grammar, P: Skip<'a, A, G>, C: Allocator> Skip<'a, A, G>
-    for Vec<P, C> {
-    fn skip(bytes: &'a [u8], alloc: A) -> Result<&'a [u8], DecodeError> {
-        let (_count, rest) = skip_many::<'a, P, A, G>(bytes, alloc)?;
+        let (_count, rest) = walk_many::<T, A, G, _>(bytes, alloc, effect)?;
         Ok(rest)
     }
 }

@@ -3,7 +3,7 @@
 
 use crate::vec::{Sink, Vec};
 use crate::alloc::{Allocator, Global};
-use crate::base::{DecodeError, Dropped, Grammar, Layout, Minimize, Padded, Readable, Result, Shorten, Skip, ValType, minimize_many, minimize_to_end, prefix_size_since, skip_many};
+use crate::base::{DecodeError, Effect, Grammar, Layout, Padded, Readable, Result, Shorten, ValType, Walk, prefix_size_since, walk_to_end};
 use crate::insn::Plain;
 
 /// The capacity of a new list allows for one instruction per this many bytes. The list grows if
@@ -191,7 +191,33 @@ impl<A: Allocator> Shorten for Body<A> {
     }
 }
 
-/// Minimizes the content of a body, without its size prefix.
+/// Walks over the content of a body, without its size prefix.
+///
+/// # Proved
+///
+/// After `Ok`: `found`, the bytes as a whole are an encoding, and the effect takes the minimal one. After an error: `none`, the bytes as a whole are no such encoding, unless the cause is `Memory`; `no_memory`, the cause is `Memory` only with an effect whose calls may fail. In any case: `front`, the effect keeps what it took before.
+///
+/// ```text
+/// ensures found { OnOk result
+///     (WalksWhole E.seen G.grammar body bytes.now effect.old effect.new) }
+/// ensures none { IfErr result
+///     (λ e. e.cause ≢ Memory → RejectsWhole body (padded_of G.grammar) bytes.now) }
+/// ensures no_memory { IfErr result (λ e. e.cause ≡ Memory → E.may_fail) }
+/// ensures front { Keeps E.seen effect.old effect.new }
+/// ```
+///
+/// Definitions: [`WalksWhole`](crate::definitions::base::walks::WalksWhole), [`body`](crate::definitions::code::bodies::body), [`RejectsWhole`](crate::definitions::base::continuing::RejectsWhole), [`padded_of`](crate::definitions::base::numbers::padded_of), [`Keeps`](crate::definitions::base::walks::Keeps). [How to read clauses](crate::definitions).
+fn walk_content<'a, A: Allocator + Copy, G: Grammar, E: Effect>(
+    bytes: &'a [u8],
+    alloc: A,
+    effect: &mut E,
+) -> Result<(), DecodeError> {
+    let rest = <Vec<(u32, ValType), A> as Walk<G>>::walk(bytes, alloc, effect)?;
+    walk_to_end::<Plain<A>, A, G, _>(rest, alloc, effect)
+}
+
+/// Appends the minimal encoding of the content of a body, without its size prefix. After an error,
+/// part of it may follow the old bytes of the sink.
 ///
 /// # Proved
 ///
@@ -208,13 +234,12 @@ impl<A: Allocator> Shorten for Body<A> {
 /// ```
 ///
 /// Definitions: [`MinimizesWhole`](crate::definitions::base::minimal::MinimizesWhole), [`body`](crate::definitions::code::bodies::body), [`RejectsWhole`](crate::definitions::base::continuing::RejectsWhole), [`padded_of`](crate::definitions::base::numbers::padded_of), [`IsFrontOf`](crate::definitions::base::minimal::IsFrontOf). [How to read clauses](crate::definitions).
-fn minimize_content<'a, A: Allocator + Copy, G: Grammar, B: Sink>(
-    bytes: &'a [u8],
+fn minimize_content<A: Allocator + Copy, G: Grammar, B: Sink>(
+    bytes: &[u8],
     alloc: A,
     sink: &mut B,
 ) -> Result<(), DecodeError> {
-    let rest = minimize_many::<(u32, ValType), A, G, _>(bytes, alloc, sink)?;
-    minimize_to_end::<Plain<A>, A, G, _>(rest, alloc, sink)
+    walk_content::<A, G, _>(bytes, alloc, sink)
 }
 
 /// Appends the minimal encoding of a body with its size prefix. After an error, part of it may
@@ -298,84 +323,20 @@ pub fn shorten_body<A: Allocator + Copy, B: Sink>(
     written
 }
 
-/// Minimizes a body with its size prefix, as in a code section.
-impl<G: Grammar, C: Allocator> Minimize<G> for Body<C> {
-    fn minimize<'a, A: Allocator + Copy, B: Sink>(
+/// Walks over a body with its size prefix, as in a code section.
+impl<G: Grammar, C: Allocator> Walk<G> for Body<C> {
+    fn walk<'a, A: Allocator + Copy, E: Effect>(
         bytes: &'a [u8],
         alloc: A,
-        sink: &mut B,
+        effect: &mut E,
     ) -> Result<&'a [u8], DecodeError> {
         let (content, rest) = <&'a [u8] as Readable<'a, A, G>>::read(bytes, alloc)?;
-        let start = sink.len();
-        match minimize_content::<A, G, _>(content, alloc, sink) {
+        let start = effect.position();
+        match walk_content::<A, G, _>(content, alloc, effect) {
             Ok(()) => {}
             Err(error) => return Err(error.before(rest)),
         }
-        prefix_size_since(sink, start)?;
+        effect.prefix_size(start)?;
         Ok(rest)
-    }
-}
-
-/// Skips instructions up to the last byte.
-///
-/// # Proved
-///
-/// After `Ok`: `found`, the bytes as a whole are such an encoding. After an error: `none`, the bytes as a whole are no such encoding, unless the cause is `Memory`.
-///
-/// ```text
-/// ensures found { OnOk result
-///     ((xs : List PlainInstruction)
-///         × members (instruction table) (padded_of G.grammar) bytes.now xs) }
-/// ensures none { IfErr result
-///     (λ e. e.cause ≢ Memory → RejectsWhole (members (instruction table))
-///         (padded_of G.grammar) bytes.now) }
-/// ensures no_memory { IfErr result (λ e. e.cause ≢ Memory) }
-/// ```
-///
-/// Definitions: [`PlainInstruction`](crate::definitions::insn::plain::Plain), [`members`](crate::definitions::base::formats::members), [`instruction`](crate::definitions::insn::plain::instruction), [`table`](crate::definitions::insn::table::table), [`padded_of`](crate::definitions::base::numbers::padded_of), [`RejectsWhole`](crate::definitions::base::continuing::RejectsWhole). [How to read clauses](crate::definitions).
-fn skip_code<'a, A: Allocator + Copy, G: Grammar>(
-    bytes: &'a [u8],
-    alloc: A,
-) -> Result<(), DecodeError> {
-    let mut rest = bytes;
-    loop {
-        if rest.is_empty() {
-            return Ok(());
-        }
-        rest = <Plain<A> as Skip<'a, A, G>>::skip(rest, alloc)?;
-    }
-}
-
-/// Skips the bytes of a body without its size prefix.
-///
-/// # Proved
-///
-/// After `Ok`: `found`, the bytes as a whole are such an encoding. After an error: `none`, the bytes as a whole are no such encoding, unless the cause is `Memory`.
-///
-/// ```text
-/// ensures found { OnOk result ((x : BodyModel) × body (padded_of G.grammar) bytes.now x) }
-/// ensures none { IfErr result
-///     (λ e. e.cause ≢ Memory → RejectsWhole body (padded_of G.grammar) bytes.now) }
-/// ensures no_memory { IfErr result (λ e. e.cause ≢ Memory) }
-/// ```
-///
-/// Definitions: [`BodyModel`](crate::definitions::code::bodies::Body), [`body`](crate::definitions::code::bodies::body), [`padded_of`](crate::definitions::base::numbers::padded_of), [`RejectsWhole`](crate::definitions::base::continuing::RejectsWhole). [How to read clauses](crate::definitions).
-fn skip_body<'a, A: Allocator + Copy, G: Grammar>(
-    bytes: &'a [u8],
-    alloc: A,
-) -> Result<(), DecodeError> {
-    let (_count, rest) = skip_many::<'a, Dropped<(u32, ValType)>, A, G>(bytes, alloc)?;
-    skip_code::<A, G>(rest, alloc)?;
-    Ok(())
-}
-
-/// Skips a body with its size prefix, as in a code section, and allocates nothing.
-impl<'a, A: Allocator + Copy, G: Grammar> Skip<'a, A, G> for Body<A> {
-    fn skip(bytes: &'a [u8], alloc: A) -> Result<&'a [u8], DecodeError> {
-        let (sized, rest) = <&'a [u8] as Readable<'a, A, G>>::read(bytes, alloc)?;
-        match skip_body::<A, G>(sized, alloc) {
-            Ok(()) => Ok(rest),
-            Err(error) => Err(error.before(rest)),
-        }
     }
 }

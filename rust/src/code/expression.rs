@@ -4,7 +4,7 @@
 use crate::vec::{Sink, Vec};
 use crate::code::body::append_code;
 use crate::alloc::{Allocator, Global};
-use crate::base::{DecodeError, Grammar, Layout, Minimize, ReadFault, Readable, Result, Shorten, Skip};
+use crate::base::{DecodeError, Effect, Grammar, Layout, ReadFault, Readable, Result, Shorten, Walk};
 use crate::insn::Plain;
 
 /// The opcode of `End`.
@@ -93,28 +93,12 @@ impl<A: Allocator> Shorten for Expression<A> {
     }
 }
 
-/// Skips a constant expression with its `End`, and allocates nothing.
-impl<'a, A: Allocator + Copy, G: Grammar> Skip<'a, A, G> for Expression<A> {
-    fn skip(bytes: &'a [u8], alloc: A) -> Result<&'a [u8], DecodeError> {
-        let mut rest = bytes;
-        loop {
-            let [first, after @ ..] = rest else {
-                return Err(ReadFault::Ended.at(b""));
-            };
-            if *first == END {
-                return Ok(after);
-            }
-            rest = <Plain<A> as Skip<'a, A, G>>::skip(rest, alloc)?;
-        }
-    }
-}
-
-/// Minimizes the instructions one by one, up to the first `End`.
-impl<G: Grammar, C: Allocator> Minimize<G> for Expression<C> {
-    fn minimize<'a, A: Allocator + Copy, B: Sink>(
+/// Walks over the instructions one by one, up to the first `End`.
+impl<G: Grammar, C: Allocator> Walk<G> for Expression<C> {
+    fn walk<'a, A: Allocator + Copy, E: Effect>(
         bytes: &'a [u8],
         alloc: A,
-        sink: &mut B,
+        effect: &mut E,
     ) -> Result<&'a [u8], DecodeError> {
         let mut rest = bytes;
         loop {
@@ -122,10 +106,10 @@ impl<G: Grammar, C: Allocator> Minimize<G> for Expression<C> {
                 return Err(ReadFault::Ended.at(b""));
             };
             if *first == END {
-                sink.push(END)?;
+                effect.put(&END)?;
                 return Ok(after);
             }
-            rest = <Plain<C> as Minimize<G>>::minimize(rest, alloc, sink)?;
+            rest = <Plain<C> as Walk<G>>::walk(rest, alloc, effect)?;
         }
     }
 }

@@ -1,46 +1,13 @@
 // Written by tools/to-rust from crates/wasm_custom/src/checks.rt: change that.
 // Checks that payloads of custom sections decode. No item is kept.
 
-use crate::vec::Vec;
-use crate::custom::core_dumps::CoreInstance;
-use crate::custom::core_stack::CoreFrame;
-use crate::custom::dylink::DylinkItem;
-use crate::custom::hints::BranchHint;
-use crate::custom::linking::{LinkItem, after_version};
-use crate::custom::marked::MarkedName;
-use crate::custom::named::after_name;
-use crate::custom::names::NameItem;
-use crate::custom::relocations::Relocation;
-use crate::custom::target_features::FeaturePrefix;
+use crate::custom::core_walks::{walk_instances, walk_modules, walk_stack};
+use crate::custom::dylink_walks::walk_dylink;
+use crate::custom::item_walks::{walk_features, walk_hints, walk_producers, walk_relocations};
+use crate::custom::link_walks::walk_links;
+use crate::custom::name_walks::walk_names;
 use crate::alloc::Allocator;
-use crate::base::{DecodeError, Dropped, Grammar, ReadFault, Readable, Skip, check_to_end, check_whole};
-
-/// Checks the payload of a section of this name with a vector of items.
-///
-/// # Proved
-///
-/// After `Ok`: `found`, the bytes as a whole are such an encoding. After an error: `none`, the bytes as a whole are no such encoding, unless the cause is `Memory`.
-///
-/// ```text
-/// ensures found { OnOk result
-///     ((xs : List P.Value) × counted_payload name.now P.format
-///         (padded_of G.grammar) bytes.now xs) }
-/// ensures none { IfErr result
-///     (λ e. e.cause ≢ Memory → RejectsWhole (counted_payload name.now P.format)
-///         (padded_of G.grammar) bytes.now) }
-/// ensures no_memory { IfErr result (λ e. e.cause ≡ Memory → P.may_allocate) }
-/// ```
-///
-/// Definitions: [`counted_payload`](crate::definitions::custom::entries::counted_payload), [`padded_of`](crate::definitions::base::numbers::padded_of), [`RejectsWhole`](crate::definitions::base::continuing::RejectsWhole). [How to read clauses](crate::definitions).
-fn check_counted<'a, P: Skip<'a, A, G>, A: Allocator + Copy, G: Grammar>(
-    name: &str,
-    bytes: &'a [u8],
-    alloc: A,
-) -> Result<(), DecodeError> {
-    let rest = after_name::<A, G>(name, bytes, alloc)?;
-    check_whole::<'a, Vec<P>, A, G>(rest, alloc)?;
-    Ok(())
-}
+use crate::base::{DecodeError, Discard, Grammar};
 
 /// Checks that the bytes are the payload of a name section, in the grammar `G`. No item is kept.
 ///
@@ -80,9 +47,7 @@ pub fn check_names<'a, A: Allocator + Copy, G: Grammar>(
     bytes: &'a [u8],
     alloc: A,
 ) -> Result<(), DecodeError> {
-    let rest = after_name::<A, G>("name", bytes, alloc)?;
-    check_to_end::<'a, NameItem<'a, A>, A, G>(rest, alloc)?;
-    Ok(())
+    walk_names::<A, G, _>(bytes, alloc, &mut Discard)
 }
 
 /// Checks that the bytes are the payload of a linking section, in the grammar `G`. No item is kept.
@@ -123,10 +88,7 @@ pub fn check_links<'a, A: Allocator + Copy, G: Grammar>(
     bytes: &'a [u8],
     alloc: A,
 ) -> Result<(), DecodeError> {
-    let rest = after_name::<A, G>("linking", bytes, alloc)?;
-    let rest = after_version::<A, G>(rest, alloc)?;
-    check_to_end::<'a, LinkItem<'a, A>, A, G>(rest, alloc)?;
-    Ok(())
+    walk_links::<A, G, _>(bytes, alloc, &mut Discard)
 }
 
 /// Checks that the bytes are the payload of a dynamic library's section, in the grammar `G`. No
@@ -168,9 +130,7 @@ pub fn check_dylink<'a, A: Allocator + Copy, G: Grammar>(
     bytes: &'a [u8],
     alloc: A,
 ) -> Result<(), DecodeError> {
-    let rest = after_name::<A, G>("dylink.0", bytes, alloc)?;
-    check_to_end::<'a, DylinkItem<'a, A>, A, G>(rest, alloc)?;
-    Ok(())
+    walk_dylink::<A, G, _>(bytes, alloc, &mut Discard)
 }
 
 /// Checks that the bytes are the payload of a producers section, in the grammar `G`. No item is
@@ -212,11 +172,7 @@ pub fn check_producers<'a, A: Allocator + Copy, G: Grammar>(
     bytes: &'a [u8],
     alloc: A,
 ) -> Result<(), DecodeError> {
-    check_counted::<(Dropped<&'a str>, Vec<Dropped<(&'a str, &'a str)>>), A, G>(
-        "producers",
-        bytes,
-        alloc,
-    )
+    walk_producers::<A, G, _>(bytes, alloc, &mut Discard)
 }
 
 /// Checks that the bytes are the payload of a target features section, in the grammar `G`. No item
@@ -258,7 +214,7 @@ pub fn check_features<'a, A: Allocator + Copy, G: Grammar>(
     bytes: &'a [u8],
     alloc: A,
 ) -> Result<(), DecodeError> {
-    check_counted::<Dropped<(FeaturePrefix, &'a str)>, A, G>("target_features", bytes, alloc)
+    walk_features::<A, G, _>(bytes, alloc, &mut Discard)
 }
 
 /// Checks that the bytes are the payload of a branch hint section, in the grammar `G`. No item is
@@ -300,11 +256,7 @@ pub fn check_hints<'a, A: Allocator + Copy, G: Grammar>(
     bytes: &'a [u8],
     alloc: A,
 ) -> Result<(), DecodeError> {
-    check_counted::<(Dropped<u32>, Vec<Dropped<BranchHint>>), A, G>(
-        "metadata.code.branch_hint",
-        bytes,
-        alloc,
-    )
+    walk_hints::<A, G, _>(bytes, alloc, &mut Discard)
 }
 
 /// Checks that the bytes are the payload of a relocation section, in the grammar `G`. No item is
@@ -346,12 +298,7 @@ pub fn check_relocations<'a, A: Allocator + Copy, G: Grammar>(
     bytes: &'a [u8],
     alloc: A,
 ) -> Result<(), DecodeError> {
-    let (name, rest) = <&'a str as Readable<'a, A, G>>::read(bytes, alloc)?;
-    if !name.as_bytes().starts_with(b"reloc.") {
-        return Err(ReadFault::UnknownTag.at(name.as_bytes()).before(rest));
-    }
-    check_whole::<'a, (Dropped<u32>, Vec<Dropped<Relocation>>), A, G>(rest, alloc)?;
-    Ok(())
+    walk_relocations::<A, G, _>(bytes, alloc, &mut Discard)
 }
 
 /// Checks that the bytes are the payload of a core dump's modules section, in the grammar `G`. No
@@ -393,7 +340,7 @@ pub fn check_modules<'a, A: Allocator + Copy, G: Grammar>(
     bytes: &'a [u8],
     alloc: A,
 ) -> Result<(), DecodeError> {
-    check_counted::<Dropped<MarkedName<'a>>, A, G>("coremodules", bytes, alloc)
+    walk_modules::<A, G, _>(bytes, alloc, &mut Discard)
 }
 
 /// Checks that the bytes are the payload of a core dump's instances section, in the grammar `G`. No
@@ -435,7 +382,7 @@ pub fn check_instances<'a, A: Allocator + Copy, G: Grammar>(
     bytes: &'a [u8],
     alloc: A,
 ) -> Result<(), DecodeError> {
-    check_counted::<CoreInstance<A>, A, G>("coreinstances", bytes, alloc)
+    walk_instances::<A, G, _>(bytes, alloc, &mut Discard)
 }
 
 /// Checks that the bytes are the payload of a core dump's stack section, in the grammar `G`. No
@@ -477,7 +424,5 @@ pub fn check_stack<'a, A: Allocator + Copy, G: Grammar>(
     bytes: &'a [u8],
     alloc: A,
 ) -> Result<(), DecodeError> {
-    let rest = after_name::<A, G>("corestack", bytes, alloc)?;
-    check_whole::<'a, (Dropped<MarkedName<'a>>, Vec<CoreFrame<A>>), A, G>(rest, alloc)?;
-    Ok(())
+    walk_stack::<A, G, _>(bytes, alloc, &mut Discard)
 }

@@ -3,9 +3,9 @@
 // identity of the build.
 
 use crate::vec::Sink;
-use crate::custom::single::{append_single, encode_single, read_single};
+use crate::custom::single::{append_single, encode_single, read_single, walk_single};
 use crate::alloc::Allocator;
-use crate::base::{DecodeError, Encode, Grammar, Result, Section, SectionId};
+use crate::base::{DecodeError, Effect, Encode, Grammar, Result, Section, SectionId};
 
 /// The `sourceMappingURL` section: the URL of the source map of a module.
 ///
@@ -112,6 +112,35 @@ pub fn read_source_map<'a, A: Allocator + Copy, G: Grammar>(
     alloc: A,
 ) -> Result<&'a str, DecodeError> {
     read_single::<&'a str, A, G>("sourceMappingURL", bytes, alloc)
+}
+
+/// Walks over the payload of the section of a source map, in the grammar `G`.
+///
+/// # Errors
+///
+/// Any error but `Memory` means that the bytes are not such a payload.
+///
+/// # Proved
+///
+/// After `Ok`: `found`, the bytes as a whole are an encoding, and the effect takes the minimal one. After an error: `none`, the bytes as a whole are no such encoding, unless the cause is `Memory`; `no_memory`, the cause is `Memory` only with an effect whose calls may fail. In any case: `front`, the effect keeps what it took before.
+///
+/// ```text
+/// ensures found { OnOk result
+///     (WalksWhole E.seen G.grammar source_map_payload bytes.now effect.old effect.new) }
+/// ensures none { IfErr result
+///     (λ e. e.cause ≢ Memory → RejectsWhole source_map_payload
+///         (padded_of G.grammar) bytes.now) }
+/// ensures no_memory { IfErr result (λ e. e.cause ≡ Memory → E.may_fail) }
+/// ensures front { Keeps E.seen effect.old effect.new }
+/// ```
+///
+/// Definitions: [`WalksWhole`](crate::definitions::base::walks::WalksWhole), [`source_map_payload`](crate::definitions::custom::debug_files::source_map_payload), [`RejectsWhole`](crate::definitions::base::continuing::RejectsWhole), [`padded_of`](crate::definitions::base::numbers::padded_of), [`Keeps`](crate::definitions::base::walks::Keeps). [How to read clauses](crate::definitions).
+pub fn walk_source_map<'a, A: Allocator + Copy, G: Grammar, E: Effect>(
+    bytes: &'a [u8],
+    alloc: A,
+    effect: &mut E,
+) -> Result<(), DecodeError> {
+    walk_single::<&'a str, A, G, _>("sourceMappingURL", bytes, alloc, effect)
 }
 
 /// Appends the minimal encoding of the payload of the section of this source map. On an error, the
@@ -258,6 +287,35 @@ pub fn read_debug_file<'a, A: Allocator + Copy, G: Grammar>(
     alloc: A,
 ) -> Result<&'a str, DecodeError> {
     read_single::<&'a str, A, G>("external_debug_info", bytes, alloc)
+}
+
+/// Walks over the payload of the section of an external file of debug information, in the grammar `G`.
+///
+/// # Errors
+///
+/// Any error but `Memory` means that the bytes are not such a payload.
+///
+/// # Proved
+///
+/// After `Ok`: `found`, the bytes as a whole are an encoding, and the effect takes the minimal one. After an error: `none`, the bytes as a whole are no such encoding, unless the cause is `Memory`; `no_memory`, the cause is `Memory` only with an effect whose calls may fail. In any case: `front`, the effect keeps what it took before.
+///
+/// ```text
+/// ensures found { OnOk result
+///     (WalksWhole E.seen G.grammar debug_file_payload bytes.now effect.old effect.new) }
+/// ensures none { IfErr result
+///     (λ e. e.cause ≢ Memory → RejectsWhole debug_file_payload
+///         (padded_of G.grammar) bytes.now) }
+/// ensures no_memory { IfErr result (λ e. e.cause ≡ Memory → E.may_fail) }
+/// ensures front { Keeps E.seen effect.old effect.new }
+/// ```
+///
+/// Definitions: [`WalksWhole`](crate::definitions::base::walks::WalksWhole), [`debug_file_payload`](crate::definitions::custom::debug_files::debug_file_payload), [`RejectsWhole`](crate::definitions::base::continuing::RejectsWhole), [`padded_of`](crate::definitions::base::numbers::padded_of), [`Keeps`](crate::definitions::base::walks::Keeps). [How to read clauses](crate::definitions).
+pub fn walk_debug_file<'a, A: Allocator + Copy, G: Grammar, E: Effect>(
+    bytes: &'a [u8],
+    alloc: A,
+    effect: &mut E,
+) -> Result<(), DecodeError> {
+    walk_single::<&'a str, A, G, _>("external_debug_info", bytes, alloc, effect)
 }
 
 /// Appends the minimal encoding of the payload of the section of this file of debug information. On
@@ -409,6 +467,35 @@ pub fn read_build_id<'a, A: Allocator + Copy, G: Grammar>(
     alloc: A,
 ) -> Result<&'a [u8], DecodeError> {
     read_single::<&'a [u8], A, G>("build_id", bytes, alloc)
+}
+
+/// Walks over the payload of the section of a build's identity, in the grammar `G`.
+///
+/// # Errors
+///
+/// Any error but `Memory` means that the bytes are not such a payload.
+///
+/// # Proved
+///
+/// After `Ok`: `found`, the bytes as a whole are an encoding, and the effect takes the minimal one. After an error: `none`, the bytes as a whole are no such encoding, unless the cause is `Memory`; `no_memory`, the cause is `Memory` only with an effect whose calls may fail. In any case: `front`, the effect keeps what it took before.
+///
+/// ```text
+/// ensures found { OnOk result
+///     (WalksWhole E.seen G.grammar build_id_payload bytes.now effect.old effect.new) }
+/// ensures none { IfErr result
+///     (λ e. e.cause ≢ Memory → RejectsWhole build_id_payload
+///         (padded_of G.grammar) bytes.now) }
+/// ensures no_memory { IfErr result (λ e. e.cause ≡ Memory → E.may_fail) }
+/// ensures front { Keeps E.seen effect.old effect.new }
+/// ```
+///
+/// Definitions: [`WalksWhole`](crate::definitions::base::walks::WalksWhole), [`build_id_payload`](crate::definitions::custom::debug_files::build_id_payload), [`RejectsWhole`](crate::definitions::base::continuing::RejectsWhole), [`padded_of`](crate::definitions::base::numbers::padded_of), [`Keeps`](crate::definitions::base::walks::Keeps). [How to read clauses](crate::definitions).
+pub fn walk_build_id<'a, A: Allocator + Copy, G: Grammar, E: Effect>(
+    bytes: &'a [u8],
+    alloc: A,
+    effect: &mut E,
+) -> Result<(), DecodeError> {
+    walk_single::<&'a [u8], A, G, _>("build_id", bytes, alloc, effect)
 }
 
 /// Appends the minimal encoding of the payload of the section of these bytes. On an error, the sink

@@ -1,9 +1,8 @@
 // Written by tools/to-rust from crates/wasm_custom/src/marked.rt: change that.
 // Values after a fixed byte.
 
-use crate::vec::Sink;
 use crate::alloc::Allocator;
-use crate::base::{DecodeError, Encode, Grammar, Layout, Minimize, ReadFault, Readable, Skip};
+use crate::base::{DecodeError, Effect, Grammar, Layout, ReadFault, Readable, Walk};
 
 /// Decodes the byte `mark` and the value after it, and returns the value with the remaining bytes.
 ///
@@ -35,68 +34,36 @@ pub(crate) fn read_marked<'a, T: Readable<'a, A, G>, A: Allocator + Copy, G: Gra
     Ok((value, rest))
 }
 
-/// Skips the byte `mark` and the value after it.
+/// Walks over the byte `mark` and the value after it.
 ///
 /// # Proved
 ///
-/// After `Ok`: `found`, the bytes begin with such an encoding, and the returned bytes follow it. After an error: `none`, the bytes do not begin with such an encoding, unless the cause is `Memory`.
+/// After `Ok`: `found`, the bytes begin with an encoding, the effect takes the minimal one, and the returned bytes follow it. After an error: `none`, the bytes do not begin with such an encoding, unless the cause is `Memory`; `no_memory`, the cause is `Memory` only with an effect whose calls may fail. In any case: `front`, the effect keeps what it took before.
 ///
 /// ```text
 /// ensures found { IfOk result
-///     (λ rest. (x : P.Value) × Decodes (prefixed (mark ∷ []) P.format)
-///         (padded_of G.grammar) bytes.now x rest.now) }
-/// ensures none { IfErr result
-///     (λ e. e.cause ≢ Memory → Rejects (prefixed (mark ∷ []) P.format)
-///         (padded_of G.grammar) bytes.now) }
-/// ensures no_memory { IfErr result (λ e. e.cause ≡ Memory → P.may_allocate) }
-/// ```
-///
-/// Definitions: [`Decodes`](crate::definitions::base::decoding::Decodes), [`prefixed`](crate::definitions::base::formats::prefixed), [`padded_of`](crate::definitions::base::numbers::padded_of), [`Rejects`](crate::definitions::base::decoding::Rejects). [How to read clauses](crate::definitions).
-pub(crate) fn skip_marked<'a, P: Skip<'a, A, G>, A: Allocator + Copy, G: Grammar>(
-    mark: u8,
-    bytes: &'a [u8],
-    alloc: A,
-) -> Result<&'a [u8], DecodeError> {
-    let (first, after) = <u8 as Readable<'a, A, G>>::read(bytes, alloc)?;
-    if first != mark {
-        return Err(ReadFault::UnknownTag.just_before(after));
-    }
-    let rest = P::skip(after, alloc)?;
-    Ok(rest)
-}
-
-/// Minimizes the byte `mark` and the value after it.
-///
-/// # Proved
-///
-/// - After `Ok`, `found`: A value decodes from the front of the bytes in this grammar, and `rest` follows it. The call appends the minimal encoding of the value in this grammar.
-/// - After an error, `none`: the bytes do not begin with such an encoding, unless the cause is `Memory`.
-/// - `front`: The new bytes begin with the old ones.
-///
-/// ```text
-/// ensures found { IfOk result
-///     (λ rest. Minimizes G.grammar
-///         (prefixed (mark ∷ []) T.format) bytes.now rest.now sink.old.items
-///         sink.new.items) }
+///     (λ rest. Walks E.seen G.grammar
+///         (prefixed (mark ∷ []) T.format) bytes.now rest.now effect.old effect.new) }
 /// ensures none { IfErr result
 ///     (λ e. e.cause ≢ Memory → Rejects (prefixed (mark ∷ []) T.format)
 ///         (padded_of G.grammar) bytes.now) }
-/// ensures front { IsFrontOf sink.old.items sink.new.items }
+/// ensures no_memory { IfErr result (λ e. e.cause ≡ Memory → E.may_fail) }
+/// ensures front { Keeps E.seen effect.old effect.new }
 /// ```
 ///
-/// Definitions: [`Minimizes`](crate::definitions::base::minimal::Minimizes), [`prefixed`](crate::definitions::base::formats::prefixed), [`Rejects`](crate::definitions::base::decoding::Rejects), [`padded_of`](crate::definitions::base::numbers::padded_of), [`IsFrontOf`](crate::definitions::base::minimal::IsFrontOf). [How to read clauses](crate::definitions).
-pub(crate) fn minimize_marked<'a, T: Minimize<G>, A: Allocator + Copy, G: Grammar, B: Sink>(
+/// Definitions: [`Walks`](crate::definitions::base::walks::Walks), [`prefixed`](crate::definitions::base::formats::prefixed), [`Rejects`](crate::definitions::base::decoding::Rejects), [`padded_of`](crate::definitions::base::numbers::padded_of), [`Keeps`](crate::definitions::base::walks::Keeps). [How to read clauses](crate::definitions).
+pub(crate) fn walk_marked<'a, T: Walk<G>, A: Allocator + Copy, G: Grammar, E: Effect>(
     mark: u8,
     bytes: &'a [u8],
     alloc: A,
-    sink: &mut B,
+    effect: &mut E,
 ) -> Result<&'a [u8], DecodeError> {
     let (first, after) = <u8 as Readable<'a, A, G>>::read(bytes, alloc)?;
     if first != mark {
         return Err(ReadFault::UnknownTag.just_before(after));
     }
-    mark.encode(sink)?;
-    let rest = T::minimize(after, alloc, sink)?;
+    effect.put(&mark)?;
+    let rest = T::walk(after, alloc, effect)?;
     Ok(rest)
 }
 

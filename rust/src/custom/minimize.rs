@@ -1,189 +1,58 @@
 // Written by tools/to-rust from crates/wasm_custom/src/minimize.rt: change that.
-// Linking sections whose minimal encoding is appended while they are decoded.
+// Minimizes payloads of custom sections. No item is kept.
 
-use crate::vec::{Sink, Vec};
-use crate::custom::comdats::{Comdat, ComdatSymbol};
-use crate::custom::init_functions::InitFunction;
-use crate::custom::linking::{LinkItem, VERSION, after_version};
-use crate::custom::named::after_name;
-use crate::custom::segments::SegmentInfo;
-use crate::custom::standard::require_standard;
-use crate::custom::symbols::Symbol;
+use crate::vec::Sink;
+use crate::custom::core_walks::{walk_instances, walk_modules, walk_stack};
+use crate::custom::dylink_walks::walk_dylink;
+use crate::custom::item_walks::{walk_features, walk_hints, walk_producers, walk_relocations};
+use crate::custom::link_walks::walk_links;
+use crate::custom::name_walks::walk_names;
 use crate::alloc::Allocator;
-use crate::base::{DecodeError, Encode, Grammar, Minimize, Readable, Shared, SizePrefixed, minimize_shared, minimize_to_end};
+use crate::base::{DecodeError, Grammar};
 
-impl<'s, G: Grammar> Minimize<G> for SegmentInfo<'s> {
-    /// # Proved
-    ///
-    /// - After `Ok`, `found`: A value decodes from the front of the bytes in this grammar, and `rest` follows it. The call appends the minimal encoding of the value in this grammar.
-    /// - After an error, `none`: the bytes do not begin with such an encoding, unless the cause is `Memory`.
-    /// - `front`: The new bytes begin with the old ones.
-    ///
-    /// ```text
-    /// ensures found { IfOk result
-    ///     (λ rest. Minimizes G.grammar segment bytes.now rest.now sink.old.items
-    ///         sink.new.items) }
-    /// ensures none { IfErr result
-    ///     (λ e. e.cause ≢ Memory → Rejects segment (padded_of G.grammar) bytes.now) }
-    /// ensures front { IsFrontOf sink.old.items sink.new.items }
-    /// ```
-    ///
-    /// Definitions: [`Minimizes`](crate::definitions::base::minimal::Minimizes), [`segment`](crate::definitions::custom::segments::segment), [`Rejects`](crate::definitions::base::decoding::Rejects), [`padded_of`](crate::definitions::base::numbers::padded_of), [`IsFrontOf`](crate::definitions::base::minimal::IsFrontOf). [How to read clauses](crate::definitions).
-    fn minimize<'a, A: Allocator + Copy, B: Sink>(
-        bytes: &'a [u8],
-        alloc: A,
-        sink: &mut B,
-    ) -> Result<&'a [u8], DecodeError> {
-        let rest = <(&'a str, (u32, u32)) as Minimize<G>>::minimize(bytes, alloc, sink)?;
-        Ok(rest)
-    }
-}
-
-impl<G: Grammar> Minimize<G> for InitFunction {
-    fn minimize<'a, A: Allocator + Copy, B: Sink>(
-        bytes: &'a [u8],
-        alloc: A,
-        sink: &mut B,
-    ) -> Result<&'a [u8], DecodeError> {
-        let rest = <(u32, u32) as Minimize<G>>::minimize(bytes, alloc, sink)?;
-        Ok(rest)
-    }
-}
-
-impl Shared for ComdatSymbol {
-    fn shared() {}
-}
-
-impl<G: Grammar> Minimize<G> for ComdatSymbol {
-    fn minimize<'a, A: Allocator + Copy, B: Sink>(
-        bytes: &'a [u8],
-        alloc: A,
-        sink: &mut B,
-    ) -> Result<&'a [u8], DecodeError> {
-        minimize_shared::<ComdatSymbol, A, G, _>(bytes, alloc, sink)
-    }
-}
-
-impl<'s, G: Grammar, C: Allocator> Minimize<G> for Comdat<'s, C> {
-    /// # Proved
-    ///
-    /// - After `Ok`, `found`: A value decodes from the front of the bytes in this grammar, and `rest` follows it. The call appends the minimal encoding of the value in this grammar.
-    /// - After an error, `none`: the bytes do not begin with such an encoding, unless the cause is `Memory`.
-    /// - `front`: The new bytes begin with the old ones.
-    ///
-    /// ```text
-    /// ensures found { IfOk result
-    ///     (λ rest. Minimizes G.grammar comdat bytes.now rest.now sink.old.items
-    ///         sink.new.items) }
-    /// ensures none { IfErr result
-    ///     (λ e. e.cause ≢ Memory → Rejects comdat (padded_of G.grammar) bytes.now) }
-    /// ensures front { IsFrontOf sink.old.items sink.new.items }
-    /// ```
-    ///
-    /// Definitions: [`Minimizes`](crate::definitions::base::minimal::Minimizes), [`comdat`](crate::definitions::custom::comdats::comdat), [`Rejects`](crate::definitions::base::decoding::Rejects), [`padded_of`](crate::definitions::base::numbers::padded_of), [`IsFrontOf`](crate::definitions::base::minimal::IsFrontOf). [How to read clauses](crate::definitions).
-    fn minimize<'a, A: Allocator + Copy, B: Sink>(
-        bytes: &'a [u8],
-        alloc: A,
-        sink: &mut B,
-    ) -> Result<&'a [u8], DecodeError> {
-        let rest = <(&'a str, (u32, Vec<ComdatSymbol, C>)) as Minimize<G>>::minimize(
-            bytes, alloc, sink,
-        )?;
-        Ok(rest)
-    }
-}
-
-impl<'s, G: Grammar> Minimize<G> for Symbol<'s> {
-    /// # Proved
-    ///
-    /// - After `Ok`, `found`: A value decodes from the front of the bytes in this grammar, and `rest` follows it. The call appends the minimal encoding of the value in this grammar.
-    /// - After an error, `none`: the bytes do not begin with such an encoding, unless the cause is `Memory`.
-    /// - `front`: The new bytes begin with the old ones.
-    ///
-    /// ```text
-    /// ensures found { IfOk result
-    ///     (λ rest. Minimizes G.grammar symbol bytes.now rest.now sink.old.items
-    ///         sink.new.items) }
-    /// ensures none { IfErr result
-    ///     (λ e. e.cause ≢ Memory → Rejects symbol (padded_of G.grammar) bytes.now) }
-    /// ensures front { IsFrontOf sink.old.items sink.new.items }
-    /// ```
-    ///
-    /// Definitions: [`Minimizes`](crate::definitions::base::minimal::Minimizes), [`symbol`](crate::definitions::custom::symbols::symbol), [`Rejects`](crate::definitions::base::decoding::Rejects), [`padded_of`](crate::definitions::base::numbers::padded_of), [`IsFrontOf`](crate::definitions::base::minimal::IsFrontOf). [How to read clauses](crate::definitions).
-    fn minimize<'a, A: Allocator + Copy, B: Sink>(
-        bytes: &'a [u8],
-        alloc: A,
-        sink: &mut B,
-    ) -> Result<&'a [u8], DecodeError> {
-        let (symbol, rest) = <Symbol<'a> as Readable<'a, A, G>>::read(bytes, alloc)?;
-        symbol.append(sink)?;
-        Ok(rest)
-    }
-}
-
-impl<'s, G: Grammar, C: Allocator> Minimize<G> for LinkItem<'s, C> {
-    /// # Proved
-    ///
-    /// - After `Ok`, `found`: A value decodes from the front of the bytes in this grammar, and `rest` follows it. The call appends the minimal encoding of the value in this grammar.
-    /// - After an error, `none`: the bytes do not begin with such an encoding, unless the cause is `Memory`.
-    /// - `front`: The new bytes begin with the old ones.
-    ///
-    /// ```text
-    /// ensures found { IfOk result
-    ///     (λ rest. Minimizes G.grammar link bytes.now rest.now sink.old.items sink.new.items)
-    ///     }
-    /// ensures none { IfErr result
-    ///     (λ e. e.cause ≢ Memory → Rejects link (padded_of G.grammar) bytes.now) }
-    /// ensures front { IsFrontOf sink.old.items sink.new.items }
-    /// ```
-    ///
-    /// Definitions: [`Minimizes`](crate::definitions::base::minimal::Minimizes), [`link`](crate::definitions::custom::linking::link), [`Rejects`](crate::definitions::base::decoding::Rejects), [`padded_of`](crate::definitions::base::numbers::padded_of), [`IsFrontOf`](crate::definitions::base::minimal::IsFrontOf). [How to read clauses](crate::definitions).
-    fn minimize<'a, A: Allocator + Copy, B: Sink>(
-        bytes: &'a [u8],
-        alloc: A,
-        sink: &mut B,
-    ) -> Result<&'a [u8], DecodeError> {
-        let (id, rest) = <u8 as Readable<'a, A, G>>::read(bytes, alloc)?;
-        id.encode(sink)?;
-        match id {
-            5 => {
-                require_standard::<G>(rest)?;
-                let rest = <SizePrefixed<Vec<SegmentInfo<'a>, C>> as Minimize<G>>::minimize(
-                    rest, alloc, sink,
-                )?;
-                Ok(rest)
-            }
-            6 => {
-                require_standard::<G>(rest)?;
-                let rest = <SizePrefixed<Vec<InitFunction, C>> as Minimize<G>>::minimize(
-                    rest, alloc, sink,
-                )?;
-                Ok(rest)
-            }
-            7 => {
-                require_standard::<G>(rest)?;
-                let rest = <SizePrefixed<Vec<Comdat<'a, C>, C>> as Minimize<G>>::minimize(
-                    rest, alloc, sink,
-                )?;
-                Ok(rest)
-            }
-            8 => {
-                let rest = <SizePrefixed<Vec<Symbol<'a>, C>> as Minimize<G>>::minimize(
-                    rest, alloc, sink,
-                )?;
-                Ok(rest)
-            }
-            9 => {
-                let rest = <SizePrefixed<&'a str> as Minimize<G>>::minimize(rest, alloc, sink)?;
-                Ok(rest)
-            }
-            _ => {
-                require_standard::<G>(rest)?;
-                let rest = <&'a [u8] as Minimize<G>>::minimize(rest, alloc, sink)?;
-                Ok(rest)
-            }
-        }
-    }
+/// Appends the minimal encoding, in the grammar `G`, of the payload of a name section. After an
+/// error, part of it may follow the old bytes of the sink.
+///
+/// # Errors
+///
+/// Any error but `Memory` means that the bytes are not such a payload.
+///
+/// # Examples
+///
+/// ```
+/// use dolzhytik::fallible::{Global, minimize_names};
+/// use dolzhytik::reader::Standard;
+///
+/// // The size of the subsection, which holds the name of the module, has two bytes.
+/// let payload = b"\x04name\x00\x82\x00\x01m";
+/// let mut minimal = vec![];
+/// minimize_names::<_, Standard, _>(payload, Global, &mut minimal)?;
+/// assert_eq!(minimal, *b"\x04name\x00\x02\x01m");
+/// # Ok::<(), dolzhytik::reader::DecodeError>(())
+/// ```
+///
+/// # Proved
+///
+/// - After `Ok`, `found`: The bytes as a whole decode to a value in this grammar, and the call appends the minimal encoding of the value in this grammar.
+/// - After an error, `none`: the bytes as a whole are no such encoding, unless the cause is `Memory`.
+/// - `front`: The new bytes begin with the old ones.
+///
+/// ```text
+/// ensures found { OnOk result
+///     (MinimizesWhole G.grammar name_payload bytes.now sink.old.items sink.new.items) }
+/// ensures none { IfErr result
+///     (λ e. e.cause ≢ Memory → RejectsWhole name_payload (padded_of G.grammar) bytes.now)
+///     }
+/// ensures front { IsFrontOf sink.old.items sink.new.items }
+/// ```
+///
+/// Definitions: [`MinimizesWhole`](crate::definitions::base::minimal::MinimizesWhole), [`name_payload`](crate::definitions::custom::names::name_payload), [`RejectsWhole`](crate::definitions::base::continuing::RejectsWhole), [`padded_of`](crate::definitions::base::numbers::padded_of), [`IsFrontOf`](crate::definitions::base::minimal::IsFrontOf). [How to read clauses](crate::definitions).
+pub fn minimize_names<'a, A: Allocator + Copy, G: Grammar, B: Sink>(
+    bytes: &'a [u8],
+    alloc: A,
+    sink: &mut B,
+) -> Result<(), DecodeError> {
+    walk_names::<A, G, _>(bytes, alloc, sink)
 }
 
 /// Appends the minimal encoding, in the grammar `G`, of the payload of a linking section. After an
@@ -228,10 +97,370 @@ pub fn minimize_links<'a, A: Allocator + Copy, G: Grammar, B: Sink>(
     alloc: A,
     sink: &mut B,
 ) -> Result<(), DecodeError> {
-    let rest = after_name::<A, G>("linking", bytes, alloc)?;
-    let rest = after_version::<A, G>(rest, alloc)?;
-    "linking".encode(sink)?;
-    VERSION.encode(sink)?;
-    minimize_to_end::<LinkItem<'a, A>, A, G, _>(rest, alloc, sink)?;
-    Ok(())
+    walk_links::<A, G, _>(bytes, alloc, sink)
+}
+
+/// Appends the minimal encoding, in the grammar `G`, of the payload of a dynamic library's section.
+/// After an error, part of it may follow the old bytes of the sink.
+///
+/// # Errors
+///
+/// Any error but `Memory` means that the bytes are not such a payload.
+///
+/// # Examples
+///
+/// ```
+/// use dolzhytik::fallible::{Global, minimize_dylink};
+/// use dolzhytik::reader::Standard;
+///
+/// // The size of the subsection and the number of libraries have two bytes each.
+/// let payload = b"\x08dylink.0\x02\x8a\x00\x81\x00\x07libm.so";
+/// let mut minimal = vec![];
+/// minimize_dylink::<_, Standard, _>(payload, Global, &mut minimal)?;
+/// assert_eq!(minimal, *b"\x08dylink.0\x02\x09\x01\x07libm.so");
+/// # Ok::<(), dolzhytik::reader::DecodeError>(())
+/// ```
+///
+/// # Proved
+///
+/// - After `Ok`, `found`: The bytes as a whole decode to a value in this grammar, and the call appends the minimal encoding of the value in this grammar.
+/// - After an error, `none`: the bytes as a whole are no such encoding, unless the cause is `Memory`.
+/// - `front`: The new bytes begin with the old ones.
+///
+/// ```text
+/// ensures found { OnOk result
+///     (MinimizesWhole G.grammar dylink_payload bytes.now sink.old.items sink.new.items) }
+/// ensures none { IfErr result
+///     (λ e. e.cause ≢ Memory → RejectsWhole dylink_payload
+///         (padded_of G.grammar) bytes.now) }
+/// ensures front { IsFrontOf sink.old.items sink.new.items }
+/// ```
+///
+/// Definitions: [`MinimizesWhole`](crate::definitions::base::minimal::MinimizesWhole), [`dylink_payload`](crate::definitions::custom::dylink::dylink_payload), [`RejectsWhole`](crate::definitions::base::continuing::RejectsWhole), [`padded_of`](crate::definitions::base::numbers::padded_of), [`IsFrontOf`](crate::definitions::base::minimal::IsFrontOf). [How to read clauses](crate::definitions).
+pub fn minimize_dylink<'a, A: Allocator + Copy, G: Grammar, B: Sink>(
+    bytes: &'a [u8],
+    alloc: A,
+    sink: &mut B,
+) -> Result<(), DecodeError> {
+    walk_dylink::<A, G, _>(bytes, alloc, sink)
+}
+
+/// Appends the minimal encoding, in the grammar `G`, of the payload of a producers section. After
+/// an error, part of it may follow the old bytes of the sink.
+///
+/// # Errors
+///
+/// Any error but `Memory` means that the bytes are not such a payload.
+///
+/// # Examples
+///
+/// ```
+/// use dolzhytik::fallible::{Global, minimize_producers};
+/// use dolzhytik::reader::Standard;
+///
+/// // The number of fields has two bytes.
+/// let payload = b"\x09producers\x81\x00\x03sdk\x01\x01e\x011";
+/// let mut minimal = vec![];
+/// minimize_producers::<_, Standard, _>(payload, Global, &mut minimal)?;
+/// assert_eq!(minimal, *b"\x09producers\x01\x03sdk\x01\x01e\x011");
+/// # Ok::<(), dolzhytik::reader::DecodeError>(())
+/// ```
+///
+/// # Proved
+///
+/// - After `Ok`, `found`: The bytes as a whole decode to a value in this grammar, and the call appends the minimal encoding of the value in this grammar.
+/// - After an error, `none`: the bytes as a whole are no such encoding, unless the cause is `Memory`.
+/// - `front`: The new bytes begin with the old ones.
+///
+/// ```text
+/// ensures found { OnOk result
+///     (MinimizesWhole G.grammar producers_payload bytes.now sink.old.items sink.new.items)
+///     }
+/// ensures none { IfErr result
+///     (λ e. e.cause ≢ Memory → RejectsWhole producers_payload
+///         (padded_of G.grammar) bytes.now) }
+/// ensures front { IsFrontOf sink.old.items sink.new.items }
+/// ```
+///
+/// Definitions: [`MinimizesWhole`](crate::definitions::base::minimal::MinimizesWhole), [`producers_payload`](crate::definitions::custom::producers::producers_payload), [`RejectsWhole`](crate::definitions::base::continuing::RejectsWhole), [`padded_of`](crate::definitions::base::numbers::padded_of), [`IsFrontOf`](crate::definitions::base::minimal::IsFrontOf). [How to read clauses](crate::definitions).
+pub fn minimize_producers<'a, A: Allocator + Copy, G: Grammar, B: Sink>(
+    bytes: &'a [u8],
+    alloc: A,
+    sink: &mut B,
+) -> Result<(), DecodeError> {
+    walk_producers::<A, G, _>(bytes, alloc, sink)
+}
+
+/// Appends the minimal encoding, in the grammar `G`, of the payload of a target features section.
+/// After an error, part of it may follow the old bytes of the sink.
+///
+/// # Errors
+///
+/// Any error but `Memory` means that the bytes are not such a payload.
+///
+/// # Examples
+///
+/// ```
+/// use dolzhytik::fallible::{Global, minimize_features};
+/// use dolzhytik::reader::Standard;
+///
+/// // The number of features has two bytes.
+/// let payload = b"\x0ftarget_features\x81\x00+\x07atomics";
+/// let mut minimal = vec![];
+/// minimize_features::<_, Standard, _>(payload, Global, &mut minimal)?;
+/// assert_eq!(minimal, *b"\x0ftarget_features\x01+\x07atomics");
+/// # Ok::<(), dolzhytik::reader::DecodeError>(())
+/// ```
+///
+/// # Proved
+///
+/// - After `Ok`, `found`: The bytes as a whole decode to a value in this grammar, and the call appends the minimal encoding of the value in this grammar.
+/// - After an error, `none`: the bytes as a whole are no such encoding, unless the cause is `Memory`.
+/// - `front`: The new bytes begin with the old ones.
+///
+/// ```text
+/// ensures found { OnOk result
+///     (MinimizesWhole G.grammar features_payload bytes.now sink.old.items sink.new.items)
+///     }
+/// ensures none { IfErr result
+///     (λ e. e.cause ≢ Memory → RejectsWhole features_payload
+///         (padded_of G.grammar) bytes.now) }
+/// ensures front { IsFrontOf sink.old.items sink.new.items }
+/// ```
+///
+/// Definitions: [`MinimizesWhole`](crate::definitions::base::minimal::MinimizesWhole), [`features_payload`](crate::definitions::custom::target_features::features_payload), [`RejectsWhole`](crate::definitions::base::continuing::RejectsWhole), [`padded_of`](crate::definitions::base::numbers::padded_of), [`IsFrontOf`](crate::definitions::base::minimal::IsFrontOf). [How to read clauses](crate::definitions).
+pub fn minimize_features<'a, A: Allocator + Copy, G: Grammar, B: Sink>(
+    bytes: &'a [u8],
+    alloc: A,
+    sink: &mut B,
+) -> Result<(), DecodeError> {
+    walk_features::<A, G, _>(bytes, alloc, sink)
+}
+
+/// Appends the minimal encoding, in the grammar `G`, of the payload of a branch hint section. After
+/// an error, part of it may follow the old bytes of the sink.
+///
+/// # Errors
+///
+/// Any error but `Memory` means that the bytes are not such a payload.
+///
+/// # Examples
+///
+/// ```
+/// use dolzhytik::fallible::{Global, minimize_hints};
+/// use dolzhytik::reader::Standard;
+///
+/// // The index of the function has two bytes. Its one hint is for the branch at offset 5.
+/// let payload = b"\x19metadata.code.branch_hint\x01\x80\x00\x01\x05\x01\x01";
+/// let mut minimal = vec![];
+/// minimize_hints::<_, Standard, _>(payload, Global, &mut minimal)?;
+/// assert_eq!(minimal, *b"\x19metadata.code.branch_hint\x01\x00\x01\x05\x01\x01");
+/// # Ok::<(), dolzhytik::reader::DecodeError>(())
+/// ```
+///
+/// # Proved
+///
+/// - After `Ok`, `found`: The bytes as a whole decode to a value in this grammar, and the call appends the minimal encoding of the value in this grammar.
+/// - After an error, `none`: the bytes as a whole are no such encoding, unless the cause is `Memory`.
+/// - `front`: The new bytes begin with the old ones.
+///
+/// ```text
+/// ensures found { OnOk result
+///     (MinimizesWhole G.grammar hints_payload bytes.now sink.old.items sink.new.items) }
+/// ensures none { IfErr result
+///     (λ e. e.cause ≢ Memory → RejectsWhole hints_payload (padded_of G.grammar) bytes.now)
+///     }
+/// ensures front { IsFrontOf sink.old.items sink.new.items }
+/// ```
+///
+/// Definitions: [`MinimizesWhole`](crate::definitions::base::minimal::MinimizesWhole), [`hints_payload`](crate::definitions::custom::hints::hints_payload), [`RejectsWhole`](crate::definitions::base::continuing::RejectsWhole), [`padded_of`](crate::definitions::base::numbers::padded_of), [`IsFrontOf`](crate::definitions::base::minimal::IsFrontOf). [How to read clauses](crate::definitions).
+pub fn minimize_hints<'a, A: Allocator + Copy, G: Grammar, B: Sink>(
+    bytes: &'a [u8],
+    alloc: A,
+    sink: &mut B,
+) -> Result<(), DecodeError> {
+    walk_hints::<A, G, _>(bytes, alloc, sink)
+}
+
+/// Appends the minimal encoding, in the grammar `G`, of the payload of a relocation section. After
+/// an error, part of it may follow the old bytes of the sink. The offsets of the relocations stay
+/// as they are, even if the section that they refer to is minimized too.
+///
+/// # Errors
+///
+/// Any error but `Memory` means that the bytes are not such a payload.
+///
+/// # Examples
+///
+/// ```
+/// use dolzhytik::fallible::{Global, minimize_relocations};
+/// use dolzhytik::reader::Standard;
+///
+/// // The index of the relocated section, 3, has two bytes.
+/// let payload = b"\x0areloc.CODE\x83\x00\x01\x00\x04\x00";
+/// let mut minimal = vec![];
+/// minimize_relocations::<_, Standard, _>(payload, Global, &mut minimal)?;
+/// assert_eq!(minimal, *b"\x0areloc.CODE\x03\x01\x00\x04\x00");
+/// # Ok::<(), dolzhytik::reader::DecodeError>(())
+/// ```
+///
+/// # Proved
+///
+/// - After `Ok`, `found`: The bytes as a whole decode to a value in this grammar, and the call appends the minimal encoding of the value in this grammar.
+/// - After an error, `none`: the bytes as a whole are no such encoding, unless the cause is `Memory`.
+/// - `front`: The new bytes begin with the old ones.
+///
+/// ```text
+/// ensures found { OnOk result
+///     (MinimizesWhole G.grammar relocations_payload bytes.now sink.old.items
+///         sink.new.items) }
+/// ensures none { IfErr result
+///     (λ e. e.cause ≢ Memory → RejectsWhole relocations_payload
+///         (padded_of G.grammar) bytes.now) }
+/// ensures front { IsFrontOf sink.old.items sink.new.items }
+/// ```
+///
+/// Definitions: [`MinimizesWhole`](crate::definitions::base::minimal::MinimizesWhole), [`relocations_payload`](crate::definitions::custom::relocations::relocations_payload), [`RejectsWhole`](crate::definitions::base::continuing::RejectsWhole), [`padded_of`](crate::definitions::base::numbers::padded_of), [`IsFrontOf`](crate::definitions::base::minimal::IsFrontOf). [How to read clauses](crate::definitions).
+pub fn minimize_relocations<'a, A: Allocator + Copy, G: Grammar, B: Sink>(
+    bytes: &'a [u8],
+    alloc: A,
+    sink: &mut B,
+) -> Result<(), DecodeError> {
+    walk_relocations::<A, G, _>(bytes, alloc, sink)
+}
+
+/// Appends the minimal encoding, in the grammar `G`, of the payload of a core dump's modules
+/// section. After an error, part of it may follow the old bytes of the sink.
+///
+/// # Errors
+///
+/// Any error but `Memory` means that the bytes are not such a payload.
+///
+/// # Examples
+///
+/// ```
+/// use dolzhytik::fallible::{Global, minimize_modules};
+/// use dolzhytik::reader::Standard;
+///
+/// // The number of modules has two bytes.
+/// let payload = b"\x0bcoremodules\x81\x00\x00\x01m";
+/// let mut minimal = vec![];
+/// minimize_modules::<_, Standard, _>(payload, Global, &mut minimal)?;
+/// assert_eq!(minimal, *b"\x0bcoremodules\x01\x00\x01m");
+/// # Ok::<(), dolzhytik::reader::DecodeError>(())
+/// ```
+///
+/// # Proved
+///
+/// - After `Ok`, `found`: The bytes as a whole decode to a value in this grammar, and the call appends the minimal encoding of the value in this grammar.
+/// - After an error, `none`: the bytes as a whole are no such encoding, unless the cause is `Memory`.
+/// - `front`: The new bytes begin with the old ones.
+///
+/// ```text
+/// ensures found { OnOk result
+///     (MinimizesWhole G.grammar modules_payload bytes.now sink.old.items sink.new.items) }
+/// ensures none { IfErr result
+///     (λ e. e.cause ≢ Memory → RejectsWhole modules_payload
+///         (padded_of G.grammar) bytes.now) }
+/// ensures front { IsFrontOf sink.old.items sink.new.items }
+/// ```
+///
+/// Definitions: [`MinimizesWhole`](crate::definitions::base::minimal::MinimizesWhole), [`modules_payload`](crate::definitions::custom::core_dumps::modules_payload), [`RejectsWhole`](crate::definitions::base::continuing::RejectsWhole), [`padded_of`](crate::definitions::base::numbers::padded_of), [`IsFrontOf`](crate::definitions::base::minimal::IsFrontOf). [How to read clauses](crate::definitions).
+pub fn minimize_modules<'a, A: Allocator + Copy, G: Grammar, B: Sink>(
+    bytes: &'a [u8],
+    alloc: A,
+    sink: &mut B,
+) -> Result<(), DecodeError> {
+    walk_modules::<A, G, _>(bytes, alloc, sink)
+}
+
+/// Appends the minimal encoding, in the grammar `G`, of the payload of a core dump's instances
+/// section. After an error, part of it may follow the old bytes of the sink.
+///
+/// # Errors
+///
+/// Any error but `Memory` means that the bytes are not such a payload.
+///
+/// # Examples
+///
+/// ```
+/// use dolzhytik::fallible::{Global, minimize_instances};
+/// use dolzhytik::reader::Standard;
+///
+/// // The index of the module has two bytes. The instance has memory 0, and no globals.
+/// let payload = b"\x0dcoreinstances\x01\x00\x80\x00\x01\x00\x00";
+/// let mut minimal = vec![];
+/// minimize_instances::<_, Standard, _>(payload, Global, &mut minimal)?;
+/// assert_eq!(minimal, *b"\x0dcoreinstances\x01\x00\x00\x01\x00\x00");
+/// # Ok::<(), dolzhytik::reader::DecodeError>(())
+/// ```
+///
+/// # Proved
+///
+/// - After `Ok`, `found`: The bytes as a whole decode to a value in this grammar, and the call appends the minimal encoding of the value in this grammar.
+/// - After an error, `none`: the bytes as a whole are no such encoding, unless the cause is `Memory`.
+/// - `front`: The new bytes begin with the old ones.
+///
+/// ```text
+/// ensures found { OnOk result
+///     (MinimizesWhole G.grammar instances_payload bytes.now sink.old.items sink.new.items)
+///     }
+/// ensures none { IfErr result
+///     (λ e. e.cause ≢ Memory → RejectsWhole instances_payload
+///         (padded_of G.grammar) bytes.now) }
+/// ensures front { IsFrontOf sink.old.items sink.new.items }
+/// ```
+///
+/// Definitions: [`MinimizesWhole`](crate::definitions::base::minimal::MinimizesWhole), [`instances_payload`](crate::definitions::custom::core_dumps::instances_payload), [`RejectsWhole`](crate::definitions::base::continuing::RejectsWhole), [`padded_of`](crate::definitions::base::numbers::padded_of), [`IsFrontOf`](crate::definitions::base::minimal::IsFrontOf). [How to read clauses](crate::definitions).
+pub fn minimize_instances<'a, A: Allocator + Copy, G: Grammar, B: Sink>(
+    bytes: &'a [u8],
+    alloc: A,
+    sink: &mut B,
+) -> Result<(), DecodeError> {
+    walk_instances::<A, G, _>(bytes, alloc, sink)
+}
+
+/// Appends the minimal encoding, in the grammar `G`, of the payload of a core dump's stack section.
+/// After an error, part of it may follow the old bytes of the sink.
+///
+/// # Errors
+///
+/// Any error but `Memory` means that the bytes are not such a payload.
+///
+/// # Examples
+///
+/// ```
+/// use dolzhytik::fallible::{Global, minimize_stack};
+/// use dolzhytik::reader::Standard;
+///
+/// // The offset in the function of the one frame, 5, has two bytes. The frame has one local.
+/// let payload = b"\x09corestack\x00\x01t\x01\x00\x00\x01\x85\x00\x01\x7f\x07\x00";
+/// let mut minimal = vec![];
+/// minimize_stack::<_, Standard, _>(payload, Global, &mut minimal)?;
+/// assert_eq!(minimal, *b"\x09corestack\x00\x01t\x01\x00\x00\x01\x05\x01\x7f\x07\x00");
+/// # Ok::<(), dolzhytik::reader::DecodeError>(())
+/// ```
+///
+/// # Proved
+///
+/// - After `Ok`, `found`: The bytes as a whole decode to a value in this grammar, and the call appends the minimal encoding of the value in this grammar.
+/// - After an error, `none`: the bytes as a whole are no such encoding, unless the cause is `Memory`.
+/// - `front`: The new bytes begin with the old ones.
+///
+/// ```text
+/// ensures found { OnOk result
+///     (MinimizesWhole G.grammar stack_payload bytes.now sink.old.items sink.new.items) }
+/// ensures none { IfErr result
+///     (λ e. e.cause ≢ Memory → RejectsWhole stack_payload (padded_of G.grammar) bytes.now)
+///     }
+/// ensures front { IsFrontOf sink.old.items sink.new.items }
+/// ```
+///
+/// Definitions: [`MinimizesWhole`](crate::definitions::base::minimal::MinimizesWhole), [`stack_payload`](crate::definitions::custom::core_stacks::stack_payload), [`RejectsWhole`](crate::definitions::base::continuing::RejectsWhole), [`padded_of`](crate::definitions::base::numbers::padded_of), [`IsFrontOf`](crate::definitions::base::minimal::IsFrontOf). [How to read clauses](crate::definitions).
+pub fn minimize_stack<'a, A: Allocator + Copy, G: Grammar, B: Sink>(
+    bytes: &'a [u8],
+    alloc: A,
+    sink: &mut B,
+) -> Result<(), DecodeError> {
+    walk_stack::<A, G, _>(bytes, alloc, sink)
 }

@@ -1,11 +1,11 @@
 // Written by tools/to-rust from crates/wasm_custom/src/single.rt: change that.
-// Custom sections of one value: their encoding, their reader and their minimizer.
+// Custom sections of one value: their encoding, their reader and their walk.
 
 use crate::vec::Sink;
 use crate::custom::custom_section::begin_custom;
 use crate::custom::named::after_name;
 use crate::alloc::Allocator;
-use crate::base::{DecodeError, Encode, Grammar, Readable, Refused, Result, Shorten, encode_size_prefixed, encoding_size, read_whole};
+use crate::base::{DecodeError, Effect, Encode, Grammar, Readable, Refused, Result, Shorten, Walk, encode_size_prefixed, encoding_size, read_whole, walk_whole};
 
 /// Appends a custom section of this name without its id, whose data are these bytes with their size
 /// prefix.
@@ -59,6 +59,36 @@ pub(crate) fn read_single<'a, T: Readable<'a, A, G>, A: Allocator + Copy, G: Gra
     let rest = after_name::<A, G>(name, bytes, alloc)?;
     let value = read_whole::<'a, T, A, G>(rest, alloc)?;
     Ok(value)
+}
+
+/// Walks over the payload of a custom section of this name, whose data are one value.
+///
+/// # Proved
+///
+/// After `Ok`: `found`, the bytes as a whole are an encoding, and the effect takes the minimal one. After an error: `none`, the bytes as a whole are no such encoding, unless the cause is `Memory`; `no_memory`, the cause is `Memory` only with an effect whose calls may fail. In any case: `front`, the effect keeps what it took before.
+///
+/// ```text
+/// ensures found { OnOk result
+///     (WalksWhole E.seen G.grammar
+///         (named_payload name.now T.format) bytes.now effect.old effect.new) }
+/// ensures none { IfErr result
+///     (λ e. e.cause ≢ Memory → RejectsWhole (named_payload name.now T.format)
+///         (padded_of G.grammar) bytes.now) }
+/// ensures no_memory { IfErr result (λ e. e.cause ≡ Memory → E.may_fail) }
+/// ensures front { Keeps E.seen effect.old effect.new }
+/// ```
+///
+/// Definitions: [`WalksWhole`](crate::definitions::base::walks::WalksWhole), [`named_payload`](crate::definitions::custom::customs::named_payload), [`RejectsWhole`](crate::definitions::base::continuing::RejectsWhole), [`padded_of`](crate::definitions::base::numbers::padded_of), [`Keeps`](crate::definitions::base::walks::Keeps). [How to read clauses](crate::definitions).
+pub(crate) fn walk_single<'a, T: Walk<G>, A: Allocator + Copy, G: Grammar, E: Effect>(
+    name: &str,
+    bytes: &'a [u8],
+    alloc: A,
+    effect: &mut E,
+) -> Result<(), DecodeError> {
+    let rest = after_name::<A, G>(name, bytes, alloc)?;
+    effect.put(&name)?;
+    walk_whole::<T, A, G, _>(rest, alloc, effect)?;
+    Ok(())
 }
 
 /// Writes the bytes that [`append_single`] appends. After an error, part of them may follow the old

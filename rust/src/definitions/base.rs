@@ -2345,3 +2345,137 @@ pub trait types {
     /// ```
     type IsIndexByte;
 }
+
+/// A walk: a value is decoded, and an effect takes its minimal encoding. An effect appends the bytes that it takes, or drops them. The states of an effect are a type `E`, and `seen e l` says that `l` may be all the bytes that the state `e` has taken.
+///
+/// [How to read definitions](super). The file is [`Walks.antt`](https://github.com/dolzhytik/dolzhytik/blob/main/crates/wasm_base/specs/Walks.antt).
+pub trait walks {
+    /// The state takes these bytes.
+    ///
+    /// ```text
+    /// pub record TakesBytes {E : Type 0} (seen : E → List ℕ → Type 0) (bytes : List ℕ)
+    ///     (old new : E) : Type 0 where
+    ///   pub after : (l : List ℕ) → seen old l → seen new (l ++ bytes)
+    /// ```
+    type TakesBytes;
+    /// The state takes some bytes, so all earlier ones stay.
+    ///
+    /// ```text
+    /// pub record Keeps {E : Type 0} (seen : E → List ℕ → Type 0) (old new : E) : Type 0 where
+    ///   pub after : (l : List ℕ) → seen old l → (more : List ℕ) × seen new (l ++ more)
+    /// ```
+    type Keeps;
+    /// A state that does not change has taken any bytes.
+    ///
+    /// ```text
+    /// pub record IsIdle {E : Type 0} (seen : E → List ℕ → Type 0) : Type 0 where
+    ///   pub stays : (bytes : List ℕ) (e : E) → TakesBytes seen bytes e e
+    /// ```
+    ///
+    /// Definitions: [`TakesBytes`](walks::TakesBytes).
+    type IsIdle;
+    /// In each of these grammars in which some bytes decode to `x`, the state takes the minimal encoding of `x`.
+    ///
+    /// ```text
+    /// pub record TakesMinimal {E X : Type 0} (seen : E → List ℕ → Type 0) (k : Grammars)
+    ///     (F : Format X) (x : X) (old new : E) : Type 0 where
+    ///   pub encoded : (w : Grammar) → Includes k w → (s : List ℕ) → F (padded_of w) s x
+    ///       → (encoding : List ℕ) × F (minimal_of w) encoding x
+    ///       × TakesBytes seen encoding old new
+    /// ```
+    ///
+    /// Definitions: [`Grammars`](minimal::Grammars), [`Format`](formats::Format), [`Grammar`](numbers::Grammar), [`Includes`](minimal::Includes), [`padded_of`](numbers::padded_of), [`minimal_of`](numbers::minimal_of), [`TakesBytes`](walks::TakesBytes).
+    type TakesMinimal;
+    /// The number marks the end of all bytes that the state has taken.
+    ///
+    /// ```text
+    /// pub record Marks {E : Type 0} (seen : E → List ℕ → Type 0) (mark : ℕ → List ℕ → Type 0)
+    ///     (e : E) (n : ℕ) : Type 0 where
+    ///   pub at : (l : List ℕ) → seen e l → mark n l
+    /// ```
+    type Marks;
+    /// The state has taken bytes up to the mark, and more.
+    ///
+    /// ```text
+    /// pub record IsMarked {E : Type 0} (seen : E → List ℕ → Type 0)
+    ///     (mark : ℕ → List ℕ → Type 0) (e : E) (n : ℕ) : Type 0 where
+    ///   pub front : List ℕ
+    ///   pub content : List ℕ
+    ///   pub marked : mark n front
+    ///   pub taken : seen e (front ++ content)
+    /// ```
+    type IsMarked;
+    /// The bytes after the mark become `f` of them.
+    ///
+    /// ```text
+    /// pub record Replaces {E : Type 0} (seen : E → List ℕ → Type 0)
+    ///     (mark : ℕ → List ℕ → Type 0) (f : List ℕ → List ℕ) (n : ℕ) (old new : E)
+    ///     : Type 0 where
+    ///   pub after : (l s : List ℕ) → mark n l → seen old (l ++ s) → seen new (l ++ f s)
+    /// ```
+    type Replaces;
+    /// The bytes up to the mark stay.
+    ///
+    /// ```text
+    /// pub record KeepsMarked {E : Type 0} (seen : E → List ℕ → Type 0)
+    ///     (mark : ℕ → List ℕ → Type 0) (n : ℕ) (old new : E) : Type 0 where
+    ///   pub after : (l s : List ℕ) → mark n l → seen old (l ++ s)
+    ///       → (more : List ℕ) × seen new (l ++ more)
+    /// ```
+    type KeepsMarked;
+    /// A value decodes from the front of the bytes in this grammar, and `rest` follows it. The state takes the minimal encoding of the value in this grammar.
+    ///
+    /// ```text
+    /// pub record Walks {E X : Type 0} (seen : E → List ℕ → Type 0) (w : Grammar)
+    ///     (F : Format X) (bytes rest : List ℕ) (old new : E) : Type 0 where
+    ///   pub value : X
+    ///   pub decoded : Decodes F (padded_of w) bytes value rest
+    ///   pub encoding : List ℕ
+    ///   pub encodes : F (minimal_of w) encoding value
+    ///   pub taken : TakesBytes seen encoding old new
+    /// ```
+    ///
+    /// Definitions: [`Grammar`](numbers::Grammar), [`Format`](formats::Format), [`Decodes`](decoding::Decodes), [`padded_of`](numbers::padded_of), [`minimal_of`](numbers::minimal_of), [`TakesBytes`](walks::TakesBytes).
+    type Walks;
+    /// As [`Walks`](walks::Walks), for a vector of this many members.
+    ///
+    /// ```text
+    /// pub record WalksMany {E X : Type 0} (seen : E → List ℕ → Type 0) (w : Grammar)
+    ///     (F : Format X) (bytes : List ℕ) (count : ℕ) (rest : List ℕ) (old new : E)
+    ///     : Type 0 where
+    ///   pub value : List X
+    ///   pub decoded : Decodes (vec F) (padded_of w) bytes value rest
+    ///   pub counted : count ≡ length value
+    ///   pub encoding : List ℕ
+    ///   pub encodes : vec F (minimal_of w) encoding value
+    ///   pub taken : TakesBytes seen encoding old new
+    /// ```
+    ///
+    /// Definitions: [`Grammar`](numbers::Grammar), [`Format`](formats::Format), [`Decodes`](decoding::Decodes), [`vec`](formats::vec), [`padded_of`](numbers::padded_of), [`minimal_of`](numbers::minimal_of), [`TakesBytes`](walks::TakesBytes).
+    type WalksMany;
+    /// As [`WalksMany`](walks::WalksMany), for a value that occupies all of the bytes.
+    ///
+    /// ```text
+    /// pub record WalksWhole {E X : Type 0} (seen : E → List ℕ → Type 0) (w : Grammar)
+    ///     (F : Format X) (bytes : List ℕ) (old new : E) : Type 0 where
+    ///   pub value : X
+    ///   pub decoded : F (padded_of w) bytes value
+    ///   pub encoding : List ℕ
+    ///   pub encodes : F (minimal_of w) encoding value
+    ///   pub taken : TakesBytes seen encoding old new
+    /// ```
+    ///
+    /// Definitions: [`Grammar`](numbers::Grammar), [`Format`](formats::Format), [`padded_of`](numbers::padded_of), [`minimal_of`](numbers::minimal_of), [`TakesBytes`](walks::TakesBytes).
+    type WalksWhole;
+    /// Whatever bytes a value decodes from in this grammar, its encoding is the minimal one there.
+    ///
+    /// ```text
+    /// pub record EncodesIn {T X : Type 0} (w : Grammar) (F : Format X) (view : T → X)
+    ///     (encoding : T → List ℕ) : Type 0 where
+    ///   pub minimal_in : (s : List ℕ) (x : T) → F (padded_of w) s (view x)
+    ///       → F (minimal_of w) (encoding x) (view x)
+    /// ```
+    ///
+    /// Definitions: [`Grammar`](numbers::Grammar), [`Format`](formats::Format), [`padded_of`](numbers::padded_of), [`minimal_of`](numbers::minimal_of).
+    type EncodesIn;
+}

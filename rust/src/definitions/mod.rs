@@ -13,7 +13,7 @@
 //! | `was_encodable` | After `Ok`, the counts and lengths that were encoded were at most 4294967295. |
 //! | `too_long` | When the call does not return `TooLong`. |
 //! | `spare` | When the call succeeds within the spare capacity. |
-//! | `front` | The bytes that the sink had are the front of those that it has afterwards. |
+//! | `front` | The bytes that the sink or the effect had are the front of those that it has afterwards. |
 //! | `capacity` | The capacity does not shrink. |
 #![allow(non_camel_case_types)]
 

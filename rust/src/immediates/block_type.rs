@@ -3,7 +3,7 @@
 
 use crate::vec::Sink;
 use crate::alloc::Allocator;
-use crate::base::{DecodeError, Encode, Grammar, Layout, Minimize, Readable, Result, ValType, read_index, read_val_after};
+use crate::base::{DecodeError, Effect, Encode, EncodeIn, Grammar, Layout, Readable, Result, ValType, Walk, read_index, read_val_after, walk_in};
 
 /// The type of a block: an immediate of `block`, `loop`, `if` and `try_table`, as of
 /// [`InstructionSink::block`](crate::InstructionSink::block).
@@ -117,35 +117,31 @@ impl<'a, A: Allocator + Copy, G: Grammar> Readable<'a, A, G> for BlockType {
     }
 }
 
-impl BlockType {
-    /// Appends the minimal encoding in the grammar `G`.
-    ///
-    /// # Proved
-    ///
-    /// The call appends the encoding, or returns an error and leaves the bytes as they were. If the value fits, the call never returns `TooLong`, and it succeeds within the spare capacity.
-    ///
-    /// ```text
-    /// ensures { Appends (block_encoding_in G.grammar self) ⊤ sink.old sink.new result }
-    /// ```
-    ///
-    /// Definitions: [`Appends`](crate::definitions::base::calls::Appends), [`block_encoding_in`](crate::definitions::immediates::immediates::block_encoding_in). [How to read clauses](crate::definitions).
-    fn encode_in<G: Grammar, A: Sink>(self, sink: &mut A) -> Result<()> {
+/// # Defined
+///
+/// ```text
+/// encoding_in = { block_encoding_in G.grammar }
+/// ```
+///
+/// Definitions: [`block_encoding_in`](crate::definitions::immediates::immediates::block_encoding_in). [How to read clauses](crate::definitions).
+impl<G: Grammar> EncodeIn<G> for BlockType {
+    fn encode_in<A: Sink>(&self, sink: &mut A) -> Result<()> {
         match self {
-            BlockType::Result(ty) => ty.encode_in::<G, _>(sink),
+            BlockType::Result(ty) => <ValType as EncodeIn<G>>::encode_in(ty, sink),
             _ => self.encode(sink),
         }
     }
+
+    fn minimal_in() {}
 }
 
-impl<G: Grammar> Minimize<G> for BlockType {
+impl<G: Grammar> Walk<G> for BlockType {
     #[inline]
-    fn minimize<'a, A: Allocator + Copy, B: Sink>(
+    fn walk<'a, A: Allocator + Copy, E: Effect>(
         bytes: &'a [u8],
         alloc: A,
-        sink: &mut B,
+        effect: &mut E,
     ) -> Result<&'a [u8], DecodeError> {
-        let (block, rest) = <BlockType as Readable<'a, A, G>>::read(bytes, alloc)?;
-        block.encode_in::<G, _>(sink)?;
-        Ok(rest)
+        walk_in::<BlockType, A, G, _>(bytes, alloc, effect)
     }
 }

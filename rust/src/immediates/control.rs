@@ -3,7 +3,7 @@
 
 use crate::vec::Sink;
 use crate::alloc::Allocator;
-use crate::base::{Canonical, DecodeError, Encode, Grammar, Layout, Minimize, ReadFault, Readable, Result, minimize_value};
+use crate::base::{Canonical, DecodeError, Effect, Encode, Grammar, Layout, ReadFault, Readable, Result, Walk, walk_value};
 
 /// A catch clause, which [`InstructionSink::try_table`](crate::InstructionSink::try_table)
 /// takes.
@@ -207,13 +207,13 @@ impl Canonical for Catch {
     fn canonical() {}
 }
 
-impl<G: Grammar> Minimize<G> for Catch {
-    fn minimize<'a, A: Allocator + Copy, B: Sink>(
+impl<G: Grammar> Walk<G> for Catch {
+    fn walk<'a, A: Allocator + Copy, E: Effect>(
         bytes: &'a [u8],
         alloc: A,
-        sink: &mut B,
+        effect: &mut E,
     ) -> Result<&'a [u8], DecodeError> {
-        minimize_value::<Catch, A, G, _>(bytes, alloc, sink)
+        walk_value::<Catch, A, G, _>(bytes, alloc, effect)
     }
 }
 
@@ -221,12 +221,12 @@ impl Canonical for Handle {
     fn canonical() {}
 }
 
-impl<G: Grammar> Minimize<G> for Handle {
-    fn minimize<'a, A: Allocator + Copy, B: Sink>(
+impl<G: Grammar> Walk<G> for Handle {
+    fn walk<'a, A: Allocator + Copy, E: Effect>(
         bytes: &'a [u8],
         alloc: A,
-        sink: &mut B,
+        effect: &mut E,
     ) -> Result<&'a [u8], DecodeError> {
-        minimize_value::<Handle, A, G, _>(bytes, alloc, sink)
+        walk_value::<Handle, A, G, _>(bytes, alloc, effect)
     }
 }

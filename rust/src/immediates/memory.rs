@@ -4,7 +4,7 @@
 use crate::vec::Sink;
 use crate::alloc::Allocator;
 use core::default::Default;
-use crate::base::{Canonical, DecodeError, Encode, Grammar, Layout, Minimize, ReadFault, Readable, Result, minimize_value, read_optional};
+use crate::base::{Canonical, DecodeError, Effect, Encode, Grammar, Layout, ReadFault, Readable, Result, Walk, walk_value, read_optional};
 
 /// The index of a lane of a vector, which calls such as
 /// [`InstructionSink::i8x16_replace_lane`](crate::InstructionSink::i8x16_replace_lane) take. It
@@ -510,13 +510,13 @@ impl Canonical for MemArg {
     fn canonical() {}
 }
 
-impl<G: Grammar> Minimize<G> for MemArg {
+impl<G: Grammar> Walk<G> for MemArg {
     #[inline]
-    fn minimize<'a, A: Allocator + Copy, B: Sink>(
+    fn walk<'a, A: Allocator + Copy, E: Effect>(
         bytes: &'a [u8],
         alloc: A,
-        sink: &mut B,
+        effect: &mut E,
     ) -> Result<&'a [u8], DecodeError> {
-        minimize_value::<MemArg, A, G, _>(bytes, alloc, sink)
+        walk_value::<MemArg, A, G, _>(bytes, alloc, effect)
     }
 }

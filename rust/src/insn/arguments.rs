@@ -1,11 +1,11 @@
 // Written by tools/to-rust from crates/wasm_insn/src/arguments.rt: change that.
-// The arguments (immediates) of decoded instructions: decoded, skipped, and encoded again.
+// The arguments (immediates) of decoded instructions: decoded, and encoded again.
 
 use crate::vec::{Sink, Vec};
 use crate::insn::op::Shape;
 use crate::insn::part::Part;
 use crate::alloc::{Allocator, Global};
-use crate::base::{DecodeError, Dropped, Encode, Grammar, HeapType, ReadFault, Readable, Result, Skip, ValType, skip_many};
+use crate::base::{DecodeError, Encode, Grammar, HeapType, ReadFault, Readable, Result, ValType};
 use crate::immediates::{BlockType, Catch, Handle, Ieee32, Ieee64, MemArg, Ordering};
 
 /// An argument of an instruction, decoded from one immediate of its shape.
@@ -649,42 +649,35 @@ pub(crate) fn list_one<A: Allocator + Copy>(
     Ok(args)
 }
 
-/// Appends the minimal encoding of the argument.
-///
-/// # Proved
-///
-/// After an error: `err`, the bytes of the sink are unchanged.
+/// # Defined
 ///
 /// ```text
-/// ensures ok { OnOk result
-///     (sink.new.items ≡ sink.old.items ++ argument_encoding (argument_view arg.now)) }
-/// ensures err { OnErr result (sink.new.items ≡ sink.old.items) }
-/// ensures too_long { IsWellFormedArgument (argument_view arg.now) → result ≢ Err TooLong }
+/// encoding = { λ a. argument_encoding (argument_view a) }
+/// encodable = { λ a. argument_encodable (argument_view a) }
 /// ```
 ///
-/// Definitions: [`argument_encoding`](crate::definitions::insn::arguments::argument_encoding), [`argument_view`](crate::definitions::insn::views::argument_view), [`IsWellFormedArgument`](crate::definitions::insn::plain::IsWellFormedArgument). [How to read clauses](crate::definitions).
-pub(crate) fn append_argument<A: Allocator, B: Sink>(
-    arg: &Arg<A>,
-    sink: &mut B,
-) -> Result<()> {
-    match arg {
-        Arg::U32(n) => n.encode(sink),
-        Arg::S32(n) => n.encode(sink),
-        Arg::S64(n) => n.encode(sink),
-        Arg::F32(float) => float.encode(sink),
-        Arg::F64(float) => float.encode(sink),
-        Arg::V128(vector) => vector.to_le_bytes().encode(sink),
-        Arg::Mem(memory) => memory.encode(sink),
-        Arg::Lane(lane) => lane.encode(sink),
-        Arg::Lanes(lanes) => lanes.encode(sink),
-        Arg::Block(block) => block.encode(sink),
-        Arg::Heap(heap) => heap.encode(sink),
-        Arg::Order(ordering) => ordering.encode(sink),
-        Arg::Labels(labels) => labels.as_slice().encode(sink),
-        Arg::Catches(catches) => catches.as_slice().encode(sink),
-        Arg::Types(types) => types.as_slice().encode(sink),
-        Arg::Handles(handles) => handles.as_slice().encode(sink),
-        Arg::Flag(flag) => flag.encode(sink),
+/// Definitions: [`argument_encoding`](crate::definitions::insn::arguments::argument_encoding), [`argument_view`](crate::definitions::insn::views::argument_view), [`argument_encodable`](crate::definitions::insn::arguments::argument_encodable). [How to read clauses](crate::definitions).
+impl<A: Allocator> Encode for Arg<A> {
+    fn encode<B: Sink>(&self, sink: &mut B) -> Result<()> {
+        match self {
+            Arg::U32(n) => n.encode(sink),
+            Arg::S32(n) => n.encode(sink),
+            Arg::S64(n) => n.encode(sink),
+            Arg::F32(float) => float.encode(sink),
+            Arg::F64(float) => float.encode(sink),
+            Arg::V128(vector) => vector.to_le_bytes().encode(sink),
+            Arg::Mem(memory) => memory.encode(sink),
+            Arg::Lane(lane) => lane.encode(sink),
+            Arg::Lanes(lanes) => lanes.encode(sink),
+            Arg::Block(block) => block.encode(sink),
+            Arg::Heap(heap) => heap.encode(sink),
+            Arg::Order(ordering) => ordering.encode(sink),
+            Arg::Labels(labels) => labels.as_slice().encode(sink),
+            Arg::Catches(catches) => catches.as_slice().encode(sink),
+            Arg::Types(types) => types.as_slice().encode(sink),
+            Arg::Handles(handles) => handles.as_slice().encode(sink),
+            Arg::Flag(flag) => flag.encode(sink),
+        }
     }
 }
 
@@ -708,108 +701,7 @@ pub(crate) fn append_arguments<A: Allocator, B: Sink>(
     sink: &mut B,
 ) -> Result<()> {
     for arg in args {
-        append_argument(arg, sink)?;
+        arg.encode(sink)?;
     }
     Ok(())
-}
-
-/// Skips one argument, and returns the remaining bytes. Lists are skipped member by member.
-///
-/// # Proved
-///
-/// After `Ok`: `found`, the bytes begin with such an encoding, and the returned bytes follow it. After an error: `none`, the bytes do not begin with such an encoding, unless the cause is `Memory`.
-///
-/// ```text
-/// ensures found { IfOk result
-///     (λ rest. (x : Argument) × Decodes (part wanted)
-///         (padded_of G.grammar) bytes.now x rest.now) }
-/// ensures none { IfErr result
-///     (λ e. e.cause ≢ Memory → Rejects (part wanted) (padded_of G.grammar) bytes.now) }
-/// ensures no_memory { IfErr result (λ e. e.cause ≢ Memory) }
-/// ```
-///
-/// Definitions: [`Argument`](crate::definitions::insn::arguments::Argument), [`Decodes`](crate::definitions::base::decoding::Decodes), [`part`](crate::definitions::insn::plain::part), [`padded_of`](crate::definitions::base::numbers::padded_of), [`Rejects`](crate::definitions::base::decoding::Rejects). [How to read clauses](crate::definitions).
-fn skip_part<'a, A: Allocator + Copy, G: Grammar>(
-    wanted: Part,
-    bytes: &'a [u8],
-    alloc: A,
-) -> Result<&'a [u8], DecodeError> {
-    match wanted {
-        Part::Labels => {
-            let (_count, rest) = skip_many::<'a, Dropped<u32>, A, G>(bytes, alloc)?;
-            Ok(rest)
-        }
-        Part::Catches => {
-            let (_count, rest) = skip_many::<'a, Dropped<Catch>, A, G>(bytes, alloc)?;
-            Ok(rest)
-        }
-        Part::Types => {
-            let (_count, rest) = skip_many::<'a, Dropped<ValType>, A, G>(bytes, alloc)?;
-            Ok(rest)
-        }
-        Part::Handles => {
-            let (_count, rest) = skip_many::<'a, Dropped<Handle>, A, G>(bytes, alloc)?;
-            Ok(rest)
-        }
-        _ => {
-            let (_arg, rest) = read_part::<A, G>(wanted, bytes, alloc)?;
-            Ok(rest)
-        }
-    }
-}
-
-/// Skips one argument for each of `wanted`, and returns the remaining bytes.
-///
-/// # Proved
-///
-/// After `Ok`: `found`, the bytes begin with such an encoding, and the returned bytes follow it. After an error: `none`, the bytes do not begin with such an encoding, unless the cause is `Memory`.
-///
-/// ```text
-/// ensures found { IfOk result
-///     (λ rest. (xs : List Argument)
-///         × Decodes (arguments wanted.now) (padded_of G.grammar) bytes.now xs rest.now) }
-/// ensures none { IfErr result
-///     (λ e. e.cause ≢ Memory → Rejects (arguments wanted.now)
-///         (padded_of G.grammar) bytes.now) }
-/// ensures no_memory { IfErr result (λ e. e.cause ≢ Memory) }
-/// ```
-///
-/// Definitions: [`Argument`](crate::definitions::insn::arguments::Argument), [`Decodes`](crate::definitions::base::decoding::Decodes), [`arguments`](crate::definitions::insn::plain::arguments), [`padded_of`](crate::definitions::base::numbers::padded_of), [`Rejects`](crate::definitions::base::decoding::Rejects). [How to read clauses](crate::definitions).
-fn skip_parts<'a, A: Allocator + Copy, G: Grammar>(
-    wanted: &[Part],
-    bytes: &'a [u8],
-    alloc: A,
-) -> Result<&'a [u8], DecodeError> {
-    let mut rest = bytes;
-    for part in wanted {
-        rest = skip_part::<A, G>(*part, rest, alloc)?;
-    }
-    Ok(rest)
-}
-
-/// Skips the arguments of any shape, and returns the remaining bytes. Out of line, for rare shapes.
-///
-/// # Proved
-///
-/// After `Ok`: `found`, the bytes begin with such an encoding, and the returned bytes follow it. After an error: `none`, the bytes do not begin with such an encoding, unless the cause is `Memory`.
-///
-/// ```text
-/// ensures found { IfOk result
-///     (λ rest. (xs : List Argument)
-///         × Decodes (arguments (parts_of shape))
-///         (padded_of G.grammar) bytes.now xs rest.now) }
-/// ensures none { IfErr result
-///     (λ e. e.cause ≢ Memory → Rejects (arguments (parts_of shape))
-///         (padded_of G.grammar) bytes.now) }
-/// ensures no_memory { IfErr result (λ e. e.cause ≢ Memory) }
-/// ```
-///
-/// Definitions: [`Argument`](crate::definitions::insn::arguments::Argument), [`Decodes`](crate::definitions::base::decoding::Decodes), [`arguments`](crate::definitions::insn::plain::arguments), [`parts_of`](crate::definitions::insn::parts::parts_of), [`padded_of`](crate::definitions::base::numbers::padded_of), [`Rejects`](crate::definitions::base::decoding::Rejects). [How to read clauses](crate::definitions).
-#[inline(never)]
-pub(crate) fn skip_any<'a, A: Allocator + Copy, G: Grammar>(
-    shape: Shape,
-    bytes: &'a [u8],
-    alloc: A,
-) -> Result<&'a [u8], DecodeError> {
-    skip_parts::<A, G>(shape.parts(), bytes, alloc)
 }

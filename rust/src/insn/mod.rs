@@ -16,7 +16,6 @@ mod arguments;
 mod atomic;
 mod instruction;
 pub mod laws;
-mod minimize;
 mod numeric;
 mod op;
 mod operands;
@@ -28,6 +27,7 @@ mod sink;
 mod table;
 mod vector;
 mod vector_immediate;
+mod walk;
 
 pub use aggregate::Aggregate;
 pub(crate) use arguments::Arg;

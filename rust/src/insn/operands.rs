@@ -3,11 +3,12 @@
 // all others out of line.
 
 use crate::vec::Vec;
-use crate::insn::arguments::{Arg, list_one, read_any, skip_any};
+use crate::insn::arguments::{Arg, list_one, read_any};
 use crate::insn::op::{Op, Shape, read_op};
 use crate::insn::table::byte_shape;
+use crate::insn::walk::walk_any;
 use crate::alloc::Allocator;
-use crate::base::{DecodeError, Grammar, ReadFault, Readable, Result, Standard};
+use crate::base::{DecodeError, Discard, Grammar, ReadFault, Readable, Result, Standard};
 use crate::immediates::{BlockType, MemArg, MemArgTarget};
 
 /// The operands (immediates) of a decoded instruction. They borrow the bytes that were decoded, and
@@ -302,7 +303,7 @@ fn read_encoded<'a, A: Allocator + Copy, G: Grammar>(
     bytes: &'a [u8],
     alloc: A,
 ) -> Result<(Operands<'a>, &'a [u8]), DecodeError> {
-    let rest = skip_any::<A, G>(shape, bytes, alloc)?;
+    let rest = walk_any::<A, G, _>(shape, bytes, alloc, &mut Discard)?;
     let (encoded, rest) = bytes.split_at(bytes.len() - rest.len());
     Ok((Operands::Encoded(shape, encoded), rest))
 }

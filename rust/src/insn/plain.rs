@@ -1,12 +1,12 @@
 // Written by tools/to-rust from crates/wasm_insn/src/plain.rt: change that.
-// An instruction in normal form, an opcode and its arguments: decoded, skipped and minimized.
+// An instruction in normal form, an opcode and its arguments: decoded and encoded.
 
 use crate::vec::{Sink, Vec};
 use crate::insn::arguments::{Arg, append_arguments};
 use crate::insn::op::Op;
-use crate::insn::operands::{read_instruction, read_long, read_short};
+use crate::insn::operands::{read_long, read_short};
 use crate::alloc::{Allocator, Global};
-use crate::base::{DecodeError, Encode, Grammar, Layout, Readable, Result, Shorten, Skip};
+use crate::base::{DecodeError, Encode, Grammar, Layout, Readable, Result, Shorten};
 
 /// An instruction in normal form: its opcode, and an argument for each immediate of the opcode's
 /// shape.
@@ -125,14 +125,5 @@ fn append_instruction<A: Allocator, B: Sink>(
 impl<A: Allocator> Shorten for Plain<A> {
     fn write_minimal<B: Sink>(&self, sink: &mut B) -> Result<()> {
         append_instruction(self.op, &self.args, sink)
-    }
-}
-
-/// Skips the instruction at the front, and allocates nothing.
-impl<'a, A: Allocator + Copy, G: Grammar> Skip<'a, A, G> for Plain<A> {
-    #[inline(always)]
-    fn skip(bytes: &'a [u8], alloc: A) -> Result<&'a [u8], DecodeError> {
-        let (_op, _operands, rest) = read_instruction::<A, G>(bytes, alloc)?;
-        Ok(rest)
     }
 }

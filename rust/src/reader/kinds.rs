@@ -2,9 +2,8 @@
 // Kinds of sections: the reader and the minimizer of each.
 
 use crate::vec::{Sink, Vec};
-use crate::reader::counts::count_skipped;
 use crate::alloc::{Allocator, Global};
-use crate::base::{DecodeError, Dropped, Encode, Grammar, Readable, Result, Shorten, read_whole};
+use crate::base::{DecodeError, Encode, Grammar, Readable, Result, Shorten, read_whole};
 use crate::code::Body;
 use crate::custom::{BranchHint, CoreFrame, DylinkItem, FeaturePrefix, LinkItem, NameItem, Relocation, append_build_id, append_debug_file, append_dylink, append_features, append_hints, append_instances, append_links, append_modules, append_names, append_process, append_producers, append_relocations, append_source_map, append_stack, read_build_id, read_debug_file, read_dylink, read_features, read_hints, read_instances, read_links, read_modules, read_names, read_process, read_producers, read_relocations, read_source_map, read_stack};
 use crate::sections::{ElementItem, Export, GlobalItem, Imports, MemoryType, Segment, TableItem, TagType, append_imports, read_imports, read_segments};
@@ -402,51 +401,6 @@ pub(crate) fn read_content<'a, A: Allocator + Copy + 'a, G: Grammar>(
                 section,
                 relocations,
             })
-        }
-    }
-}
-
-/// Returns the number of items in the payload of a section of this kind. Only a custom section is
-/// decoded to a list of items.
-///
-/// # Proved
-///
-/// After `Ok`: `found`, the payload encodes items, and the result is their number if they are counted. After an error: `none`, the bytes as a whole are no such encoding, unless the cause is `Memory`.
-///
-/// ```text
-/// ensures found { IfOk result
-///     (λ number. (x : Contents) × content kind (padded_of G.grammar) bytes.now x
-///         × (number ≡ number_in x)) }
-/// ensures none { IfErr result
-///     (λ e. e.cause ≢ Memory → RejectsWhole (content kind)
-///         (padded_of G.grammar) bytes.now) }
-/// ```
-///
-/// Definitions: [`Contents`](crate::definitions::reader::kinds::Contents), [`content`](crate::definitions::reader::kinds::content), [`padded_of`](crate::definitions::base::numbers::padded_of), [`number_in`](crate::definitions::reader::kinds::number_in), [`RejectsWhole`](crate::definitions::base::continuing::RejectsWhole). [How to read clauses](crate::definitions).
-pub(crate) fn read_number<'a, A: Allocator + Copy, G: Grammar>(
-    kind: SectionKind,
-    bytes: &'a [u8],
-    alloc: A,
-) -> Result<Option<u32>, DecodeError> {
-    match kind {
-        SectionKind::Bodies => count_skipped::<'a, Body<A>, A, G>(bytes, alloc),
-        SectionKind::Segments => count_skipped::<'a, Segment<'a, A>, A, G>(bytes, alloc),
-        SectionKind::Elements => count_skipped::<'a, ElementItem<A>, A, G>(bytes, alloc),
-        SectionKind::Exports => count_skipped::<'a, Dropped<Export<'a>>, A, G>(bytes, alloc),
-        SectionKind::Functions => count_skipped::<'a, Dropped<u32>, A, G>(bytes, alloc),
-        SectionKind::Globals => count_skipped::<'a, GlobalItem<A>, A, G>(bytes, alloc),
-        SectionKind::Imports => count_skipped::<'a, Imports<'a, A>, A, G>(bytes, alloc),
-        SectionKind::Memories => count_skipped::<'a, Dropped<MemoryType>, A, G>(bytes, alloc),
-        SectionKind::Tables => count_skipped::<'a, TableItem<A>, A, G>(bytes, alloc),
-        SectionKind::Tags => count_skipped::<'a, Dropped<TagType>, A, G>(bytes, alloc),
-        SectionKind::Types => count_skipped::<'a, TypeEntry<A>, A, G>(bytes, alloc),
-        SectionKind::DataCount | SectionKind::Start => {
-            drop(read_content::<A, G>(kind, bytes, alloc)?);
-            Ok(Some(1))
-        }
-        _ => {
-            drop(read_content::<A, G>(kind, bytes, alloc)?);
-            Ok(None)
         }
     }
 }

@@ -2,16 +2,12 @@
 // Minimizes sections.
 
 use crate::vec::{Sink, Vec};
-use crate::reader::kinds::{SectionKind, encode_items, read_content};
+use crate::reader::kinds::SectionKind;
+use crate::reader::walk::walk_content;
 use crate::alloc::Allocator;
-use crate::base::{DecodeError, Grammar, Minimize, Padded, ReadFault, Readable, minimize_whole, prefix_size_since};
-use crate::code::Body;
-use crate::custom::{minimize_dylink, minimize_features, minimize_hints, minimize_instances, minimize_links, minimize_modules, minimize_names, minimize_producers, minimize_relocations, minimize_stack};
-use crate::sections::{ElementItem, Export, GlobalItem, Imports, MemoryType, Segment, TableItem, TagType};
-use crate::types::TypeEntry;
+use crate::base::{DecodeError, Grammar, Padded, ReadFault, Readable, prefix_size_since};
 
-/// Minimizes the payload of a section of this kind. No list of items is kept. A payload that is one
-/// name or one sequence of bytes is decoded, and then encoded.
+/// Minimizes the payload of a section of this kind. No list of items is kept.
 ///
 /// # Proved
 ///
@@ -35,44 +31,7 @@ pub(crate) fn minimize_content<A: Allocator + Copy, G: Grammar, B: Sink>(
     alloc: A,
     sink: &mut B,
 ) -> Result<(), DecodeError> {
-    match kind {
-        SectionKind::Bodies => minimize_whole::<Vec<Body<A>, A>, A, G, _>(bytes, alloc, sink),
-        SectionKind::Segments => minimize_whole::<Vec<Segment<'_, A>, A>, A, G, _>(
-            bytes, alloc, sink,
-        ),
-        SectionKind::DataCount => minimize_whole::<u32, A, G, _>(bytes, alloc, sink),
-        SectionKind::Elements => minimize_whole::<Vec<ElementItem<A>, A>, A, G, _>(
-            bytes, alloc, sink,
-        ),
-        SectionKind::Exports => minimize_whole::<Vec<Export<'_>, A>, A, G, _>(bytes, alloc, sink),
-        SectionKind::Functions => minimize_whole::<Vec<u32, A>, A, G, _>(bytes, alloc, sink),
-        SectionKind::Globals => minimize_whole::<Vec<GlobalItem<A>, A>, A, G, _>(
-            bytes, alloc, sink,
-        ),
-        SectionKind::Imports => minimize_whole::<Vec<Imports<'_, A>, A>, A, G, _>(
-            bytes, alloc, sink,
-        ),
-        SectionKind::Memories => minimize_whole::<Vec<MemoryType, A>, A, G, _>(bytes, alloc, sink),
-        SectionKind::Start => minimize_whole::<u32, A, G, _>(bytes, alloc, sink),
-        SectionKind::Tables => minimize_whole::<Vec<TableItem<A>, A>, A, G, _>(bytes, alloc, sink),
-        SectionKind::Tags => minimize_whole::<Vec<TagType, A>, A, G, _>(bytes, alloc, sink),
-        SectionKind::Types => minimize_whole::<Vec<TypeEntry<A>, A>, A, G, _>(bytes, alloc, sink),
-        SectionKind::Names => minimize_names::<A, G, _>(bytes, alloc, sink),
-        SectionKind::Linking => minimize_links::<A, G, _>(bytes, alloc, sink),
-        SectionKind::Producers => minimize_producers::<A, G, _>(bytes, alloc, sink),
-        SectionKind::Hints => minimize_hints::<A, G, _>(bytes, alloc, sink),
-        SectionKind::CoreModules => minimize_modules::<A, G, _>(bytes, alloc, sink),
-        SectionKind::CoreInstances => minimize_instances::<A, G, _>(bytes, alloc, sink),
-        SectionKind::CoreStack => minimize_stack::<A, G, _>(bytes, alloc, sink),
-        SectionKind::TargetFeatures => minimize_features::<A, G, _>(bytes, alloc, sink),
-        SectionKind::Dylink => minimize_dylink::<A, G, _>(bytes, alloc, sink),
-        SectionKind::Relocations => minimize_relocations::<A, G, _>(bytes, alloc, sink),
-        _ => {
-            let items = read_content::<A, G>(kind, bytes, alloc)?;
-            encode_items(&items, sink)?;
-            Ok(())
-        }
-    }
+    walk_content::<A, G, _>(kind, bytes, alloc, sink)
 }
 
 /// Minimizes the section at the front, without its id, and returns the remaining bytes.

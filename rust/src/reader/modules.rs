@@ -2,8 +2,9 @@
 // Lists the sections of a module.
 
 use crate::vec::Vec;
-use crate::reader::kinds::{kind_of_id, read_number};
+use crate::reader::kinds::kind_of_id;
 use crate::reader::sections::{Section, Sections};
+use crate::reader::walk::count_content;
 use crate::alloc::Allocator;
 use crate::base::{Padded, ReadFault};
 
@@ -87,7 +88,7 @@ pub(crate) fn read_header(bytes: &[u8]) -> Result<&[u8], ReadFault> {
 /// Definitions: [`Contents`](crate::definitions::reader::kinds::Contents), [`content`](crate::definitions::reader::kinds::content), [`kind_of_id`](crate::definitions::reader::kinds::kind_of_id), [`padded`](crate::definitions::base::numbers::Mode), [`line_of`](crate::definitions::reader::modules::line_of), [`RejectsWhole`](crate::definitions::base::continuing::RejectsWhole). [How to read clauses](crate::definitions).
 fn line_of<A: Allocator + Copy>(section: &Section<'_, A>) -> Result<Listed, ReadFault> {
     let id = section.id();
-    let items = read_number::<A, Padded>(kind_of_id(id), section.payload(), section.allocator())?;
+    let items = count_content::<A, Padded>(kind_of_id(id), section.payload(), section.allocator())?;
     let size = section.payload().len() as u32;
     Ok(Listed { id, size, items })
 }

@@ -2,8 +2,8 @@
 // Outlines a module: lists its sections, whether their payloads decode or not.
 
 use crate::vec::Vec;
-use crate::reader::kinds::read_number;
 use crate::reader::sections::{Section, Sections};
+use crate::reader::walk::count_content;
 use crate::alloc::Allocator;
 use crate::base::{ReadFault, Standard};
 
@@ -62,7 +62,7 @@ fn count<A: Allocator + Copy>(section: &Section<'_, A>) -> Result<Option<u32>, R
         return Ok(None);
     }
     let kind = section.standing().kind();
-    match read_number::<A, Standard>(kind, section.payload(), section.allocator()) {
+    match count_content::<A, Standard>(kind, section.payload(), section.allocator()) {
         Ok(count) => Ok(count),
         Err(error) if error.cause() == ReadFault::Memory => Err(ReadFault::Memory),
         Err(_) => Ok(None),

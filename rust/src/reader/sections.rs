@@ -2,12 +2,12 @@
 // Iterates over the sections of a module.
 
 use crate::vec::Sink;
-use crate::reader::counts::count_items;
 use crate::reader::kinds::{Items, SectionKind, read_content};
 use crate::reader::minimal::minimize_content;
 use crate::reader::modules::{HEADER, read_header};
 use crate::reader::read_error::ReadError;
 use crate::reader::standing::{Standing, read_standing};
+use crate::reader::walk::count_content;
 use crate::alloc::{Allocator, Global};
 use core::iter::FusedIterator;
 use core::ops::Range;
@@ -379,12 +379,12 @@ impl<'a, A: Allocator + Copy> Section<'a, A> {
 
     /// Returns the number of items, or `None` if they are not counted: those of custom sections,
     /// and of sections of ids above 13. The items of a type section are its entries, and a
-    /// recursion group is one entry. The call decodes the payload, and keeps no list of items: as
-    /// tests show, it requests no memory.
+    /// recursion group is one entry. The call decodes the payload, keeps no list of items, and requests
+    /// no memory.
     ///
     /// # Errors
     ///
-    /// An error but `Memory` means that the payload does not decode as the section's kind.
+    /// An error means that the payload does not decode as the section's kind. It is never `Memory`.
     ///
     /// # Examples
     ///
@@ -413,13 +413,14 @@ impl<'a, A: Allocator + Copy> Section<'a, A> {
     ///     (λ e. e.cause ≢ Memory → RejectsWhole
     ///         (content (section_kind_of self.now.section)) standard self.now.section.payload)
     ///     }
+    /// ensures no_memory { IfErr result (λ e. e.cause ≢ Memory) }
     /// ensures within { IfErr result (λ e. IsInPayload self.now e.offset) }
     /// ```
     ///
     /// Definitions: [`Contents`](crate::definitions::reader::kinds::Contents), [`content`](crate::definitions::reader::kinds::content), [`section_kind_of`](crate::definitions::reader::outlines::section_kind_of), [`standard`](crate::definitions::base::numbers::Mode), [`number_in`](crate::definitions::reader::kinds::number_in), [`RejectsWhole`](crate::definitions::base::continuing::RejectsWhole), [`IsInPayload`](crate::definitions::reader::iterating::IsInPayload). [How to read clauses](crate::definitions).
     pub fn count(&self) -> Result<Option<u32>, ReadError> {
         let payload = self.standing.payload;
-        match count_items::<A>(&self.standing, self.alloc) {
+        match count_content::<A, Standard>(self.standing.kind(), payload, self.alloc) {
             Ok(number) => Ok(number),
             Err(error) => Err(ReadError::located(error, payload.len(), self.range().end)),
         }

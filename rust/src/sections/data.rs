@@ -4,7 +4,7 @@
 use crate::vec::{Sink, Vec};
 use crate::sections::counted_section::{CountedSection, ItemKind};
 use crate::alloc::{Allocator, Global};
-use crate::base::{DecodeError, Dropped, Encode, Grammar, Kind, Layout, Lent, ReadFault, Readable, Result, SectionId, Shorten, Skip, bytes_of, encode_size_prefixed, read_whole};
+use crate::base::{DecodeError, Encode, Grammar, Kind, Layout, Lent, ReadFault, Readable, Result, SectionId, Shorten, bytes_of, encode_size_prefixed, read_whole};
 use crate::code::{ConstExpr, Expression};
 
 /// The data section: segments of bytes that a module copies to memories.
@@ -691,35 +691,6 @@ impl<'a, A: Allocator> Shorten for Segment<'a, A> {
                 1u32.encode(sink)?;
                 encode_size_prefixed(sink, bytes)
             }
-        }
-    }
-}
-
-impl<'a, A: Allocator + Copy, G: Grammar> Skip<'a, A, G> for Segment<'a, A> {
-    fn skip(bytes: &'a [u8], alloc: A) -> Result<&'a [u8], DecodeError> {
-        let (flag, rest) = <u32 as Readable<'a, A, G>>::read(bytes, alloc)?;
-        match flag {
-            0 => {
-                let rest = <(Expression<A>, Dropped<Bytes<'a>>) as Skip<'a, A, G>>::skip(
-                    rest, alloc,
-                )?;
-                Ok(rest)
-            }
-            1 => {
-                let (_bytes, rest) = <Bytes<'a> as Readable<'a, A, G>>::read(rest, alloc)?;
-                Ok(rest)
-            }
-            2 => {
-                let (memory, rest) = <u32 as Readable<'a, A, G>>::read(rest, alloc)?;
-                if !has_index::<G>(memory) {
-                    return Err(ReadFault::UnknownTag.just_before(rest));
-                }
-                let rest = <(Expression<A>, Dropped<Bytes<'a>>) as Skip<'a, A, G>>::skip(
-                    rest, alloc,
-                )?;
-                Ok(rest)
-            }
-            _ => Err(ReadFault::UnknownTag.just_before(rest)),
         }
     }
 }

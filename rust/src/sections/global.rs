@@ -5,7 +5,7 @@ use crate::vec::Sink;
 use crate::sections::counted_section::{CountedSection, ItemKind};
 use crate::sections::flags::where_set;
 use crate::alloc::{Allocator, Global};
-use crate::base::{DecodeError, Dropped, Encode, Grammar, Kind, Layout, Lent, ReadFault, Readable, Result, SectionId, Shorten, Skip, ValType};
+use crate::base::{DecodeError, Encode, Grammar, Kind, Layout, Lent, ReadFault, Readable, Result, SectionId, Shorten, ValType};
 use crate::code::{ConstExpr, Expression};
 
 /// The global section: the globals that a module defines.
@@ -314,12 +314,5 @@ impl<A: Allocator> Shorten for GlobalItem<A> {
     fn write_minimal<B: Sink>(&self, sink: &mut B) -> Result<()> {
         self.global_type.encode(sink)?;
         self.init.write_minimal(sink)
-    }
-}
-
-impl<'a, A: Allocator + Copy, G: Grammar> Skip<'a, A, G> for GlobalItem<A> {
-    fn skip(bytes: &'a [u8], alloc: A) -> Result<&'a [u8], DecodeError> {
-        let rest = <(Dropped<GlobalType>, Expression<A>) as Skip<'a, A, G>>::skip(bytes, alloc)?;
-        Ok(rest)
     }
 }

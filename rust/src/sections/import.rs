@@ -8,7 +8,7 @@ use crate::sections::memory::MemoryType;
 use crate::sections::table::TableType;
 use crate::sections::tag::TagType;
 use crate::alloc::{Allocator, Global};
-use crate::base::{CORE_FUNCTION_EXACT_SORT, CORE_FUNCTION_SORT, CORE_GLOBAL_SORT, CORE_MEMORY_SORT, CORE_TABLE_SORT, CORE_TAG_SORT, CowSlice, DecodeError, Dropped, Encode, Grammar, Kind, Layout, ReadFault, Readable, Result, SectionId, Skip, read_whole, skip_many};
+use crate::base::{CORE_FUNCTION_EXACT_SORT, CORE_FUNCTION_SORT, CORE_GLOBAL_SORT, CORE_MEMORY_SORT, CORE_TABLE_SORT, CORE_TAG_SORT, CowSlice, DecodeError, Encode, Grammar, Kind, Layout, ReadFault, Readable, Result, SectionId, read_whole};
 
 /// The import section: the items that a module imports.
 ///
@@ -713,29 +713,4 @@ pub fn append_imports<A: Allocator, B: Sink>(
         sink.truncate(start);
     }
     written
-}
-
-impl<'a, A: Allocator + Copy, G: Grammar> Skip<'a, A, G> for Imports<'a, A> {
-    fn skip(bytes: &'a [u8], alloc: A) -> Result<&'a [u8], DecodeError> {
-        let (_module, rest) = <&'a str as Readable<'a, A, G>>::read(bytes, alloc)?;
-        let Some((kind, rest)) = group_kind::<G>(rest) else {
-            let (_name, rest) = <&'a str as Readable<'a, A, G>>::read(rest, alloc)?;
-            let (_type, rest) = <EntityType as Readable<'a, A, G>>::read(rest, alloc)?;
-            return Ok(rest);
-        };
-        match kind {
-            0x7F => {
-                let (_count, rest) = skip_many::<'a, Dropped<ImportCompact<'a>>, A, G>(
-                    rest, alloc,
-                )?;
-                Ok(rest)
-            }
-            0x7E => {
-                let (_type, rest) = <EntityType as Readable<'a, A, G>>::read(rest, alloc)?;
-                let (_count, rest) = skip_many::<'a, Dropped<&'a str>, A, G>(rest, alloc)?;
-                Ok(rest)
-            }
-            _ => Err(ReadFault::UnknownTag.just_before(rest)),
-        }
-    }
 }

@@ -17,10 +17,10 @@ pub(crate) mod global;
 pub(crate) mod import;
 pub mod laws;
 pub(crate) mod memory;
-pub(crate) mod minimize;
 pub(crate) mod start;
 pub(crate) mod table;
 pub(crate) mod tag;
+pub(crate) mod walk;
 
 pub use counted_section::{CountedSection, ItemKind, RecordOf};
 pub use data::{DataItems, DataSection, DataSegment, DataSegmentMode, read_segments};

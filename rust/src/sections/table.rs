@@ -6,7 +6,7 @@ use crate::sections::counted_section::{CountedSection, ItemKind, RecordOf};
 use crate::sections::flags::where_set;
 use crate::sections::memory::Flags;
 use crate::alloc::{Allocator, Global};
-use crate::base::{DecodeError, Dropped, Encode, Grammar, Kind, Layout, Lent, Optional, ReadFault, Readable, RefType, Result, SectionId, Shorten, Skip, ValType, read_optional};
+use crate::base::{DecodeError, Encode, Grammar, Kind, Layout, Lent, Optional, ReadFault, Readable, RefType, Result, SectionId, Shorten, ValType, read_optional};
 use crate::code::{ConstExpr, Expression};
 
 /// The table section: the tables that a module defines.
@@ -406,21 +406,5 @@ impl<A: Allocator> Shorten for TableItem<A> {
         BEFORE_INIT.encode(sink)?;
         self.table_type.encode(sink)?;
         init.write_minimal(sink)
-    }
-}
-
-impl<'a, A: Allocator + Copy, G: Grammar> Skip<'a, A, G> for TableItem<A> {
-    fn skip(bytes: &'a [u8], alloc: A) -> Result<&'a [u8], DecodeError> {
-        let (first, rest) = <u8 as Readable<'a, A, G>>::read(bytes, alloc)?;
-        if first != 0x40 {
-            let (_type, rest) = <TableType as Readable<'a, A, G>>::read(bytes, alloc)?;
-            return Ok(rest);
-        }
-        let (second, rest) = <u8 as Readable<'a, A, G>>::read(rest, alloc)?;
-        if second != 0x00 {
-            return Err(ReadFault::UnknownTag.just_before(rest));
-        }
-        let rest = <(Dropped<TableType>, Expression<A>) as Skip<'a, A, G>>::skip(rest, alloc)?;
-        Ok(rest)
     }
 }

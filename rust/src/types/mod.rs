@@ -1,6 +1,6 @@
 // Written by tools/to-rust from crates/wasm_types/src/lib.rt: change that.
 //! The type section of a module, by the core specification, "Binary Format", "Types" and "Type
-//! Section": its builder, its reader and its minimizer.
+//! Section": its builder, its reader and the walk over its types.
 //!
 //! The reader is exact: `Ok` holds the items that the bytes encode in its grammar, and any error
 //! but `ReadFault::Memory` means that the bytes encode no such items.
@@ -8,11 +8,10 @@
 pub(crate) mod fields;
 pub(crate) mod items;
 pub mod laws;
-pub(crate) mod minimize;
 pub(crate) mod shapes;
-pub(crate) mod skip;
 pub(crate) mod type_section;
 pub(crate) mod types;
+pub(crate) mod walk;
 
 pub(crate) use items::{SubItem, TypeEntry};
 pub use type_section::{CoreTypeEncoder, TypeItems, append_types, read_types};

@@ -3,7 +3,7 @@
 
 use dolzhytik::fallible::{Sink, Vec};
 use dolzhytik::fallible::Allocator;
-use dolzhytik::reader::{DecodeError, Minimize, Standard};
+use dolzhytik::reader::{DecodeError, Standard, Walk};
 use dolzhytik::fallible::RefType;
 use dolzhytik::reader::shorten_body;
 use dolzhytik::reader::{ReadError, Section};
@@ -22,7 +22,7 @@ pub fn one_byte_reference<A: Allocator + Copy>(
     bytes: &[u8],
     sink: &mut Vec<u8, A>,
 ) -> Result<(), DecodeError> {
-    let _rest = <RefType as Minimize<Standard>>::minimize(bytes, alloc, sink)?;
+    let _rest = <RefType as Walk<Standard>>::walk(bytes, alloc, sink)?;
     Ok(())
 }
 

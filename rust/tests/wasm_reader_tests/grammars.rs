@@ -5,7 +5,7 @@ use dolzhytik::fallible::Vec;
 use dolzhytik::fallible::Global;
 use crate::host::Abort;
 use dolzhytik::fallible::{AbstractHeapType, HeapType, RefType, ValType};
-use dolzhytik::reader::{Grammar, Padded, ReadFault, Readable, SizePrefixed, Skip, Standard};
+use dolzhytik::reader::{Grammar, Padded, ReadFault, Readable, SizePrefixed, Standard, skip_value};
 use dolzhytik::reader::Body;
 use dolzhytik::fallible::{BlockType, MemArg, MemArgTarget};
 use dolzhytik::reader::Segment;
@@ -189,9 +189,9 @@ fn standard_bodies() {
         body.runs[0],
         (1, ValType::Ref(nullable(AbstractHeapType::Exn)))
     );
-    let rest = <Body as Skip<'_, Global, Standard>>::skip(&bytes, rt.alloc());
+    let rest = skip_value::<Body, Global, Standard>(&bytes, rt.alloc());
     assert_eq!(&rt; rest.map(|rest| rest.len()), Ok(0));
-    let rest = <Body as Skip<'_, Global, Padded>>::skip(&bytes, rt.alloc());
+    let rest = skip_value::<Body, Global, Padded>(&bytes, rt.alloc());
     assert!(&rt; rest.is_err());
 }
 
@@ -244,7 +244,7 @@ fn standard_segments() {
         _ => false,
     };
     assert!(&rt; is_expected);
-    let rest = <Segment<'_> as Skip<'_, Global, Standard>>::skip(&bytes, alloc);
+    let rest = skip_value::<Segment<'_>, Global, Standard>(&bytes, alloc);
     assert_eq!(&rt; rest.map(|rest| rest.len()), Ok(1));
     check_place(
         &rt,
@@ -252,7 +252,7 @@ fn standard_segments() {
         ReadFault::UnknownTag,
         7,
     );
-    let rest = <Segment<'_> as Skip<'_, Global, Padded>>::skip(&bytes, alloc);
+    let rest = skip_value::<Segment<'_>, Global, Padded>(&bytes, alloc);
     assert!(&rt; rest.is_err());
     check_place(
         &rt,

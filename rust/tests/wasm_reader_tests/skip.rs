@@ -6,33 +6,33 @@ use dolzhytik::fallible::Vec;
 use crate::checks::{check_cause, check_left};
 use crate::host::Abort;
 use crate::test_support::{Heap, Refusing};
-use dolzhytik::reader::{Dropped, Padded, ReadFault, SizePrefixed, Skip, check_to_end, check_whole, skip_many};
+use dolzhytik::reader::{Padded, ReadFault, SizePrefixed, Walk, check_to_end, check_whole, skip_many, skip_value};
 use dolzhytik::fallible::ValType;
 use dolzhytik::reader::{Body, Expression};
 
 /// Checks that a value of the kind is skipped, and the number of remaining bytes.
-fn check<'a, P: Skip<'a, Heap<'a>, Padded>>(
+fn check<'a, P: Walk<Padded>>(
     rt: &impl Abort,
     heap: Heap<'a>,
     bytes: &'a [u8],
     left: usize,
 ) {
     heap.refuse_all();
-    match P::skip(bytes, heap) {
+    match skip_value::<P, Heap, Padded>(bytes, heap) {
         Ok(rest) => check_left(rt, rest, left),
         Err(_) => panic!(rt; "nothing stands there"),
     }
 }
 
 /// Checks that skipping fails with this cause.
-fn check_none<'a, P: Skip<'a, Heap<'a>, Padded>>(
+fn check_none<'a, P: Walk<Padded>>(
     rt: &impl Abort,
     heap: Heap<'a>,
     bytes: &'a [u8],
     expected: ReadFault,
 ) {
     heap.refuse_all();
-    let fault = match P::skip(bytes, heap) {
+    let fault = match skip_value::<P, Heap, Padded>(bytes, heap) {
         Ok(_) => None,
         Err(error) => Some(error.cause()),
     };
@@ -47,11 +47,11 @@ fn check_count(rt: &impl Abort, given: u32, expected: u32) {
 fn values() {
     let rt = crate::host::HostRuntime;
     let heap = Refusing::new(rt.alloc());
-    check::<Dropped<u32>>(&rt, &heap, &[0x85, 0x00, 9], 1);
-    check::<(Dropped<u8>, Dropped<u32>)>(&rt, &heap, &[0xFF, 0x85, 0x00, 9], 1);
-    check_none::<Dropped<u32>>(&rt, &heap, &[0x85], ReadFault::Ended);
-    check_none::<(Dropped<u8>, Dropped<u32>)>(&rt, &heap, &[0xFF], ReadFault::Ended);
-    check_none::<(Dropped<u8>, Dropped<u32>)>(&rt, &heap, &[], ReadFault::Ended);
+    check::<u32>(&rt, &heap, &[0x85, 0x00, 9], 1);
+    check::<(u8, u32)>(&rt, &heap, &[0xFF, 0x85, 0x00, 9], 1);
+    check_none::<u32>(&rt, &heap, &[0x85], ReadFault::Ended);
+    check_none::<(u8, u32)>(&rt, &heap, &[0xFF], ReadFault::Ended);
+    check_none::<(u8, u32)>(&rt, &heap, &[], ReadFault::Ended);
 }
 
 #[test]
@@ -59,18 +59,18 @@ fn many() {
     let rt = crate::host::HostRuntime;
     let heap = Refusing::new(rt.alloc());
     heap.refuse_all();
-    let (count, rest) = skip_many::<Dropped<ValType>, Heap, Padded>(
+    let (count, rest) = skip_many::<ValType, Heap, Padded>(
         &[0x82, 0x00, 0x7F, 0x64, 0x05, 9],
         &heap,
     ).expect("accepted");
     check_count(&rt, count, 2);
     check_left(&rt, rest, 1);
-    let (count, rest) = skip_many::<Dropped<ValType>, Heap, Padded>(&[0, 9], &heap).expect(
+    let (count, rest) = skip_many::<ValType, Heap, Padded>(&[0, 9], &heap).expect(
         "accepted",
     );
     check_count(&rt, count, 0);
     check_left(&rt, rest, 1);
-    let short = match skip_many::<Dropped<ValType>, Heap, Padded>(&[2, 0x7F], &heap) {
+    let short = match skip_many::<ValType, Heap, Padded>(&[2, 0x7F], &heap) {
         Ok(_) => None,
         Err(error) => Some(error.cause()),
     };
@@ -81,11 +81,11 @@ fn many() {
 fn lists_and_payloads() {
     let rt = crate::host::HostRuntime;
     let heap = Refusing::new(rt.alloc());
-    check::<Vec<Dropped<u32>, Heap>>(&rt, &heap, &[2, 0x85, 0x00, 6, 9], 1);
-    check::<SizePrefixed<Dropped<u32>>>(&rt, &heap, &[0x82, 0x00, 0x85, 0x00, 9, 9], 2);
-    check_none::<Vec<Dropped<u32>, Heap>>(&rt, &heap, &[2, 5], ReadFault::Ended);
-    check_none::<SizePrefixed<Dropped<u32>>>(&rt, &heap, &[2, 5, 9, 9], ReadFault::SizeMismatch);
-    check_none::<SizePrefixed<Dropped<u32>>>(&rt, &heap, &[1, 0x85, 0x00], ReadFault::Ended);
+    check::<Vec<u32, Heap>>(&rt, &heap, &[2, 0x85, 0x00, 6, 9], 1);
+    check::<SizePrefixed<u32>>(&rt, &heap, &[0x82, 0x00, 0x85, 0x00, 9, 9], 2);
+    check_none::<Vec<u32, Heap>>(&rt, &heap, &[2, 5], ReadFault::Ended);
+    check_none::<SizePrefixed<u32>>(&rt, &heap, &[2, 5, 9, 9], ReadFault::SizeMismatch);
+    check_none::<SizePrefixed<u32>>(&rt, &heap, &[1, 0x85, 0x00], ReadFault::Ended);
 }
 
 fn check_all(rt: &impl Abort, given: Option<ReadFault>, expected: Option<ReadFault>) {
@@ -103,7 +103,7 @@ fn values_of_all_bytes() {
         (&[5, 6], Some(ReadFault::SizeMismatch)),
     ];
     for (bytes, expected) in whole {
-        let error = check_whole::<Dropped<u32>, Heap, Padded>(bytes, &heap).err();
+        let error = check_whole::<u32, Heap, Padded>(bytes, &heap).err();
         check_all(&rt, error.map(|error| error.cause()), expected);
     }
     let members = [
@@ -112,7 +112,7 @@ fn values_of_all_bytes() {
         (&[5, 0x86], Some(ReadFault::Ended)),
     ];
     for (bytes, expected) in members {
-        let error = check_to_end::<Dropped<u32>, Heap, Padded>(bytes, &heap).err();
+        let error = check_to_end::<u32, Heap, Padded>(bytes, &heap).err();
         check_all(&rt, error.map(|error| error.cause()), expected);
     }
 }

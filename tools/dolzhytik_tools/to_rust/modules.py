@@ -4,7 +4,7 @@ from __future__ import annotations
 from ..errors import Stop
 from ..rattle.lexer import solid_words
 from .source import Source
-from .tables import BELOW_ROOT, BORDERS, FEATURES, ITEMS, LAST_ARMS, PLACES, TESTS, WITHIN
+from .tables import BELOW_ROOT, BORDERS, FEATURES, ITEMS, LAST_ARMS, PLACES, TESTS
 
 # The arm that a `match` on an enum of another package needs. The proved source has all cases.
 WILDCARD = '_ => unreachable!("the library has no other case"),'
@@ -54,16 +54,6 @@ def share_modules(source: Source) -> None:
     for place in source.solid_places():
         if source.tokens[place] == 'mod' and source.tokens[source.back(place)] != 'pub':
             source.edit(place, place + 1, 'pub(crate) mod', 'module')
-
-
-def hide_methods(source: Source) -> None:
-    """Makes the methods of `WITHIN` private to the package."""
-    for name in WITHIN.get(source.path.partition('/')[2], ()):
-        places = [at for at in source.solid_places() if source.after(at, 'pub', 'fn', name) is not None]
-        if not places:
-            raise Stop(f'{source.path}:1: there is no public {name}')
-        for place in places:
-            source.edit(place, place + 1, 'pub(crate)', 'method')
 
 
 def turn_border(source: Source) -> None:

@@ -4,7 +4,7 @@ from .beside import add_beside
 from .bounds import erase_drop_bounds, erase_runtime
 from .ghosts import erase_clauses, erase_ghosts, erase_models, turn_proved_constants
 from .marks import erase_marks
-from .modules import add_arms, hide_methods, need_features, share_modules, skip_layout, turn_border, turn_places
+from .modules import add_arms, need_features, share_modules, skip_layout, turn_border, turn_places
 from .paths import turn_links, turn_paths
 from .sinks import turn_pairs, turn_sinks
 from .uses import turn_exports, turn_uses
@@ -25,7 +25,6 @@ STEPS = [
     turn_places,
     add_arms,
     need_features,
-    hide_methods,
     turn_pairs,
     turn_sinks,
     turn_uses,

@@ -48,8 +48,8 @@ PUBLIC_LAWS = {'wasm_reader': 'reader::laws'}
 # library's module has them in a module of its own, which `reader` exports.
 READERS = {
     'wasm_base': {
-        'Canonical', 'DecodeError', 'Discard', 'Effect', 'EncodeIn', 'Grammar', 'Layout', 'Padded', 'ReadFault', 'Readable',
-        'Shared', 'Shorten', 'SizePrefixed', 'SizedBytes', 'Standard', 'Walk', 'append_all', 'check_to_end', 'check_whole',
+        'Canonical', 'DecodeError', 'Discard', 'Effect', 'EncodeIn', 'Grammar', 'Layout', 'Padded', 'RawBytes', 'ReadFault',
+        'Readable', 'Shared', 'Shorten', 'SizePrefixed', 'SizedBytes', 'Standard', 'Walk', 'append_all', 'check_to_end', 'check_whole',
         'minimize_many', 'minimize_to_end', 'minimize_whole', 'prefix_size_since', 'read_before', 'read_optional',
         'read_to_end', 'read_whole', 'skip_many', 'skip_value', 'walk_in', 'walk_many', 'walk_shared', 'walk_to_end',
         'walk_value', 'walk_whole',
@@ -62,7 +62,14 @@ READERS = {
 }
 READING = 'reading'
 # The names that only libraries above use: private in the package.
-BETWEEN = {'wasm_base': {'read_index', 'read_val_after'}, 'wasm_insn': {'read_instruction'}}
+BETWEEN = {
+    'wasm_base': {'read_index', 'read_val_after'},
+    'wasm_insn': {'read_instruction'},
+    'wasm_custom': {
+        'walk_build_id', 'walk_debug_file', 'walk_dylink', 'walk_features', 'walk_hints', 'walk_instances', 'walk_links',
+        'walk_modules', 'walk_names', 'walk_process', 'walk_producers', 'walk_relocations', 'walk_source_map', 'walk_stack',
+    },
+}
 # Hand-written pages below rust/src: each is in place of the documentation of a library's module.
 PAGES = {'wasm_reader': 'reader.md'}
 # The libraries whose private items the root of the package uses, such as the first bytes of
@@ -130,8 +137,6 @@ EXHAUSTIVE = {
     'Refused': CLOSED,
     'TypeEntry': CLOSED,
 }
-# Inherent methods of types at the root of the package that the Rust crate has not: private.
-WITHIN = {'wasm_base/src/types.rt': {'encode_in'}}
 # Paths of std: of Rust's std, of its core, of the package, of the host of tests, and erased ones.
 KEPT_STD = {
     'std::io::Error',

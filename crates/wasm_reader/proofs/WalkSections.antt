@@ -1,0 +1,36 @@
+-- This file proves what a walk over the payload of a section gives.
+use Rattle.wasm_base.proofs.Words.{◌≡◌, ℕ, List, ◌++◌, refl, sym, ap, subst, ◌∙◌, Grammar, minimal_of, padded_of, Format, mapped, name, any_bytes, pair, Result, OnOk, on_ok, Decodes, Rejects, RejectsWhole}
+use Rattle.wasm_base.specs.Faults.{Failure}
+use Rattle.wasm_base.specs.Walks.{TakesBytes, Walks, WalksWhole}
+use Rattle.wasm_base.proofs.WalkLaws.{take_then}
+use Rattle.wasm_reader.specs.{Contents, Custom, Raw, content}
+use Rattle.wasm_reader.specs.declared.kinds.SectionKind.{SectionKind}
+use Rattle.wasm_reader.specs.declared.kinds.SectionKind.TheVariants as kinds
+use Rattle.wasm_reader.proofs.KindLaws.{custom_read}
+
+module _ {E : Type 0} {seen : E → List ℕ → Type 0} {w : Grammar} where
+  -- The payload of a section of the kind `k` encodes the image by `f`.
+  pub walks_as : {X : Type 0} (f : X → Contents) {F : Format X} {k : SectionKind} → content k ≡ mapped f F → (kind : SectionKind) (bytes : List ℕ) (old new : E) (r : Result (Unit {0}) Failure) → kind ≡ k → OnOk r (WalksWhole seen w F bytes old new) → OnOk r (WalksWhole seen w (content kind) bytes old new)
+  walks_as f {F} is kind bytes old new r e found = on_ok r _ _ found λ h.
+      let same : mapped f F ≡ content kind = sym (ap content e ∙ is) in
+      let whole : WalksWhole seen w (mapped f F) bytes old new = record { value = f h.value; decoded = (h.value, refl, h.decoded); encoding = h.encoding; encodes = (h.value, refl, h.encodes); taken = h.taken } in
+      subst (λ G. WalksWhole seen w G bytes old new) same whole
+
+  pub kind_walks : (k kind : SectionKind) (bytes : List ℕ) (old new : E) (r : Result (Unit {0}) Failure) → kind ≡ k → OnOk r (WalksWhole seen w (content k) bytes old new) → OnOk r (WalksWhole seen w (content kind) bytes old new)
+  kind_walks k kind bytes old new r e found = subst (λ k. OnOk r (WalksWhole seen w (content k) bytes old new)) (sym e) found
+
+  -- A name, then any bytes.
+  pub custom_walks : (bytes rest : List ℕ) (old middle new : E) → Walks seen w name bytes rest old middle → TakesBytes seen rest middle new → WalksWhole seen w (content kinds.Custom) bytes old new
+  custom_walks bytes rest old middle new h t = record {
+    value = Custom (h.value, rest);
+    decoded = (custom_read (padded_of w) kinds.Custom bytes refl).1 h.value rest h.decoded;
+    encoding = h.encoding ++ rest;
+    encodes = ((h.value, rest), refl, record { front = h.encoding; back = rest; joined = refl; first = h.encodes; second = refl });
+    taken = take_then seen h.encoding rest old middle new h.taken t;
+  }
+
+  pub raw_walks : (bytes : List ℕ) (old new : E) → TakesBytes seen bytes old new → WalksWhole seen w (content kinds.Raw) bytes old new
+  raw_walks bytes old new t = record { value = Raw bytes; decoded = (bytes, refl, refl); encoding = bytes; encodes = (bytes, refl, refl); taken = t }
+
+pub custom_none : (w : Grammar) (bytes : List ℕ) → Rejects name (padded_of w) bytes → RejectsWhole (content kinds.Custom) (padded_of w) bytes
+custom_none w bytes n = (custom_read (padded_of w) kinds.Custom bytes refl).0 n
