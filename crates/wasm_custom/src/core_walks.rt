@@ -11,13 +11,11 @@ ghost use Rattle.wasm_custom.specs.CoreStacks.{stack_payload};
 use crate::core_dumps::CoreInstance;
 use crate::core_stack::CoreFrame;
 use crate::core_values::CoreDumpValue;
-use crate::marked::{MarkedName, walk_marked};
 use crate::item_walks::walk_counted;
+use crate::marked::{MarkedName, walk_marked};
 use crate::named::after_name;
 use std::alloc::Allocator;
-use wasm_base::{
-    Canonical, DecodeError, Effect, Grammar, Walk, walk_value, walk_whole,
-};
+use wasm_base::{Canonical, DecodeError, Effect, Grammar, Walk, walk_value, walk_whole};
 
 impl<'s, G: Grammar> Walk<G> for MarkedName<'s> {
     fn walk<'a, A: Allocator + Copy, E: Effect>(
@@ -30,8 +28,7 @@ impl<'s, G: Grammar> Walk<G> for MarkedName<'s> {
         ensures no_memory { IfErr result (λ e. e.cause ≡ Memory → E.may_fail) }
         ensures front { Keeps E.seen effect.old effect.new }
     {
-        let rest = walk_marked::<&'a str, A, G, _>(0x00, bytes, alloc, effect)?;
-        Ok(rest)
+        walk_marked::<&'a str, A, G, _>(0x00, bytes, alloc, effect)
     }
 }
 
@@ -59,10 +56,7 @@ impl<G: Grammar, C: Allocator> Walk<G> for CoreInstance<C> {
         alloc: A,
         effect: &mut E,
     ) -> Result<&'a [u8], DecodeError> {
-        let rest = walk_marked::<(u32, (Vec<u32, C>, Vec<u32, C>)), A, G, _>(
-            0x00, bytes, alloc, effect,
-        )?;
-        Ok(rest)
+        walk_marked::<(u32, (Vec<u32, C>, Vec<u32, C>)), A, G, _>(0x00, bytes, alloc, effect)
     }
 }
 
@@ -107,10 +101,7 @@ impl<G: Grammar, C: Allocator> Walk<G> for CoreFrame<C> {
         effect: &mut E,
     ) -> Result<&'a [u8], DecodeError> {
         let after = walk_marked::<(u32, (u32, u32)), A, G, _>(0x00, bytes, alloc, effect)?;
-        let rest = <(Vec<CoreDumpValue, C>, Vec<CoreDumpValue, C>) as Walk<G>>::walk(
-            after, alloc, effect,
-        )?;
-        Ok(rest)
+        <(Vec<CoreDumpValue, C>, Vec<CoreDumpValue, C>) as Walk<G>>::walk(after, alloc, effect)
     }
 }
 

@@ -17,8 +17,7 @@ use crate::relocations::Relocation;
 use crate::target_features::FeaturePrefix;
 use std::alloc::Allocator;
 use wasm_base::{
-    DecodeError, Effect, Grammar, Walk, ReadFault, Readable, Shared, walk_shared,
-    walk_whole,
+    DecodeError, Effect, Grammar, ReadFault, Readable, Shared, Walk, walk_shared, walk_whole,
 };
 
 /// Walks over the payload of a section of this name with a vector of items. No item is kept.
@@ -116,8 +115,7 @@ impl<G: Grammar> Walk<G> for BranchHint {
         effect: &mut E,
     ) -> Result<&'a [u8], DecodeError> {
         let after = <u32 as Walk<G>>::walk(bytes, alloc, effect)?;
-        let rest = walk_marked::<HintValue, A, G, _>(0x01, after, alloc, effect)?;
-        Ok(rest)
+        walk_marked::<HintValue, A, G, _>(0x01, after, alloc, effect)
     }
 }
 

@@ -12,6 +12,5 @@ returns-in_err-rest-2-clause-none g c = fault_stays c.from_residual-in_err-rest-
 pub returns-in_err-walk_to_end-clause-none : goal.returns-in_err-walk_to_end-clause-none
 returns-in_err-walk_to_end-clause-none g c = fault_stays c.from_residual-in_err-walk_to_end.result _ c.from_residual-in_err-walk_to_end.ensures.1 λ n. no_links c.args.bytes.now _ _ c.in_ok-rest.ensures.found c.in_ok-rest-2.ensures.found (c.in_err-walk_to_end.ensures.none n)
 
-
 pub returns-clause-found : goal.returns-clause-found
 returns-clause-found g c = links_walk g.E.Effect.seen g.G.Grammar.grammar c.args.bytes.now _ _ _ _ _ _ c.in_ok-rest.ensures.found c.in_ok-rest-2.ensures.found c.in_ok-put.ensures.ok c.in_ok-put-2.ensures.ok c.in_ok-walk_to_end.ensures.found

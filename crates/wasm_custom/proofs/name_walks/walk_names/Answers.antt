@@ -10,6 +10,5 @@ returns-in_err-rest-clause-none g c = fault_stays c.from_residual.result _ c.fro
 pub returns-in_err-walk_to_end-clause-none : goal.returns-in_err-walk_to_end-clause-none
 returns-in_err-walk_to_end-clause-none g c = fault_stays c.from_residual-in_err-walk_to_end.result _ c.from_residual-in_err-walk_to_end.ensures.1 λ n. no_names c.args.bytes.now _ c.in_ok-rest.ensures.found (c.in_err-walk_to_end.ensures.none n)
 
-
 pub returns-clause-found : goal.returns-clause-found
 returns-clause-found g c = listed_walks g.G.Grammar.grammar name_name false subsection c.in_ok-rest.ensures.found c.in_ok-put.ensures.ok c.in_ok-walk_to_end.ensures.found
