@@ -123,6 +123,5 @@ pub fn walk_stack<'a, A: Allocator + Copy, G: Grammar, E: Effect>(
 {
     let rest = after_name::<A, G>("corestack", bytes, alloc)?;
     effect.put(&"corestack")?;
-    walk_whole::<(MarkedName<'a>, Vec<CoreFrame<A>, A>), A, G, _>(rest, alloc, effect)?;
-    Ok(())
+    walk_whole::<(MarkedName<'a>, Vec<CoreFrame<A>, A>), A, G, _>(rest, alloc, effect)
 }

@@ -100,6 +100,5 @@ pub fn walk_dylink<'a, A: Allocator + Copy, G: Grammar, E: Effect>(
 {
     let rest = after_name::<A, G>("dylink.0", bytes, alloc)?;
     effect.put(&"dylink.0")?;
-    walk_to_end::<DylinkItem<'a, A>, A, G, _>(rest, alloc, effect)?;
-    Ok(())
+    walk_to_end::<DylinkItem<'a, A>, A, G, _>(rest, alloc, effect)
 }

@@ -35,8 +35,7 @@ pub(crate) fn walk_counted<'a, T: Walk<G>, A: Allocator + Copy, G: Grammar, E: E
 {
     let rest = after_name::<A, G>(name, bytes, alloc)?;
     effect.put(&name)?;
-    walk_whole::<Vec<T, A>, A, G, _>(rest, alloc, effect)?;
-    Ok(())
+    walk_whole::<Vec<T, A>, A, G, _>(rest, alloc, effect)
 }
 
 /// Walks over the payload of a producers section, in the grammar `G`.
@@ -178,6 +177,5 @@ pub fn walk_relocations<'a, A: Allocator + Copy, G: Grammar, E: Effect>(
         return Err(ReadFault::UnknownTag.at(name.as_bytes()).before(rest));
     }
     effect.put(&name)?;
-    walk_whole::<(u32, Vec<Relocation, A>), A, G, _>(rest, alloc, effect)?;
-    Ok(())
+    walk_whole::<(u32, Vec<Relocation, A>), A, G, _>(rest, alloc, effect)
 }

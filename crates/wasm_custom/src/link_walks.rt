@@ -155,6 +155,5 @@ pub fn walk_links<'a, A: Allocator + Copy, G: Grammar, E: Effect>(
     let rest = after_version::<A, G>(rest, alloc)?;
     effect.put(&"linking")?;
     effect.put(&VERSION)?;
-    walk_to_end::<LinkItem<'a, A>, A, G, _>(rest, alloc, effect)?;
-    Ok(())
+    walk_to_end::<LinkItem<'a, A>, A, G, _>(rest, alloc, effect)
 }

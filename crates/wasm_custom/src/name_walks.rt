@@ -73,6 +73,5 @@ pub fn walk_names<'a, A: Allocator + Copy, G: Grammar, E: Effect>(
 {
     let rest = after_name::<A, G>("name", bytes, alloc)?;
     effect.put(&"name")?;
-    walk_to_end::<NameItem<'a, A>, A, G, _>(rest, alloc, effect)?;
-    Ok(())
+    walk_to_end::<NameItem<'a, A>, A, G, _>(rest, alloc, effect)
 }
