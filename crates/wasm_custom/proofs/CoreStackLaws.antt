@@ -181,9 +181,6 @@ frame_no_stack bytes rest next p ls h g n = mapped_rejects stack_frame_of (then_
 pub frame_no_lists : {m : Mode} (bytes rest : List ℕ) (p : CodeLocation) → Decodes place m bytes p rest → Rejects (pair (vec value) (vec value)) m rest → Rejects stack_frame m bytes
 frame_no_lists bytes rest p h n = mapped_rejects stack_frame_of (then_rejects_second location_unambiguous h n)
 
-pub frame_skips : {m : Mode} {bytes rest last : List ℕ} → (p : CodeLocation) × Decodes place m bytes p rest → (lists : List CoreDumpValue × List CoreDumpValue) × Decodes (pair (vec value) (vec value)) m rest lists last → (f : StackFrame) × Decodes stack_frame m bytes f last
-frame_skips h g = (stack_frame_of (h.0, g.0), mapped_decodes stack_frame_of (then_decodes h.1 g.1))
-
 pub ruleset frame_steps = (frame_decodes, frame_no_location, frame_no_locals, frame_no_stack)
 
 -- ---- sections
@@ -207,9 +204,6 @@ stack_no_frames {m = m} bytes rest last thread h g n = named_rejects stack_name 
       let same = decodes_same marked_unambiguous g (record { front = s.front; split = s.joined; encodes = s.first }) in
       n.none x.1 (subst (λ z. vec stack_frame m z x.1) (sym same.1) s.second);
 })
-
-pub threaded_fills : {m : Mode} (bytes rest : List ℕ) (x : List ℕ × List StackFrame) → Decodes (just stack_name name) m bytes tt rest → threaded m rest x → stack_payload m bytes x
-threaded_fills bytes rest x h g = named_fills stack_name threaded bytes rest x h g
 
 pub stack_rejects : {m : Mode} (bytes rest : List ℕ) → Decodes (just stack_name name) m bytes tt rest → RejectsWhole threaded m rest → RejectsWhole stack_payload m bytes
 stack_rejects bytes rest h n = named_rejects stack_name threaded bytes rest h n

@@ -15,7 +15,7 @@ use Rattle.wasm_custom.specs.Linking.{Segments, InitFunctions, Comdats, Symbols,
 use Rattle.wasm_custom.specs.declared.init_functions.InitFunction.{InitFunction}
 use Rattle.wasm_custom.proofs.CustomLaws.{named_encoded, content_encodable, just_appended, named_appended}
 use Rattle.wasm_custom.proofs.WiderLaws.{choice_or, other_is, other_is_not, mapped_included, members_included, behind_included, vec_included, size_prefixed_included, tagged_included, decodes_included, rejects_included}
-use Rattle.wasm_custom.proofs.WiderLaws.{wider_unambiguous, wider_begins, tag_is, tag_is_not, tag_none, tag_rejects, after_tag, IsAfterTag, in_each, in_standard, in_others, tag_appended, tag_encoded, known_appended, known_encoded, content_appended, content_of}
+use Rattle.wasm_custom.proofs.WiderLaws.{wider_unambiguous, wider_begins, both_is, both_is_not, full_is, full_is_not, tag_is, tag_is_not, tag_none, tag_rejects, after_tag, IsAfterTag, in_each, in_standard, in_others, tag_appended, tag_encoded, known_appended, known_encoded, content_appended, content_of}
 use Rattle.wasm_custom.proofs.SymbolLaws.{built_symbol_unambiguous, full_symbol_unambiguous, built_is_full, symbol_encodes, full_symbol_encodes}
 use Rattle.wasm_custom.proofs.SegmentLaws.{segment_unambiguous, segment_encodes}
 use Rattle.wasm_custom.proofs.InitLaws.{init_unambiguous, init_encodes}
@@ -174,31 +174,22 @@ link_none w bytes n = tag_none link_tags full_link_tags other_link w bytes n
 
 -- The subsections of the standard's grammar alone.
 pub segments_decodes : (w : Grammar) (bytes rest last : List ℕ) (b : ℕ) (xs : List SegmentInfo) → Decodes byte (padded_of w) bytes b rest → b ≡ 5 → is_admitted w ≡ true → Decodes (size_prefixed (vec segment)) (padded_of w) rest xs last → Decodes link (padded_of w) bytes (Segments xs) last
-segments_decodes builders bytes rest last b xs h e f g = absurd (cc f)
-segments_decodes admitted bytes rest last b xs h e f g = tag_is link_tags full_link_tags other_link admitted 5 h e (mapped_decodes Segments g)
+segments_decodes w bytes rest last b xs h e f g = full_is link_tags full_link_tags other_link 5 (mapped Segments (size_prefixed (vec segment))) refl w f h e (mapped_decodes Segments g)
 
 pub segments_none : (w : Grammar) (bytes rest : List ℕ) (b : ℕ) → Decodes byte (padded_of w) bytes b rest → b ≡ 5 → is_admitted w ≡ true → Rejects (size_prefixed (vec segment)) (padded_of w) rest → Rejects link (padded_of w) bytes
-segments_none builders bytes rest b h e f n = absurd (cc f)
-segments_none admitted bytes rest b h e f n = tag_is_not link_tags full_link_tags other_link admitted 5 h e (mapped_rejects Segments n)
+segments_none w bytes rest b h e f n = full_is_not link_tags full_link_tags other_link 5 (mapped Segments (size_prefixed (vec segment))) refl w f h e (mapped_rejects Segments n)
 
 pub inits_decodes : (w : Grammar) (bytes rest last : List ℕ) (b : ℕ) (xs : List InitFunction) → Decodes byte (padded_of w) bytes b rest → b ≡ 6 → is_admitted w ≡ true → Decodes (size_prefixed (vec init_function)) (padded_of w) rest (map (λ f. f) xs) last → Decodes link (padded_of w) bytes (InitFunctions xs) last
-inits_decodes builders bytes rest last b xs h e f g = absurd (cc f)
-inits_decodes admitted bytes rest last b xs h e f g = tag_is link_tags full_link_tags other_link admitted 6 h e (mapped_decodes InitFunctions (subst (λ z. Decodes (size_prefixed (vec init_function)) standard rest z last) (map-id xs) g))
-
-pub inits_skip : (w : Grammar) (bytes rest last : List ℕ) (b : ℕ) (xs : List InitFunction) → Decodes byte (padded_of w) bytes b rest → b ≡ 6 → is_admitted w ≡ true → Decodes (size_prefixed (vec init_function)) (padded_of w) rest xs last → Decodes link (padded_of w) bytes (InitFunctions xs) last
-inits_skip w bytes rest last b xs h e f g = inits_decodes w bytes rest last b xs h e f (subst (λ z. Decodes (size_prefixed (vec init_function)) (padded_of w) rest z last) (sym (map-id xs)) g)
+inits_decodes w bytes rest last b xs h e f g = full_is link_tags full_link_tags other_link 6 (mapped InitFunctions (size_prefixed (vec init_function))) refl w f h e (mapped_decodes InitFunctions (subst (λ z. Decodes (size_prefixed (vec init_function)) (padded_of w) rest z last) (map-id xs) g))
 
 pub inits_none : (w : Grammar) (bytes rest : List ℕ) (b : ℕ) → Decodes byte (padded_of w) bytes b rest → b ≡ 6 → is_admitted w ≡ true → Rejects (size_prefixed (vec init_function)) (padded_of w) rest → Rejects link (padded_of w) bytes
-inits_none builders bytes rest b h e f n = absurd (cc f)
-inits_none admitted bytes rest b h e f n = tag_is_not link_tags full_link_tags other_link admitted 6 h e (mapped_rejects InitFunctions n)
+inits_none w bytes rest b h e f n = full_is_not link_tags full_link_tags other_link 6 (mapped InitFunctions (size_prefixed (vec init_function))) refl w f h e (mapped_rejects InitFunctions n)
 
 pub comdats_decodes : (w : Grammar) (bytes rest last : List ℕ) (b : ℕ) (xs : List Comdat) → Decodes byte (padded_of w) bytes b rest → b ≡ 7 → is_admitted w ≡ true → Decodes (size_prefixed (vec comdat)) (padded_of w) rest xs last → Decodes link (padded_of w) bytes (Comdats xs) last
-comdats_decodes builders bytes rest last b xs h e f g = absurd (cc f)
-comdats_decodes admitted bytes rest last b xs h e f g = tag_is link_tags full_link_tags other_link admitted 7 h e (mapped_decodes Comdats g)
+comdats_decodes w bytes rest last b xs h e f g = full_is link_tags full_link_tags other_link 7 (mapped Comdats (size_prefixed (vec comdat))) refl w f h e (mapped_decodes Comdats g)
 
 pub comdats_none : (w : Grammar) (bytes rest : List ℕ) (b : ℕ) → Decodes byte (padded_of w) bytes b rest → b ≡ 7 → is_admitted w ≡ true → Rejects (size_prefixed (vec comdat)) (padded_of w) rest → Rejects link (padded_of w) bytes
-comdats_none builders bytes rest b h e f n = absurd (cc f)
-comdats_none admitted bytes rest b h e f n = tag_is_not link_tags full_link_tags other_link admitted 7 h e (mapped_rejects Comdats n)
+comdats_none w bytes rest b h e f n = full_is_not link_tags full_link_tags other_link 7 (mapped Comdats (size_prefixed (vec comdat))) refl w f h e (mapped_rejects Comdats n)
 
 -- The subsections of both grammars.
 pub symbols_decodes : (w : Grammar) (bytes rest last : List ℕ) (b : ℕ) (xs : List Symbol) → Decodes byte (padded_of w) bytes b rest → b ≡ 8 → Decodes (size_prefixed (vec symbol)) (padded_of w) rest xs last → Decodes link (padded_of w) bytes (Symbols xs) last
@@ -210,12 +201,10 @@ symbols_none builders bytes rest b h e n = tag_is_not link_tags full_link_tags o
 symbols_none admitted bytes rest b h e n = tag_is_not link_tags full_link_tags other_link admitted 8 h e (mapped_rejects Symbols (rejects_included (size_prefixed (vec full_symbol)) (size_prefixed (vec symbol)) standard (tables_included full_symbol symbol standard (λ s x k. k)) n))
 
 pub arch_decodes : (w : Grammar) (bytes rest last : List ℕ) (b : ℕ) (n : List ℕ) → Decodes byte (padded_of w) bytes b rest → b ≡ 9 → Decodes (size_prefixed name) (padded_of w) rest n last → Decodes link (padded_of w) bytes (Target n) last
-arch_decodes builders bytes rest last b n h e g = tag_is link_tags full_link_tags other_link builders 9 h e (mapped_decodes Target g)
-arch_decodes admitted bytes rest last b n h e g = tag_is link_tags full_link_tags other_link admitted 9 h e (mapped_decodes Target g)
+arch_decodes w bytes rest last b n h e g = both_is link_tags full_link_tags other_link 9 (mapped Target (size_prefixed name)) refl refl w h e (mapped_decodes Target g)
 
 pub arch_none : (w : Grammar) (bytes rest : List ℕ) (b : ℕ) → Decodes byte (padded_of w) bytes b rest → b ≡ 9 → Rejects (size_prefixed name) (padded_of w) rest → Rejects link (padded_of w) bytes
-arch_none builders bytes rest b h e n = tag_is_not link_tags full_link_tags other_link builders 9 h e (mapped_rejects Target n)
-arch_none admitted bytes rest b h e n = tag_is_not link_tags full_link_tags other_link admitted 9 h e (mapped_rejects Target n)
+arch_none w bytes rest b h e n = both_is_not link_tags full_link_tags other_link 9 (mapped Target (size_prefixed name)) refl refl w h e (mapped_rejects Target n)
 
 -- A subsection of any other id, which the standard's grammar alone has.
 pub others_decodes : (w : Grammar) (bytes rest last : List ℕ) (b : ℕ) (content : List ℕ) → Decodes byte (padded_of w) bytes b rest → IsOther full_link_tags b → is_admitted w ≡ true → Decodes (size_prefixed any_bytes) (padded_of w) rest content last → Decodes link (padded_of w) bytes (OtherLink b content) last

@@ -153,9 +153,6 @@ pub ruleset kind_steps = (module_fills, no_module, map_fills, no_map, indirect_f
 
 -- ---- the kind of the content is known
 
-pub known_decodes : (w : Grammar) (id : ℕ) {bytes rest : List ℕ} {k : ReadKind} (known : ReadKind) → k ≡ known → (x : NameItem) → Decodes (after_id (kind_as known) id) (padded_of w) bytes x rest → (x : NameItem) × Decodes (after_id (kind_as k) id) (padded_of w) bytes x rest
-known_decodes w id {bytes} {rest} known e x h = (x, subst (λ z. Decodes (after_id (kind_as z) id) (padded_of w) bytes x rest) (sym e) h)
-
 pub not_known : (w : Grammar) (id : ℕ) {bytes : List ℕ} {k : ReadKind} (known : ReadKind) → k ≡ known → Rejects (after_id (kind_as known) id) (padded_of w) bytes → Rejects (after_id (kind_as k) id) (padded_of w) bytes
 not_known w id {bytes} known e n = subst (λ z. Rejects (after_id (kind_as z) id) (padded_of w) bytes) (sym e) n
 
@@ -182,9 +179,6 @@ behind id = after_id (name_kind_of id) id
 pub subsection_decodes : {m : Mode} (bytes rest content last : List ℕ) (id : ℕ) (k : NameKind) (x : NameItem) → Decodes byte m bytes id rest → Decodes (size_prefixed any_bytes) m rest content last → k ≡ name_kind_of id → inside k id m content x → Decodes subsection m bytes x last
 subsection_decodes {m = m} bytes rest content last id k x h g e s =
     tagged_decodes {G = behind} h (subst (λ k. Decodes (after_id k id) m rest x last) e (behind_decodes k id rest last x (filled_decodes (inside k id) rest content last x g s)))
-
-pub subsection_skips : {m : Mode} {bytes rest last : List ℕ} {id : ℕ} (k : NameKind) → Decodes byte m bytes id rest → k ≡ name_kind_of id → (x : NameItem) × Decodes (after_id k id) m rest x last → (x : NameItem) × Decodes subsection m bytes x last
-subsection_skips {m = m} {rest = rest} {last = last} {id = id} k h e g = (g.0, tagged_decodes {G = behind} h (subst (λ k. Decodes (after_id k id) m rest g.0 last) e g.1))
 
 pub subsection_none : {m : Mode} (bytes : List ℕ) → Rejects byte m bytes → Rejects subsection m bytes
 subsection_none bytes n = tagged_none byte behind bytes n

@@ -235,9 +235,6 @@ section_fills {m = m} bytes rest last n section rs h begins g k = record {
   second = record { front = g.front; back = last; joined = g.split; first = g.encodes; second = subst (λ z. vec relocation m last z) (map-id rs) k };
 }
 
-pub section_whole : {m : Mode} (bytes rest n : List ℕ) (x : ℕ × List Relocation) → Decodes name m bytes n rest → IsRelocationsName n → pair u32 (vec relocation) m rest x → relocations_payload m bytes (n, x)
-section_whole bytes rest n x h begins g = record { front = h.front; back = rest; joined = h.split; first = (h.encodes, begins); second = g }
-
 -- Bytes that are no value of `F` at their front are no such value followed by another.
 pair_none : {m : Mode} {X Y : Type 0} {F : Format X} {G : Format Y} {bytes : List ℕ} → Rejects F m bytes → RejectsWhole (pair F G) m bytes
 pair_none none = record { none = λ x s. none.none x.0 s.back (record { front = s.front; split = s.joined; encodes = s.first }) }

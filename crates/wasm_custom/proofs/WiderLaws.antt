@@ -171,6 +171,24 @@ module _ {X : Type 0} (cs ds : List (ℕ × Format X)) (other : ℕ → Format X
     both_walks {seen = seen} w {bytes = bytes} {last = last} {old = old} {middle = middle} {new = new} h is a m =
         walked_as seen w by_tag m.value bytes last (c ∷ m.encoding) old new (both_is w h is m.decoded) (both_encodes w m.encoding m.value m.encodes) (take_then seen (c ∷ []) m.encoding old middle new (subst (λ z. TakesBytes seen (z ∷ []) old middle) is a) m.taken)
 
+  -- A tag of the standard's grammar alone.
+  module _ (c : ℕ) (F : Format X) (f : choice ds other c ≡ F) where
+    pub full_is : (w : Grammar) {bytes rest last : List ℕ} {b : ℕ} {x : X} → is_admitted w ≡ true → Decodes byte (padded_of w) bytes b rest → b ≡ c → Decodes F (padded_of w) rest x last → Decodes by_tag (padded_of w) bytes x last
+    full_is builders i h is g = absurd (cc i)
+    full_is admitted {rest = rest} {last = last} {x = x} i h is g = tag_is admitted c h is (subst (λ G. Decodes G standard rest x last) (sym f) g)
+
+    pub full_is_not : (w : Grammar) {bytes rest : List ℕ} {b : ℕ} → is_admitted w ≡ true → Decodes byte (padded_of w) bytes b rest → b ≡ c → Rejects F (padded_of w) rest → Rejects by_tag (padded_of w) bytes
+    full_is_not builders i h is n = absurd (cc i)
+    full_is_not admitted {rest = rest} i h is n = tag_is_not admitted c h is (subst (λ G. Rejects G standard rest) (sym f) n)
+
+    full_encodes : (w : Grammar) (s : List ℕ) (x : X) → is_admitted w ≡ true → F (minimal_of w) s x → by_tag (minimal_of w) (c ∷ s) x
+    full_encodes builders s x i k = absurd (cc i)
+    full_encodes admitted s x i k = tagged_encodes standard_minimal c s x (subst (λ G. G standard_minimal s x) (sym f) k)
+
+    pub full_walks : {E : Type 0} {seen : E → List ℕ → Type 0} (w : Grammar) {b : ℕ} {bytes rest last : List ℕ} {old middle new : E} → is_admitted w ≡ true → Decodes byte (padded_of w) bytes b rest → b ≡ c → TakesBytes seen (b ∷ []) old middle → Walks seen w F rest last middle new → Walks seen w by_tag bytes last old new
+    full_walks {seen = seen} w {bytes = bytes} {last = last} {old = old} {middle = middle} {new = new} i h is a m =
+        walked_as seen w by_tag m.value bytes last (c ∷ m.encoding) old new (full_is w i h is m.decoded) (full_encodes w m.encoding m.value i m.encodes) (take_then seen (c ∷ []) m.encoding old middle new (subst (λ z. TakesBytes seen (z ∷ []) old middle) is a) m.taken)
+
   -- A tag that the list of the standard's grammar lacks.
   module _ {b : ℕ} (o : IsOther ds b) where
     pub other_is : (w : Grammar) {bytes rest last : List ℕ} {x : X} → is_admitted w ≡ true → Decodes byte (padded_of w) bytes b rest → Decodes (other b) (padded_of w) rest x last → Decodes by_tag (padded_of w) bytes x last

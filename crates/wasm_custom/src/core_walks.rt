@@ -28,8 +28,7 @@ impl<'s, G: Grammar> Walk<G> for MarkedName<'s> {
         ensures no_memory { IfErr result (λ e. e.cause ≡ Memory → E.may_fail) }
         ensures front { Keeps E.seen effect.old effect.new }
     {
-        let rest = walk_marked::<&'a str, A, G, _>(0x00, bytes, alloc, effect)?;
-        Ok(rest)
+        walk_marked::<&'a str, A, G, _>(0x00, bytes, alloc, effect)
     }
 }
 
@@ -75,10 +74,7 @@ impl<G: Grammar, C: Allocator> Walk<G> for CoreInstance<C> {
         alloc: A,
         effect: &mut E,
     ) -> Result<&'a [u8], DecodeError> {
-        let rest = walk_marked::<(u32, (Vec<u32, C>, Vec<u32, C>)), A, G, _>(
-            0x00, bytes, alloc, effect,
-        )?;
-        Ok(rest)
+        walk_marked::<(u32, (Vec<u32, C>, Vec<u32, C>)), A, G, _>(0x00, bytes, alloc, effect)
     }
 }
 
@@ -123,10 +119,7 @@ impl<G: Grammar, C: Allocator> Walk<G> for CoreFrame<C> {
         effect: &mut E,
     ) -> Result<&'a [u8], DecodeError> {
         let after = walk_marked::<(u32, (u32, u32)), A, G, _>(0x00, bytes, alloc, effect)?;
-        let rest = <(Vec<CoreDumpValue, C>, Vec<CoreDumpValue, C>) as Walk<G>>::walk(
-            after, alloc, effect,
-        )?;
-        Ok(rest)
+        <(Vec<CoreDumpValue, C>, Vec<CoreDumpValue, C>) as Walk<G>>::walk(after, alloc, effect)
     }
 }
 

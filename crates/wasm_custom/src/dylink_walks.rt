@@ -12,7 +12,7 @@ use crate::dylink_symbols::{DylinkExport, DylinkImport, DylinkMemory};
 use crate::named::after_name;
 use crate::standard::require_standard;
 use std::alloc::Allocator;
-use wasm_base::{DecodeError, Effect, Grammar, Walk, Readable, SizePrefixed, walk_to_end};
+use wasm_base::{DecodeError, Effect, Grammar, Readable, SizePrefixed, Walk, walk_to_end};
 
 impl<G: Grammar> Walk<G> for DylinkMemory {
     fn walk<'a, A: Allocator + Copy, E: Effect>(
@@ -20,8 +20,7 @@ impl<G: Grammar> Walk<G> for DylinkMemory {
         alloc: A,
         effect: &mut E,
     ) -> Result<&'a [u8], DecodeError> {
-        let rest = <((u32, u32), (u32, u32)) as Walk<G>>::walk(bytes, alloc, effect)?;
-        Ok(rest)
+        <((u32, u32), (u32, u32)) as Walk<G>>::walk(bytes, alloc, effect)
     }
 }
 
@@ -36,8 +35,7 @@ impl<'s, G: Grammar> Walk<G> for DylinkExport<'s> {
         ensures no_memory { IfErr result (λ e. e.cause ≡ Memory → E.may_fail) }
         ensures front { Keeps E.seen effect.old effect.new }
     {
-        let rest = <(&'a str, u32) as Walk<G>>::walk(bytes, alloc, effect)?;
-        Ok(rest)
+        <(&'a str, u32) as Walk<G>>::walk(bytes, alloc, effect)
     }
 }
 
@@ -52,8 +50,7 @@ impl<'s, G: Grammar> Walk<G> for DylinkImport<'s> {
         ensures no_memory { IfErr result (λ e. e.cause ≡ Memory → E.may_fail) }
         ensures front { Keeps E.seen effect.old effect.new }
     {
-        let rest = <(&'a str, (&'a str, u32)) as Walk<G>>::walk(bytes, alloc, effect)?;
-        Ok(rest)
+        <(&'a str, (&'a str, u32)) as Walk<G>>::walk(bytes, alloc, effect)
     }
 }
 
@@ -72,40 +69,14 @@ impl<'s, G: Grammar, C: Allocator> Walk<G> for DylinkItem<'s, C> {
         let (id, rest) = <u8 as Readable<'a, A, G>>::read(bytes, alloc)?;
         effect.put(&id)?;
         match id {
-            1 => {
-                let rest = <SizePrefixed<DylinkMemory> as Walk<G>>::walk(
-                    rest, alloc, effect,
-                )?;
-                Ok(rest)
-            }
-            2 => {
-                let rest = <SizePrefixed<Vec<&'a str, C>> as Walk<G>>::walk(
-                    rest, alloc, effect,
-                )?;
-                Ok(rest)
-            }
-            3 => {
-                let rest = <SizePrefixed<Vec<DylinkExport<'a>, C>> as Walk<G>>::walk(
-                    rest, alloc, effect,
-                )?;
-                Ok(rest)
-            }
-            4 => {
-                let rest = <SizePrefixed<Vec<DylinkImport<'a>, C>> as Walk<G>>::walk(
-                    rest, alloc, effect,
-                )?;
-                Ok(rest)
-            }
-            5 => {
-                let rest = <SizePrefixed<Vec<&'a str, C>> as Walk<G>>::walk(
-                    rest, alloc, effect,
-                )?;
-                Ok(rest)
-            }
+            1 => <SizePrefixed<DylinkMemory> as Walk<G>>::walk(rest, alloc, effect),
+            2 => <SizePrefixed<Vec<&'a str, C>> as Walk<G>>::walk(rest, alloc, effect),
+            3 => <SizePrefixed<Vec<DylinkExport<'a>, C>> as Walk<G>>::walk(rest, alloc, effect),
+            4 => <SizePrefixed<Vec<DylinkImport<'a>, C>> as Walk<G>>::walk(rest, alloc, effect),
+            5 => <SizePrefixed<Vec<&'a str, C>> as Walk<G>>::walk(rest, alloc, effect),
             _ => {
                 require_standard::<G>(rest)?;
-                let rest = <&'a [u8] as Walk<G>>::walk(rest, alloc, effect)?;
-                Ok(rest)
+                <&'a [u8] as Walk<G>>::walk(rest, alloc, effect)
             }
         }
     }
@@ -129,6 +100,5 @@ pub fn walk_dylink<'a, A: Allocator + Copy, G: Grammar, E: Effect>(
 {
     let rest = after_name::<A, G>("dylink.0", bytes, alloc)?;
     effect.put(&"dylink.0")?;
-    walk_to_end::<DylinkItem<'a, A>, A, G, _>(rest, alloc, effect)?;
-    Ok(())
+    walk_to_end::<DylinkItem<'a, A>, A, G, _>(rest, alloc, effect)
 }

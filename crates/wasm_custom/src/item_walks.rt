@@ -17,8 +17,7 @@ use crate::relocations::Relocation;
 use crate::target_features::FeaturePrefix;
 use std::alloc::Allocator;
 use wasm_base::{
-    DecodeError, Effect, Grammar, Walk, ReadFault, Readable, Shared, walk_shared,
-    walk_whole,
+    DecodeError, Effect, Grammar, ReadFault, Readable, Shared, Walk, walk_shared, walk_whole,
 };
 
 /// Walks over the payload of a section of this name with a vector of items. No item is kept.
@@ -36,8 +35,7 @@ pub(crate) fn walk_counted<'a, T: Walk<G>, A: Allocator + Copy, G: Grammar, E: E
 {
     let rest = after_name::<A, G>(name, bytes, alloc)?;
     effect.put(&name)?;
-    walk_whole::<Vec<T, A>, A, G, _>(rest, alloc, effect)?;
-    Ok(())
+    walk_whole::<Vec<T, A>, A, G, _>(rest, alloc, effect)
 }
 
 /// Walks over the payload of a producers section, in the grammar `G`.
@@ -116,8 +114,7 @@ impl<G: Grammar> Walk<G> for BranchHint {
         effect: &mut E,
     ) -> Result<&'a [u8], DecodeError> {
         let after = <u32 as Walk<G>>::walk(bytes, alloc, effect)?;
-        let rest = walk_marked::<HintValue, A, G, _>(0x01, after, alloc, effect)?;
-        Ok(rest)
+        walk_marked::<HintValue, A, G, _>(0x01, after, alloc, effect)
     }
 }
 
@@ -180,6 +177,5 @@ pub fn walk_relocations<'a, A: Allocator + Copy, G: Grammar, E: Effect>(
         return Err(ReadFault::UnknownTag.at(name.as_bytes()).before(rest));
     }
     effect.put(&name)?;
-    walk_whole::<(u32, Vec<Relocation, A>), A, G, _>(rest, alloc, effect)?;
-    Ok(())
+    walk_whole::<(u32, Vec<Relocation, A>), A, G, _>(rest, alloc, effect)
 }

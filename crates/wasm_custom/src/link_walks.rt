@@ -20,8 +20,7 @@ use crate::standard::require_standard;
 use crate::symbols::Symbol;
 use std::alloc::Allocator;
 use wasm_base::{
-    DecodeError, Effect, Grammar, Walk, Readable, Shared, SizePrefixed, walk_shared,
-    walk_to_end,
+    DecodeError, Effect, Grammar, Readable, Shared, SizePrefixed, Walk, walk_shared, walk_to_end,
 };
 
 impl<'s, G: Grammar> Walk<G> for SegmentInfo<'s> {
@@ -35,8 +34,7 @@ impl<'s, G: Grammar> Walk<G> for SegmentInfo<'s> {
         ensures no_memory { IfErr result (λ e. e.cause ≡ Memory → E.may_fail) }
         ensures front { Keeps E.seen effect.old effect.new }
     {
-        let rest = <(&'a str, (u32, u32)) as Walk<G>>::walk(bytes, alloc, effect)?;
-        Ok(rest)
+        <(&'a str, (u32, u32)) as Walk<G>>::walk(bytes, alloc, effect)
     }
 }
 
@@ -46,8 +44,7 @@ impl<G: Grammar> Walk<G> for InitFunction {
         alloc: A,
         effect: &mut E,
     ) -> Result<&'a [u8], DecodeError> {
-        let rest = <(u32, u32) as Walk<G>>::walk(bytes, alloc, effect)?;
-        Ok(rest)
+        <(u32, u32) as Walk<G>>::walk(bytes, alloc, effect)
     }
 }
 
@@ -76,10 +73,7 @@ impl<'s, G: Grammar, C: Allocator> Walk<G> for Comdat<'s, C> {
         ensures no_memory { IfErr result (λ e. e.cause ≡ Memory → E.may_fail) }
         ensures front { Keeps E.seen effect.old effect.new }
     {
-        let rest = <(&'a str, (u32, Vec<ComdatSymbol, C>)) as Walk<G>>::walk(
-            bytes, alloc, effect,
-        )?;
-        Ok(rest)
+        <(&'a str, (u32, Vec<ComdatSymbol, C>)) as Walk<G>>::walk(bytes, alloc, effect)
     }
 }
 
@@ -121,39 +115,21 @@ impl<'s, G: Grammar, C: Allocator> Walk<G> for LinkItem<'s, C> {
         match id {
             5 => {
                 require_standard::<G>(rest)?;
-                let rest = <SizePrefixed<Vec<SegmentInfo<'a>, C>> as Walk<G>>::walk(
-                    rest, alloc, effect,
-                )?;
-                Ok(rest)
+                <SizePrefixed<Vec<SegmentInfo<'a>, C>> as Walk<G>>::walk(rest, alloc, effect)
             }
             6 => {
                 require_standard::<G>(rest)?;
-                let rest = <SizePrefixed<Vec<InitFunction, C>> as Walk<G>>::walk(
-                    rest, alloc, effect,
-                )?;
-                Ok(rest)
+                <SizePrefixed<Vec<InitFunction, C>> as Walk<G>>::walk(rest, alloc, effect)
             }
             7 => {
                 require_standard::<G>(rest)?;
-                let rest = <SizePrefixed<Vec<Comdat<'a, C>, C>> as Walk<G>>::walk(
-                    rest, alloc, effect,
-                )?;
-                Ok(rest)
+                <SizePrefixed<Vec<Comdat<'a, C>, C>> as Walk<G>>::walk(rest, alloc, effect)
             }
-            8 => {
-                let rest = <SizePrefixed<Vec<Symbol<'a>, C>> as Walk<G>>::walk(
-                    rest, alloc, effect,
-                )?;
-                Ok(rest)
-            }
-            9 => {
-                let rest = <SizePrefixed<&'a str> as Walk<G>>::walk(rest, alloc, effect)?;
-                Ok(rest)
-            }
+            8 => <SizePrefixed<Vec<Symbol<'a>, C>> as Walk<G>>::walk(rest, alloc, effect),
+            9 => <SizePrefixed<&'a str> as Walk<G>>::walk(rest, alloc, effect),
             _ => {
                 require_standard::<G>(rest)?;
-                let rest = <&'a [u8] as Walk<G>>::walk(rest, alloc, effect)?;
-                Ok(rest)
+                <&'a [u8] as Walk<G>>::walk(rest, alloc, effect)
             }
         }
     }
@@ -179,6 +155,5 @@ pub fn walk_links<'a, A: Allocator + Copy, G: Grammar, E: Effect>(
     let rest = after_version::<A, G>(rest, alloc)?;
     effect.put(&"linking")?;
     effect.put(&VERSION)?;
-    walk_to_end::<LinkItem<'a, A>, A, G, _>(rest, alloc, effect)?;
-    Ok(())
+    walk_to_end::<LinkItem<'a, A>, A, G, _>(rest, alloc, effect)
 }

@@ -10,7 +10,7 @@ ghost use Rattle.wasm_custom.specs.Names.{kind_as, after_id, subsection, name_pa
 use crate::named::after_name;
 use crate::names::{NameItem, NameKind, name_kind_of};
 use std::alloc::Allocator;
-use wasm_base::{DecodeError, Effect, Grammar, Walk, Readable, SizePrefixed, walk_to_end};
+use wasm_base::{DecodeError, Effect, Grammar, Readable, SizePrefixed, Walk, walk_to_end};
 
 /// Walks over the size-prefixed content of a subsection of this kind.
 fn walk_after_id<'a, A: Allocator + Copy, G: Grammar, E: Effect>(
@@ -51,8 +51,7 @@ impl<'s, G: Grammar, C: Allocator> Walk<G> for NameItem<'s, C> {
     {
         let (id, after) = <u8 as Readable<'a, A, G>>::read(bytes, alloc)?;
         effect.put(&id)?;
-        let rest = walk_after_id::<A, G, _>(name_kind_of(id), id, after, alloc, effect)?;
-        Ok(rest)
+        walk_after_id::<A, G, _>(name_kind_of(id), id, after, alloc, effect)
     }
 }
 
@@ -74,6 +73,5 @@ pub fn walk_names<'a, A: Allocator + Copy, G: Grammar, E: Effect>(
 {
     let rest = after_name::<A, G>("name", bytes, alloc)?;
     effect.put(&"name")?;
-    walk_to_end::<NameItem<'a, A>, A, G, _>(rest, alloc, effect)?;
-    Ok(())
+    walk_to_end::<NameItem<'a, A>, A, G, _>(rest, alloc, effect)
 }

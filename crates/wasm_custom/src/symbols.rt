@@ -489,15 +489,11 @@ fn append_section<B: Allocator>(flags: u32, section: u32, sink: &mut Vec<u8, B>)
     section.write_minimal(sink)
 }
 
-impl Symbol<'_> {
-    /// Appends the minimal encoding of the symbol, of any kind. After an error, part of it may
-    /// follow the old bytes of the sink.
+impl<'a> Shorten for Symbol<'a> {
+    ghost grammars = { both_grammars };
+
     #[tactic(auto, using(crate::proofs::SymbolLaws::short_steps))]
-    pub(crate) fn append<B: Allocator>(&self, sink: &mut Vec<u8, B>) -> Result<()>
-        ensures ok { OnOk result (AppendsMinimal both_grammars symbol (symbol_view self.now) sink.old.items sink.new.items) }
-        ensures front { IsFrontOf sink.old.items sink.new.items }
-        ensures too_long { HasEncoding both_grammars symbol (symbol_view self.now) → result ≢ Err TooLong }
-    {
+    fn write_minimal<B: Allocator>(&self, sink: &mut Vec<u8, B>) -> Result<()> {
         match *self {
             Symbol::Function { flags, index, name } => {
                 append_indexed(SymbolKind::Function, flags, index, name, sink)
@@ -518,13 +514,5 @@ impl Symbol<'_> {
                 append_indexed(SymbolKind::Tag, flags, index, name, sink)
             }
         }
-    }
-}
-
-impl<'a> Shorten for Symbol<'a> {
-    ghost grammars = { both_grammars };
-
-    fn write_minimal<B: Allocator>(&self, sink: &mut Vec<u8, B>) -> Result<()> {
-        self.append(sink)
     }
 }

@@ -1,11 +1,11 @@
-use Rattle.wasm_base.proofs.Words.{fault_stays}
 use Rattle.wasm_base.proofs.WalkLaws.{mapped_walks}
+use Rattle.wasm_base.proofs.Words.{if_ok_more, if_err_more}
 use Rattle.wasm_custom.specs.{export_flags_of}
 use Rattle.wasm_custom.proofs.DylinkLaws.{export_flags_none}
 use Rattle.wasm_custom.proofs.dylink_walks.DylinkExportWalk.walk.Goals as goal
 
-pub returns-in_err-rest-clause-none : goal.returns-in_err-rest-clause-none
-returns-in_err-rest-clause-none g c = fault_stays c.from_residual.result _ c.from_residual.ensures.1 λ n. export_flags_none c.args.bytes.now (c.in_err-rest.ensures.none n)
-
 pub returns-clause-found : goal.returns-clause-found
-returns-clause-found g c = mapped_walks export_flags_of c.in_ok-rest.ensures.found
+returns-clause-found g c = if_ok_more c.walk.result (λ rest h. mapped_walks export_flags_of h) c.walk.ensures.found
+
+pub returns-clause-none : goal.returns-clause-none
+returns-clause-none g c = if_err_more c.walk.result (λ e none n. export_flags_none c.args.bytes.now (none n)) c.walk.ensures.none

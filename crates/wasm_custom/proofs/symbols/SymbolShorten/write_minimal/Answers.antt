@@ -1,5 +1,5 @@
 use Rattle.wasm_custom.proofs.Common.{subst, HasEncoding, both_grammars, symbol, symbol_view, indexed_kind_encoded, Function, Global, Table, Tag}
-use Rattle.wasm_custom.proofs.symbols.Symbol.append.Goals as goal
+use Rattle.wasm_custom.proofs.symbols.SymbolShorten.write_minimal.Goals as goal
 
 pub returns-in-Function-clause-too_long : goal.returns-in-Function-clause-too_long
 returns-in-Function-clause-too_long g c = λ h. c.append_indexed.ensures.too_long (indexed_kind_encoded Function _ _ _ (subst (λ x. HasEncoding both_grammars symbol (symbol_view x)) c.in-Function.is h))
