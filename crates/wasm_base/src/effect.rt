@@ -133,27 +133,27 @@ impl<A: Allocator> Effect for Vec<u8, A> {
 
     ghost some = { λ e. (e.items, refl) };
 
-    #[inline]
+    #[inline(always)]
     fn put<T: Encode>(&mut self, value: &T) -> Result<()> {
         value.encode(self)
     }
 
-    #[inline]
+    #[inline(always)]
     fn put_in<G: Grammar, T: EncodeIn<G>>(&mut self, value: &T) -> Result<()> {
         value.encode_in(self)
     }
 
-    #[inline]
+    #[inline(always)]
     fn put_minimal<T: Shorten>(&mut self, value: &T) -> Result<()> {
         value.write_minimal(self)
     }
 
-    #[inline]
+    #[inline(always)]
     fn position(&self) -> usize {
         self.len()
     }
 
-    #[inline]
+    #[inline(always)]
     fn prefix_size(&mut self, start: usize) -> Result<()> {
         prefix_size_since(self, start)
     }

@@ -102,7 +102,7 @@ pub(crate) fn walk_any<'a, A: Allocator + Copy, G: Grammar, E: Effect>(
 }
 
 /// Walks over the arguments of an opcode of this shape. Common shapes have a case of their own.
-#[inline]
+#[inline(always)]
 #[tactic(auto, using(wasm_base::proofs::WalkLaws::keep_steps))]
 fn walk_arguments<'a, A: Allocator + Copy, G: Grammar, E: Effect>(
     shape: Shape,
@@ -128,7 +128,7 @@ fn walk_arguments<'a, A: Allocator + Copy, G: Grammar, E: Effect>(
 
 /// Walks over an instruction whose encoding the effect takes.
 #[tactic(auto, using(wasm_base::proofs::WalkLaws::keep_steps, crate::proofs::DecodeInstructions::instruction_steps))]
-#[inline]
+#[inline(always)]
 fn walk_written<'a, A: Allocator + Copy, G: Grammar, E: Effect>(
     bytes: &'a [u8],
     alloc: A,

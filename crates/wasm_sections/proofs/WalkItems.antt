@@ -210,6 +210,9 @@ front_of_other seen (suc n) old new other e = e
 abbrev flag_walks : {E : Type 0} {seen : E → List ℕ → Type 0} {w : Grammar} (f : ElementFlag) {bytes rest : List ℕ} {old new : E} → Decodes (numbered flag_code) (padded_of w) bytes f rest → TakesBytes seen (unsigned_encoding (flag_code f)) old new → Walks seen w (numbered flag_code) bytes rest old new
 flag_walks {seen = seen} {w = w} f {bytes = bytes} {rest = rest} {old = old} {new = new} h e = walked_as seen w (numbered flag_code) f bytes rest (unsigned_encoding (flag_code f)) old new h (u32_canonical.minimal_in w h.front (flag_code f) h.encodes) e
 
+pub code_taken : {E : Type 0} {seen : E → List ℕ → Type 0} {n m : ℕ} {old new : E} → n ≡ m → TakesBytes seen (unsigned_encoding n) old new → TakesBytes seen (unsigned_encoding m) old new
+code_taken {seen = seen} {old = old} {new = new} e t = subst (λ n. TakesBytes seen (unsigned_encoding n) old new) e t
+
 abbrev segment_mode_at : Bool → Bool → Format (SegmentMode (List Plain))
 segment_mode_at a b = when a (when b (fixed [] declared) (fixed [] inactive)) (when b (mapped in_table (pair u32 expression)) (mapped in_no_table expression))
 

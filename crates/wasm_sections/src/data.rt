@@ -1,4 +1,4 @@
-// The data section: its builder, its reader and its minimizer.
+// The data section: its builder and its reader.
 ghost use Rattle.std.specs.Prelude.{◌≡◌, ◌≢◌, ℕ, List, ◌++◌, IfOk, ⊤, IfErr, Err, OnOk, map};
 ghost use Rattle.std.specs.Bool.{Decides};
 ghost use Rattle.wasm_base.specs.Calls.{Adds};

@@ -1,4 +1,4 @@
-// The reader and the minimizer of the element section.
+// The reader of the element section.
 ghost use Rattle.std.specs.Prelude.{◌≡◌, true, false, ◌≢◌, List, IfOk, IfErr, Err, OnOk, map};
 ghost use Rattle.wasm_base.specs.Formats.{is_given, numbered};
 ghost use Rattle.wasm_base.specs.Numbers.{padded_of};

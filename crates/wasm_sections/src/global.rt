@@ -1,4 +1,4 @@
-// The global section: its builder, its reader and its minimizer.
+// The global section: its builder and its reader.
 ghost use Rattle.std.specs.Prelude.{◌≡◌, ◌++◌, ⊤};
 ghost use Rattle.wasm_base.specs.Calls.{Adds};
 ghost use Rattle.wasm_base.specs.Formats.{coded};

@@ -1,9 +1,8 @@
 //! The core sections of a WebAssembly module but for types and code, by the core specification,
 //! "Binary Format", "Modules".
 //!
-//! Each section has a builder. The crate also decodes their items (`Readable` of
-//! `wasm_base`), skips them (`Skip`), and writes decoded ones in their minimal encoding
-//! (`Shorten`), or appends it while it decodes them (`Minimize`).
+//! Each section has a builder. The crate also decodes their items (`Readable` of `wasm_base`), walks
+//! over them (`Walk`), and writes decoded ones in their minimal encoding (`Shorten`).
 #![tactic(auto)]
 
 mod counted_section;

@@ -32,8 +32,7 @@ impl<'s, G: Grammar> Walk<G> for MarkedName<'s> {
         alloc: A,
         effect: &mut E,
     ) -> Result<&'a [u8], DecodeError> {
-        let rest = walk_marked::<&'a str, A, G, _>(0x00, bytes, alloc, effect)?;
-        Ok(rest)
+        walk_marked::<&'a str, A, G, _>(0x00, bytes, alloc, effect)
     }
 }
 
@@ -101,10 +100,7 @@ impl<G: Grammar, C: Allocator> Walk<G> for CoreInstance<C> {
         alloc: A,
         effect: &mut E,
     ) -> Result<&'a [u8], DecodeError> {
-        let rest = walk_marked::<(u32, (Vec<u32, C>, Vec<u32, C>)), A, G, _>(
-            0x00, bytes, alloc, effect,
-        )?;
-        Ok(rest)
+        walk_marked::<(u32, (Vec<u32, C>, Vec<u32, C>)), A, G, _>(0x00, bytes, alloc, effect)
     }
 }
 
@@ -158,10 +154,7 @@ impl<G: Grammar, C: Allocator> Walk<G> for CoreFrame<C> {
         effect: &mut E,
     ) -> Result<&'a [u8], DecodeError> {
         let after = walk_marked::<(u32, (u32, u32)), A, G, _>(0x00, bytes, alloc, effect)?;
-        let rest = <(Vec<CoreDumpValue, C>, Vec<CoreDumpValue, C>) as Walk<G>>::walk(
-            after, alloc, effect,
-        )?;
-        Ok(rest)
+        <(Vec<CoreDumpValue, C>, Vec<CoreDumpValue, C>) as Walk<G>>::walk(after, alloc, effect)
     }
 }
 

@@ -7,7 +7,7 @@ use crate::custom::dylink_symbols::{DylinkExport, DylinkImport, DylinkMemory};
 use crate::custom::named::after_name;
 use crate::custom::standard::require_standard;
 use crate::alloc::Allocator;
-use crate::base::{DecodeError, Effect, Grammar, Walk, Readable, SizePrefixed, walk_to_end};
+use crate::base::{DecodeError, Effect, Grammar, Readable, SizePrefixed, Walk, walk_to_end};
 
 impl<G: Grammar> Walk<G> for DylinkMemory {
     fn walk<'a, A: Allocator + Copy, E: Effect>(
@@ -15,8 +15,7 @@ impl<G: Grammar> Walk<G> for DylinkMemory {
         alloc: A,
         effect: &mut E,
     ) -> Result<&'a [u8], DecodeError> {
-        let rest = <((u32, u32), (u32, u32)) as Walk<G>>::walk(bytes, alloc, effect)?;
-        Ok(rest)
+        <((u32, u32), (u32, u32)) as Walk<G>>::walk(bytes, alloc, effect)
     }
 }
 
@@ -41,8 +40,7 @@ impl<'s, G: Grammar> Walk<G> for DylinkExport<'s> {
         alloc: A,
         effect: &mut E,
     ) -> Result<&'a [u8], DecodeError> {
-        let rest = <(&'a str, u32) as Walk<G>>::walk(bytes, alloc, effect)?;
-        Ok(rest)
+        <(&'a str, u32) as Walk<G>>::walk(bytes, alloc, effect)
     }
 }
 
@@ -67,8 +65,7 @@ impl<'s, G: Grammar> Walk<G> for DylinkImport<'s> {
         alloc: A,
         effect: &mut E,
     ) -> Result<&'a [u8], DecodeError> {
-        let rest = <(&'a str, (&'a str, u32)) as Walk<G>>::walk(bytes, alloc, effect)?;
-        Ok(rest)
+        <(&'a str, (&'a str, u32)) as Walk<G>>::walk(bytes, alloc, effect)
     }
 }
 
@@ -96,40 +93,14 @@ impl<'s, G: Grammar, C: Allocator> Walk<G> for DylinkItem<'s, C> {
         let (id, rest) = <u8 as Readable<'a, A, G>>::read(bytes, alloc)?;
         effect.put(&id)?;
         match id {
-            1 => {
-                let rest = <SizePrefixed<DylinkMemory> as Walk<G>>::walk(
-                    rest, alloc, effect,
-                )?;
-                Ok(rest)
-            }
-            2 => {
-                let rest = <SizePrefixed<Vec<&'a str, C>> as Walk<G>>::walk(
-                    rest, alloc, effect,
-                )?;
-                Ok(rest)
-            }
-            3 => {
-                let rest = <SizePrefixed<Vec<DylinkExport<'a>, C>> as Walk<G>>::walk(
-                    rest, alloc, effect,
-                )?;
-                Ok(rest)
-            }
-            4 => {
-                let rest = <SizePrefixed<Vec<DylinkImport<'a>, C>> as Walk<G>>::walk(
-                    rest, alloc, effect,
-                )?;
-                Ok(rest)
-            }
-            5 => {
-                let rest = <SizePrefixed<Vec<&'a str, C>> as Walk<G>>::walk(
-                    rest, alloc, effect,
-                )?;
-                Ok(rest)
-            }
+            1 => <SizePrefixed<DylinkMemory> as Walk<G>>::walk(rest, alloc, effect),
+            2 => <SizePrefixed<Vec<&'a str, C>> as Walk<G>>::walk(rest, alloc, effect),
+            3 => <SizePrefixed<Vec<DylinkExport<'a>, C>> as Walk<G>>::walk(rest, alloc, effect),
+            4 => <SizePrefixed<Vec<DylinkImport<'a>, C>> as Walk<G>>::walk(rest, alloc, effect),
+            5 => <SizePrefixed<Vec<&'a str, C>> as Walk<G>>::walk(rest, alloc, effect),
             _ => {
                 require_standard::<G>(rest)?;
-                let rest = <&'a [u8] as Walk<G>>::walk(rest, alloc, effect)?;
-                Ok(rest)
+                <&'a [u8] as Walk<G>>::walk(rest, alloc, effect)
             }
         }
     }
@@ -163,6 +134,5 @@ pub fn walk_dylink<'a, A: Allocator + Copy, G: Grammar, E: Effect>(
 ) -> Result<(), DecodeError> {
     let rest = after_name::<A, G>("dylink.0", bytes, alloc)?;
     effect.put(&"dylink.0")?;
-    walk_to_end::<DylinkItem<'a, A>, A, G, _>(rest, alloc, effect)?;
-    Ok(())
+    walk_to_end::<DylinkItem<'a, A>, A, G, _>(rest, alloc, effect)
 }

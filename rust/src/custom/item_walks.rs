@@ -8,7 +8,7 @@ use crate::custom::named::after_name;
 use crate::custom::relocations::Relocation;
 use crate::custom::target_features::FeaturePrefix;
 use crate::alloc::Allocator;
-use crate::base::{DecodeError, Effect, Grammar, Walk, ReadFault, Readable, Shared, walk_shared, walk_whole};
+use crate::base::{DecodeError, Effect, Grammar, ReadFault, Readable, Shared, Walk, walk_shared, walk_whole};
 
 /// Walks over the payload of a section of this name with a vector of items. No item is kept.
 ///
@@ -36,8 +36,7 @@ pub(crate) fn walk_counted<'a, T: Walk<G>, A: Allocator + Copy, G: Grammar, E: E
 ) -> Result<(), DecodeError> {
     let rest = after_name::<A, G>(name, bytes, alloc)?;
     effect.put(&name)?;
-    walk_whole::<Vec<T, A>, A, G, _>(rest, alloc, effect)?;
-    Ok(())
+    walk_whole::<Vec<T, A>, A, G, _>(rest, alloc, effect)
 }
 
 /// Walks over the payload of a producers section, in the grammar `G`.
@@ -136,8 +135,7 @@ impl<G: Grammar> Walk<G> for BranchHint {
         effect: &mut E,
     ) -> Result<&'a [u8], DecodeError> {
         let after = <u32 as Walk<G>>::walk(bytes, alloc, effect)?;
-        let rest = walk_marked::<HintValue, A, G, _>(0x01, after, alloc, effect)?;
-        Ok(rest)
+        walk_marked::<HintValue, A, G, _>(0x01, after, alloc, effect)
     }
 }
 
@@ -221,6 +219,5 @@ pub fn walk_relocations<'a, A: Allocator + Copy, G: Grammar, E: Effect>(
         return Err(ReadFault::UnknownTag.at(name.as_bytes()).before(rest));
     }
     effect.put(&name)?;
-    walk_whole::<(u32, Vec<Relocation, A>), A, G, _>(rest, alloc, effect)?;
-    Ok(())
+    walk_whole::<(u32, Vec<Relocation, A>), A, G, _>(rest, alloc, effect)
 }

@@ -10,7 +10,7 @@ use crate::custom::segments::SegmentInfo;
 use crate::custom::standard::require_standard;
 use crate::custom::symbols::Symbol;
 use crate::alloc::Allocator;
-use crate::base::{DecodeError, Effect, Grammar, Walk, Readable, Shared, SizePrefixed, walk_shared, walk_to_end};
+use crate::base::{DecodeError, Effect, Grammar, Readable, Shared, SizePrefixed, Walk, walk_shared, walk_to_end};
 
 impl<'s, G: Grammar> Walk<G> for SegmentInfo<'s> {
     /// # Proved
@@ -32,8 +32,7 @@ impl<'s, G: Grammar> Walk<G> for SegmentInfo<'s> {
         alloc: A,
         effect: &mut E,
     ) -> Result<&'a [u8], DecodeError> {
-        let rest = <(&'a str, (u32, u32)) as Walk<G>>::walk(bytes, alloc, effect)?;
-        Ok(rest)
+        <(&'a str, (u32, u32)) as Walk<G>>::walk(bytes, alloc, effect)
     }
 }
 
@@ -43,8 +42,7 @@ impl<G: Grammar> Walk<G> for InitFunction {
         alloc: A,
         effect: &mut E,
     ) -> Result<&'a [u8], DecodeError> {
-        let rest = <(u32, u32) as Walk<G>>::walk(bytes, alloc, effect)?;
-        Ok(rest)
+        <(u32, u32) as Walk<G>>::walk(bytes, alloc, effect)
     }
 }
 
@@ -82,10 +80,7 @@ impl<'s, G: Grammar, C: Allocator> Walk<G> for Comdat<'s, C> {
         alloc: A,
         effect: &mut E,
     ) -> Result<&'a [u8], DecodeError> {
-        let rest = <(&'a str, (u32, Vec<ComdatSymbol, C>)) as Walk<G>>::walk(
-            bytes, alloc, effect,
-        )?;
-        Ok(rest)
+        <(&'a str, (u32, Vec<ComdatSymbol, C>)) as Walk<G>>::walk(bytes, alloc, effect)
     }
 }
 
@@ -149,39 +144,21 @@ impl<'s, G: Grammar, C: Allocator> Walk<G> for LinkItem<'s, C> {
         match id {
             5 => {
                 require_standard::<G>(rest)?;
-                let rest = <SizePrefixed<Vec<SegmentInfo<'a>, C>> as Walk<G>>::walk(
-                    rest, alloc, effect,
-                )?;
-                Ok(rest)
+                <SizePrefixed<Vec<SegmentInfo<'a>, C>> as Walk<G>>::walk(rest, alloc, effect)
             }
             6 => {
                 require_standard::<G>(rest)?;
-                let rest = <SizePrefixed<Vec<InitFunction, C>> as Walk<G>>::walk(
-                    rest, alloc, effect,
-                )?;
-                Ok(rest)
+                <SizePrefixed<Vec<InitFunction, C>> as Walk<G>>::walk(rest, alloc, effect)
             }
             7 => {
                 require_standard::<G>(rest)?;
-                let rest = <SizePrefixed<Vec<Comdat<'a, C>, C>> as Walk<G>>::walk(
-                    rest, alloc, effect,
-                )?;
-                Ok(rest)
+                <SizePrefixed<Vec<Comdat<'a, C>, C>> as Walk<G>>::walk(rest, alloc, effect)
             }
-            8 => {
-                let rest = <SizePrefixed<Vec<Symbol<'a>, C>> as Walk<G>>::walk(
-                    rest, alloc, effect,
-                )?;
-                Ok(rest)
-            }
-            9 => {
-                let rest = <SizePrefixed<&'a str> as Walk<G>>::walk(rest, alloc, effect)?;
-                Ok(rest)
-            }
+            8 => <SizePrefixed<Vec<Symbol<'a>, C>> as Walk<G>>::walk(rest, alloc, effect),
+            9 => <SizePrefixed<&'a str> as Walk<G>>::walk(rest, alloc, effect),
             _ => {
                 require_standard::<G>(rest)?;
-                let rest = <&'a [u8] as Walk<G>>::walk(rest, alloc, effect)?;
-                Ok(rest)
+                <&'a [u8] as Walk<G>>::walk(rest, alloc, effect)
             }
         }
     }
@@ -217,6 +194,5 @@ pub fn walk_links<'a, A: Allocator + Copy, G: Grammar, E: Effect>(
     let rest = after_version::<A, G>(rest, alloc)?;
     effect.put(&"linking")?;
     effect.put(&VERSION)?;
-    walk_to_end::<LinkItem<'a, A>, A, G, _>(rest, alloc, effect)?;
-    Ok(())
+    walk_to_end::<LinkItem<'a, A>, A, G, _>(rest, alloc, effect)
 }

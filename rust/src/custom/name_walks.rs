@@ -5,7 +5,7 @@ use crate::vec::Vec;
 use crate::custom::named::after_name;
 use crate::custom::names::{NameItem, NameKind, name_kind_of};
 use crate::alloc::Allocator;
-use crate::base::{DecodeError, Effect, Grammar, Walk, Readable, SizePrefixed, walk_to_end};
+use crate::base::{DecodeError, Effect, Grammar, Readable, SizePrefixed, Walk, walk_to_end};
 
 /// Walks over the size-prefixed content of a subsection of this kind.
 ///
@@ -67,8 +67,7 @@ impl<'s, G: Grammar, C: Allocator> Walk<G> for NameItem<'s, C> {
     ) -> Result<&'a [u8], DecodeError> {
         let (id, after) = <u8 as Readable<'a, A, G>>::read(bytes, alloc)?;
         effect.put(&id)?;
-        let rest = walk_after_id::<A, G, _>(name_kind_of(id), id, after, alloc, effect)?;
-        Ok(rest)
+        walk_after_id::<A, G, _>(name_kind_of(id), id, after, alloc, effect)
     }
 }
 
@@ -100,6 +99,5 @@ pub fn walk_names<'a, A: Allocator + Copy, G: Grammar, E: Effect>(
 ) -> Result<(), DecodeError> {
     let rest = after_name::<A, G>("name", bytes, alloc)?;
     effect.put(&"name")?;
-    walk_to_end::<NameItem<'a, A>, A, G, _>(rest, alloc, effect)?;
-    Ok(())
+    walk_to_end::<NameItem<'a, A>, A, G, _>(rest, alloc, effect)
 }

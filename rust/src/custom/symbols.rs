@@ -825,27 +825,15 @@ fn append_section<B: Sink>(flags: u32, section: u32, sink: &mut B) -> Result<()>
     section.write_minimal(sink)
 }
 
-impl Symbol<'_> {
-    /// Appends the minimal encoding of the symbol, of any kind. After an error, part of it may
-    /// follow the old bytes of the sink.
-    ///
-    /// # Proved
-    ///
-    /// - After `Ok`, `ok`: the sink gains the encoding that is minimal in both grammars.
-    /// - `front`: The new bytes begin with the old ones.
-    /// - `too_long`: a value that has an encoding never gives `TooLong`.
-    ///
-    /// ```text
-    /// ensures ok { OnOk result
-    ///     (AppendsMinimal both_grammars symbol
-    ///         (symbol_view self.now) sink.old.items sink.new.items) }
-    /// ensures front { IsFrontOf sink.old.items sink.new.items }
-    /// ensures too_long { HasEncoding both_grammars symbol (symbol_view self.now)
-    ///     → result ≢ Err TooLong }
-    /// ```
-    ///
-    /// Definitions: [`AppendsMinimal`](crate::definitions::base::minimal::AppendsMinimal), [`both_grammars`](crate::definitions::base::minimal::Grammars), [`symbol`](crate::definitions::custom::symbols::symbol), [`symbol_view`](crate::definitions::custom::symbols::symbol_view), [`IsFrontOf`](crate::definitions::base::minimal::IsFrontOf), [`HasEncoding`](crate::definitions::base::minimal::HasEncoding). [How to read clauses](crate::definitions).
-    pub(crate) fn append<B: Sink>(&self, sink: &mut B) -> Result<()> {
+/// # Defined
+///
+/// ```text
+/// grammars = { both_grammars }
+/// ```
+///
+/// Definitions: [`both_grammars`](crate::definitions::base::minimal::Grammars). [How to read clauses](crate::definitions).
+impl<'a> Shorten for Symbol<'a> {
+    fn write_minimal<B: Sink>(&self, sink: &mut B) -> Result<()> {
         match self.clone() {
             Symbol::Function { flags, index, name } => {
                 append_indexed(SymbolKind::Function, flags, index, name, sink)
@@ -866,18 +854,5 @@ impl Symbol<'_> {
                 append_indexed(SymbolKind::Tag, flags, index, name, sink)
             }
         }
-    }
-}
-
-/// # Defined
-///
-/// ```text
-/// grammars = { both_grammars }
-/// ```
-///
-/// Definitions: [`both_grammars`](crate::definitions::base::minimal::Grammars). [How to read clauses](crate::definitions).
-impl<'a> Shorten for Symbol<'a> {
-    fn write_minimal<B: Sink>(&self, sink: &mut B) -> Result<()> {
-        self.append(sink)
     }
 }

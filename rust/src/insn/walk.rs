@@ -163,7 +163,7 @@ pub(crate) fn walk_any<'a, A: Allocator + Copy, G: Grammar, E: Effect>(
 /// ```
 ///
 /// Definitions: [`Walks`](crate::definitions::base::walks::Walks), [`arguments`](crate::definitions::insn::plain::arguments), [`parts_of`](crate::definitions::insn::parts::parts_of), [`Rejects`](crate::definitions::base::decoding::Rejects), [`padded_of`](crate::definitions::base::numbers::padded_of), [`Keeps`](crate::definitions::base::walks::Keeps). [How to read clauses](crate::definitions).
-#[inline]
+#[inline(always)]
 fn walk_arguments<'a, A: Allocator + Copy, G: Grammar, E: Effect>(
     shape: Shape,
     bytes: &'a [u8],
@@ -199,7 +199,7 @@ fn walk_arguments<'a, A: Allocator + Copy, G: Grammar, E: Effect>(
 /// ```
 ///
 /// Definitions: [`Walks`](crate::definitions::base::walks::Walks), [`instruction`](crate::definitions::insn::plain::instruction), [`table`](crate::definitions::insn::table::table), [`Rejects`](crate::definitions::base::decoding::Rejects), [`padded_of`](crate::definitions::base::numbers::padded_of), [`Keeps`](crate::definitions::base::walks::Keeps). [How to read clauses](crate::definitions).
-#[inline]
+#[inline(always)]
 fn walk_written<'a, A: Allocator + Copy, G: Grammar, E: Effect>(
     bytes: &'a [u8],
     alloc: A,

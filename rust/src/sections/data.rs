@@ -1,5 +1,5 @@
 // Written by tools/to-rust from crates/wasm_sections/src/data.rt: change that.
-// The data section: its builder, its reader and its minimizer.
+// The data section: its builder and its reader.
 
 use crate::vec::{Sink, Vec};
 use crate::sections::counted_section::{CountedSection, ItemKind};

@@ -1,5 +1,5 @@
 // Written by tools/to-rust from crates/wasm_sections/src/element_items.rt: change that.
-// The reader and the minimizer of the element section.
+// The reader of the element section.
 
 use crate::vec::{Sink, Vec};
 use crate::alloc::{Allocator, Global};

@@ -1,5 +1,5 @@
 // Written by tools/to-rust from crates/wasm_sections/src/global.rt: change that.
-// The global section: its builder, its reader and its minimizer.
+// The global section: its builder and its reader.
 
 use crate::vec::Sink;
 use crate::sections::counted_section::{CountedSection, ItemKind};

@@ -1,5 +1,5 @@
 // Written by tools/to-rust from crates/wasm_sections/src/import.rt: change that.
-// The import section: its builder, its reader and its minimizer.
+// The import section: its builder and its reader.
 
 use crate::vec::{Sink, Vec};
 use crate::sections::counted_section::{CountedSection, ItemKind, RecordOf};

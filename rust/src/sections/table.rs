@@ -1,5 +1,5 @@
 // Written by tools/to-rust from crates/wasm_sections/src/table.rt: change that.
-// The table section: its builder, its reader and its minimizer.
+// The table section: its builder and its reader.
 
 use crate::vec::Sink;
 use crate::sections::counted_section::{CountedSection, ItemKind, RecordOf};
