@@ -16,22 +16,6 @@ use crate::alloc::Allocator;
 use crate::base::{DecodeError, Dropped, Grammar, ReadFault, Readable, Skip, check_to_end, check_whole};
 
 /// Checks the payload of a section of this name with a vector of items.
-///
-/// # Proved
-///
-/// After `Ok`: `found`, the bytes as a whole are such an encoding. After an error: `none`, the bytes as a whole are no such encoding, unless the cause is `Memory`.
-///
-/// ```text
-/// ensures found { OnOk result
-///     ((xs : List P.Value) × counted_payload name.now P.format
-///         (padded_of G.grammar) bytes.now xs) }
-/// ensures none { IfErr result
-///     (λ e. e.cause ≢ Memory → RejectsWhole (counted_payload name.now P.format)
-///         (padded_of G.grammar) bytes.now) }
-/// ensures no_memory { IfErr result (λ e. e.cause ≡ Memory → P.may_allocate) }
-/// ```
-///
-/// Definitions: [`counted_payload`](crate::definitions::custom::entries::counted_payload), [`padded_of`](crate::definitions::base::numbers::padded_of), [`RejectsWhole`](crate::definitions::base::continuing::RejectsWhole). [How to read clauses](crate::definitions).
 fn check_counted<'a, P: Skip<'a, A, G>, A: Allocator + Copy, G: Grammar>(
     name: &str,
     bytes: &'a [u8],

@@ -6,22 +6,6 @@ use crate::alloc::Allocator;
 use crate::base::{DecodeError, Encode, Grammar, Layout, Minimize, ReadFault, Readable, Skip};
 
 /// Decodes the byte `mark` and the value after it, and returns the value with the remaining bytes.
-///
-/// # Proved
-///
-/// After `Ok`: `found`, the bytes begin with an encoding of the value, and the returned bytes follow it. After an error: `none`, the bytes do not begin with such an encoding, unless the cause is `Memory`.
-///
-/// ```text
-/// ensures found { IfOk result
-///     (λ x. Decodes (prefixed (mark ∷ []) T.format) (padded_of G.grammar) bytes.now
-///         (T.view x.0) x.1.now) }
-/// ensures none { IfErr result
-///     (λ e. e.cause ≢ Memory → Rejects (prefixed (mark ∷ []) T.format)
-///         (padded_of G.grammar) bytes.now) }
-/// ensures no_memory { IfErr result (λ e. e.cause ≡ Memory → T.may_allocate) }
-/// ```
-///
-/// Definitions: [`Decodes`](crate::definitions::base::decoding::Decodes), [`prefixed`](crate::definitions::base::formats::prefixed), [`padded_of`](crate::definitions::base::numbers::padded_of), [`Rejects`](crate::definitions::base::decoding::Rejects). [How to read clauses](crate::definitions).
 pub(crate) fn read_marked<'a, T: Readable<'a, A, G>, A: Allocator + Copy, G: Grammar>(
     mark: u8,
     bytes: &'a [u8],
@@ -36,22 +20,6 @@ pub(crate) fn read_marked<'a, T: Readable<'a, A, G>, A: Allocator + Copy, G: Gra
 }
 
 /// Skips the byte `mark` and the value after it.
-///
-/// # Proved
-///
-/// After `Ok`: `found`, the bytes begin with such an encoding, and the returned bytes follow it. After an error: `none`, the bytes do not begin with such an encoding, unless the cause is `Memory`.
-///
-/// ```text
-/// ensures found { IfOk result
-///     (λ rest. (x : P.Value) × Decodes (prefixed (mark ∷ []) P.format)
-///         (padded_of G.grammar) bytes.now x rest.now) }
-/// ensures none { IfErr result
-///     (λ e. e.cause ≢ Memory → Rejects (prefixed (mark ∷ []) P.format)
-///         (padded_of G.grammar) bytes.now) }
-/// ensures no_memory { IfErr result (λ e. e.cause ≡ Memory → P.may_allocate) }
-/// ```
-///
-/// Definitions: [`Decodes`](crate::definitions::base::decoding::Decodes), [`prefixed`](crate::definitions::base::formats::prefixed), [`padded_of`](crate::definitions::base::numbers::padded_of), [`Rejects`](crate::definitions::base::decoding::Rejects). [How to read clauses](crate::definitions).
 pub(crate) fn skip_marked<'a, P: Skip<'a, A, G>, A: Allocator + Copy, G: Grammar>(
     mark: u8,
     bytes: &'a [u8],
@@ -66,25 +34,6 @@ pub(crate) fn skip_marked<'a, P: Skip<'a, A, G>, A: Allocator + Copy, G: Grammar
 }
 
 /// Minimizes the byte `mark` and the value after it.
-///
-/// # Proved
-///
-/// - After `Ok`, `found`: A value decodes from the front of the bytes in this grammar, and `rest` follows it. The call appends the minimal encoding of the value in this grammar.
-/// - After an error, `none`: the bytes do not begin with such an encoding, unless the cause is `Memory`.
-/// - `front`: The new bytes begin with the old ones.
-///
-/// ```text
-/// ensures found { IfOk result
-///     (λ rest. Minimizes G.grammar
-///         (prefixed (mark ∷ []) T.format) bytes.now rest.now sink.old.items
-///         sink.new.items) }
-/// ensures none { IfErr result
-///     (λ e. e.cause ≢ Memory → Rejects (prefixed (mark ∷ []) T.format)
-///         (padded_of G.grammar) bytes.now) }
-/// ensures front { IsFrontOf sink.old.items sink.new.items }
-/// ```
-///
-/// Definitions: [`Minimizes`](crate::definitions::base::minimal::Minimizes), [`prefixed`](crate::definitions::base::formats::prefixed), [`Rejects`](crate::definitions::base::decoding::Rejects), [`padded_of`](crate::definitions::base::numbers::padded_of), [`IsFrontOf`](crate::definitions::base::minimal::IsFrontOf). [How to read clauses](crate::definitions).
 pub(crate) fn minimize_marked<'a, T: Minimize<G>, A: Allocator + Copy, G: Grammar, B: Sink>(
     mark: u8,
     bytes: &'a [u8],

@@ -11,24 +11,6 @@ use crate::alloc::Allocator;
 use crate::base::{DecodeError, Encode, Grammar, Minimize, ReadFault, Readable, Shared, minimize_shared, minimize_whole};
 
 /// Minimizes the payload of a section of this name with a vector of items. No item is kept.
-///
-/// # Proved
-///
-/// - After `Ok`, `found`: The bytes as a whole decode to a value in this grammar, and the call appends the minimal encoding of the value in this grammar.
-/// - After an error, `none`: the bytes as a whole are no such encoding, unless the cause is `Memory`.
-/// - `front`: The new bytes begin with the old ones.
-///
-/// ```text
-/// ensures found { OnOk result
-///     (MinimizesWhole G.grammar
-///         (counted_payload name.now T.format) bytes.now sink.old.items sink.new.items) }
-/// ensures none { IfErr result
-///     (λ e. e.cause ≢ Memory → RejectsWhole (counted_payload name.now T.format)
-///         (padded_of G.grammar) bytes.now) }
-/// ensures front { IsFrontOf sink.old.items sink.new.items }
-/// ```
-///
-/// Definitions: [`MinimizesWhole`](crate::definitions::base::minimal::MinimizesWhole), [`counted_payload`](crate::definitions::custom::entries::counted_payload), [`RejectsWhole`](crate::definitions::base::continuing::RejectsWhole), [`padded_of`](crate::definitions::base::numbers::padded_of), [`IsFrontOf`](crate::definitions::base::minimal::IsFrontOf). [How to read clauses](crate::definitions).
 pub(crate) fn minimize_counted<'a, T: Minimize<G>, A: Allocator + Copy, G: Grammar, B: Sink>(
     name: &str,
     bytes: &'a [u8],

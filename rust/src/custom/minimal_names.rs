@@ -8,24 +8,6 @@ use crate::alloc::Allocator;
 use crate::base::{DecodeError, Encode, Grammar, Minimize, Readable, SizePrefixed, minimize_to_end};
 
 /// Minimizes the size-prefixed content of a subsection of this kind.
-///
-/// # Proved
-///
-/// - After `Ok`, `found`: A value decodes from the front of the bytes in this grammar, and `rest` follows it. The call appends the minimal encoding of the value in this grammar.
-/// - After an error, `none`: the bytes do not begin with such an encoding, unless the cause is `Memory`.
-/// - `front`: The new bytes begin with the old ones.
-///
-/// ```text
-/// ensures found { IfOk result
-///     (λ rest. Minimizes G.grammar
-///         (after_id (kind_as kind) id) bytes.now rest.now sink.old.items sink.new.items) }
-/// ensures none { IfErr result
-///     (λ e. e.cause ≢ Memory → Rejects (after_id (kind_as kind) id)
-///         (padded_of G.grammar) bytes.now) }
-/// ensures front { IsFrontOf sink.old.items sink.new.items }
-/// ```
-///
-/// Definitions: [`Minimizes`](crate::definitions::base::minimal::Minimizes), [`after_id`](crate::definitions::custom::names::after_id), [`kind_as`](crate::definitions::custom::names::kind_as), [`Rejects`](crate::definitions::base::decoding::Rejects), [`padded_of`](crate::definitions::base::numbers::padded_of), [`IsFrontOf`](crate::definitions::base::minimal::IsFrontOf). [How to read clauses](crate::definitions).
 fn minimize_after_id<'a, A: Allocator + Copy, G: Grammar, B: Sink>(
     kind: NameKind,
     id: u8,

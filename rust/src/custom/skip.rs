@@ -20,23 +20,6 @@ use crate::alloc::Allocator;
 use crate::base::{DecodeError, Dropped, Grammar, Readable, SizePrefixed, Skip};
 
 /// Skips a size-prefixed vector.
-///
-/// # Proved
-///
-/// After `Ok`: `found`, the bytes begin with such an encoding, and the returned bytes follow it. After an error: `none`, the bytes do not begin with such an encoding, unless the cause is `Memory`.
-///
-/// ```text
-/// ensures found { IfOk result
-///     (λ rest. (xs : List P.Value)
-///         × Decodes (size_prefixed (vec P.format))
-///         (padded_of G.grammar) bytes.now xs rest.now) }
-/// ensures none { IfErr result
-///     (λ e. e.cause ≢ Memory → Rejects (size_prefixed (vec P.format))
-///         (padded_of G.grammar) bytes.now) }
-/// ensures no_memory { IfErr result (λ e. e.cause ≡ Memory → P.may_allocate) }
-/// ```
-///
-/// Definitions: [`Decodes`](crate::definitions::base::decoding::Decodes), [`size_prefixed`](crate::definitions::base::formats::size_prefixed), [`vec`](crate::definitions::base::formats::vec), [`padded_of`](crate::definitions::base::numbers::padded_of), [`Rejects`](crate::definitions::base::decoding::Rejects). [How to read clauses](crate::definitions).
 fn skip_vector<'a, P: Skip<'a, A, G>, A: Allocator + Copy, G: Grammar>(
     bytes: &'a [u8],
     alloc: A,
@@ -45,23 +28,6 @@ fn skip_vector<'a, P: Skip<'a, A, G>, A: Allocator + Copy, G: Grammar>(
 }
 
 /// Skips the size-prefixed content of a name subsection of this kind.
-///
-/// # Proved
-///
-/// After `Ok`: `found`, the bytes begin with such an encoding, and the returned bytes follow it. After an error: `none`, the bytes do not begin with such an encoding, unless the cause is `Memory`.
-///
-/// ```text
-/// ensures found { IfOk result
-///     (λ rest. (x : NameModel)
-///         × Decodes (after_id (kind_as kind) id)
-///         (padded_of G.grammar) bytes.now x rest.now) }
-/// ensures none { IfErr result
-///     (λ e. e.cause ≢ Memory → Rejects (after_id (kind_as kind) id)
-///         (padded_of G.grammar) bytes.now) }
-/// ensures no_memory { IfErr result (λ e. e.cause ≢ Memory) }
-/// ```
-///
-/// Definitions: [`NameModel`](crate::definitions::custom::names::NameItem), [`Decodes`](crate::definitions::base::decoding::Decodes), [`after_id`](crate::definitions::custom::names::after_id), [`kind_as`](crate::definitions::custom::names::kind_as), [`padded_of`](crate::definitions::base::numbers::padded_of), [`Rejects`](crate::definitions::base::decoding::Rejects). [How to read clauses](crate::definitions).
 fn skip_after_id<'a, A: Allocator + Copy, G: Grammar>(
     kind: NameKind,
     id: u8,

@@ -12,34 +12,6 @@ use crate::immediates::{BlockType, Catch, Handle, MemArg};
 
 /// Minimizes an argument that has the same encodings in both grammars: it is decoded, and encoded
 /// again. Out of line, for rare arguments.
-///
-/// # Asks
-///
-/// [What happens otherwise](crate::fallible#what-is-asked).
-///
-/// ```text
-/// requires no_block { wanted ≢ parts.Block }
-/// requires no_types { wanted ≢ parts.Types }
-/// ```
-///
-/// [How to read clauses](crate::definitions).
-///
-/// # Proved
-///
-/// - After `Ok`, `found`: A value decodes from the front of the bytes in this grammar, and `rest` follows it. The call appends the minimal encoding of the value in this grammar.
-/// - After an error, `none`: the bytes do not begin with such an encoding, unless the cause is `Memory`.
-/// - `front`: The new bytes begin with the old ones.
-///
-/// ```text
-/// ensures found { IfOk result
-///     (λ rest. Minimizes G.grammar
-///         (part wanted) bytes.now rest.now sink.old.items sink.new.items) }
-/// ensures none { IfErr result
-///     (λ e. e.cause ≢ Memory → Rejects (part wanted) (padded_of G.grammar) bytes.now) }
-/// ensures front { IsFrontOf sink.old.items sink.new.items }
-/// ```
-///
-/// Definitions: [`Minimizes`](crate::definitions::base::minimal::Minimizes), [`part`](crate::definitions::insn::plain::part), [`Rejects`](crate::definitions::base::decoding::Rejects), [`padded_of`](crate::definitions::base::numbers::padded_of), [`IsFrontOf`](crate::definitions::base::minimal::IsFrontOf). [How to read clauses](crate::definitions).
 #[inline(never)]
 fn minimize_rare<'a, A: Allocator + Copy, G: Grammar, B: Sink>(
     wanted: Part,
@@ -53,23 +25,6 @@ fn minimize_rare<'a, A: Allocator + Copy, G: Grammar, B: Sink>(
 }
 
 /// Minimizes one argument. Lists are minimized member by member.
-///
-/// # Proved
-///
-/// - After `Ok`, `found`: A value decodes from the front of the bytes in this grammar, and `rest` follows it. The call appends the minimal encoding of the value in this grammar.
-/// - After an error, `none`: the bytes do not begin with such an encoding, unless the cause is `Memory`.
-/// - `front`: The new bytes begin with the old ones.
-///
-/// ```text
-/// ensures found { IfOk result
-///     (λ rest. Minimizes G.grammar
-///         (part wanted) bytes.now rest.now sink.old.items sink.new.items) }
-/// ensures none { IfErr result
-///     (λ e. e.cause ≢ Memory → Rejects (part wanted) (padded_of G.grammar) bytes.now) }
-/// ensures front { IsFrontOf sink.old.items sink.new.items }
-/// ```
-///
-/// Definitions: [`Minimizes`](crate::definitions::base::minimal::Minimizes), [`part`](crate::definitions::insn::plain::part), [`Rejects`](crate::definitions::base::decoding::Rejects), [`padded_of`](crate::definitions::base::numbers::padded_of), [`IsFrontOf`](crate::definitions::base::minimal::IsFrontOf). [How to read clauses](crate::definitions).
 fn minimize_part<'a, A: Allocator + Copy, G: Grammar, B: Sink>(
     wanted: Part,
     bytes: &'a [u8],
@@ -88,24 +43,6 @@ fn minimize_part<'a, A: Allocator + Copy, G: Grammar, B: Sink>(
 }
 
 /// Minimizes one argument for each of `wanted`.
-///
-/// # Proved
-///
-/// - After `Ok`, `found`: A value decodes from the front of the bytes in this grammar, and `rest` follows it. The call appends the minimal encoding of the value in this grammar.
-/// - After an error, `none`: the bytes do not begin with such an encoding, unless the cause is `Memory`.
-/// - `front`: The new bytes begin with the old ones.
-///
-/// ```text
-/// ensures found { IfOk result
-///     (λ rest. Minimizes G.grammar
-///         (arguments wanted.now) bytes.now rest.now sink.old.items sink.new.items) }
-/// ensures none { IfErr result
-///     (λ e. e.cause ≢ Memory → Rejects (arguments wanted.now)
-///         (padded_of G.grammar) bytes.now) }
-/// ensures front { IsFrontOf sink.old.items sink.new.items }
-/// ```
-///
-/// Definitions: [`Minimizes`](crate::definitions::base::minimal::Minimizes), [`arguments`](crate::definitions::insn::plain::arguments), [`Rejects`](crate::definitions::base::decoding::Rejects), [`padded_of`](crate::definitions::base::numbers::padded_of), [`IsFrontOf`](crate::definitions::base::minimal::IsFrontOf). [How to read clauses](crate::definitions).
 fn minimize_parts<'a, A: Allocator + Copy, G: Grammar, B: Sink>(
     wanted: &[Part],
     bytes: &'a [u8],
@@ -120,24 +57,6 @@ fn minimize_parts<'a, A: Allocator + Copy, G: Grammar, B: Sink>(
 }
 
 /// Minimizes the arguments of any shape. Out of line, for rare shapes.
-///
-/// # Proved
-///
-/// - After `Ok`, `found`: A value decodes from the front of the bytes in this grammar, and `rest` follows it. The call appends the minimal encoding of the value in this grammar.
-/// - After an error, `none`: the bytes do not begin with such an encoding, unless the cause is `Memory`.
-/// - `front`: The new bytes begin with the old ones.
-///
-/// ```text
-/// ensures found { IfOk result
-///     (λ rest. Minimizes G.grammar
-///         (arguments (parts_of shape)) bytes.now rest.now sink.old.items sink.new.items) }
-/// ensures none { IfErr result
-///     (λ e. e.cause ≢ Memory → Rejects (arguments (parts_of shape))
-///         (padded_of G.grammar) bytes.now) }
-/// ensures front { IsFrontOf sink.old.items sink.new.items }
-/// ```
-///
-/// Definitions: [`Minimizes`](crate::definitions::base::minimal::Minimizes), [`arguments`](crate::definitions::insn::plain::arguments), [`parts_of`](crate::definitions::insn::parts::parts_of), [`Rejects`](crate::definitions::base::decoding::Rejects), [`padded_of`](crate::definitions::base::numbers::padded_of), [`IsFrontOf`](crate::definitions::base::minimal::IsFrontOf). [How to read clauses](crate::definitions).
 #[inline(never)]
 fn minimize_any<'a, A: Allocator + Copy, G: Grammar, B: Sink>(
     shape: Shape,
@@ -149,24 +68,6 @@ fn minimize_any<'a, A: Allocator + Copy, G: Grammar, B: Sink>(
 }
 
 /// Minimizes the arguments of an opcode of this shape. Common shapes are minimized inline.
-///
-/// # Proved
-///
-/// - After `Ok`, `found`: A value decodes from the front of the bytes in this grammar, and `rest` follows it. The call appends the minimal encoding of the value in this grammar.
-/// - After an error, `none`: the bytes do not begin with such an encoding, unless the cause is `Memory`.
-/// - `front`: The new bytes begin with the old ones.
-///
-/// ```text
-/// ensures found { IfOk result
-///     (λ rest. Minimizes G.grammar
-///         (arguments (parts_of shape)) bytes.now rest.now sink.old.items sink.new.items) }
-/// ensures none { IfErr result
-///     (λ e. e.cause ≢ Memory → Rejects (arguments (parts_of shape))
-///         (padded_of G.grammar) bytes.now) }
-/// ensures front { IsFrontOf sink.old.items sink.new.items }
-/// ```
-///
-/// Definitions: [`Minimizes`](crate::definitions::base::minimal::Minimizes), [`arguments`](crate::definitions::insn::plain::arguments), [`parts_of`](crate::definitions::insn::parts::parts_of), [`Rejects`](crate::definitions::base::decoding::Rejects), [`padded_of`](crate::definitions::base::numbers::padded_of), [`IsFrontOf`](crate::definitions::base::minimal::IsFrontOf). [How to read clauses](crate::definitions).
 #[inline]
 fn minimize_arguments<'a, A: Allocator + Copy, G: Grammar, B: Sink>(
     shape: Shape,

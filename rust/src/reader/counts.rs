@@ -8,21 +8,6 @@ use crate::base::{DecodeError, Grammar, ReadFault, Skip, Standard, skip_many};
 use crate::custom::{check_dylink, check_features, check_hints, check_instances, check_links, check_modules, check_names, check_producers, check_relocations, check_stack};
 
 /// Skips the members of a vector that occupies all of the bytes, and returns their number.
-///
-/// # Proved
-///
-/// After an error: `none`, the bytes as a whole are no such encoding, unless the cause is `Memory`.
-///
-/// ```text
-/// ensures found { IfOk result
-///     (λ count. (xs : List P.Value) × vec P.format (padded_of G.grammar) bytes.now xs
-///         × (count ≡ Some (length xs))) }
-/// ensures none { IfErr result
-///     (λ e. e.cause ≢ Memory → RejectsWhole (vec P.format)
-///         (padded_of G.grammar) bytes.now) }
-/// ```
-///
-/// Definitions: [`vec`](crate::definitions::base::formats::vec), [`padded_of`](crate::definitions::base::numbers::padded_of), [`RejectsWhole`](crate::definitions::base::continuing::RejectsWhole). [How to read clauses](crate::definitions).
 pub(crate) fn count_skipped<'a, P: Skip<'a, A, G>, A: Allocator + Copy, G: Grammar>(
     bytes: &'a [u8],
     alloc: A,
@@ -37,20 +22,6 @@ pub(crate) fn count_skipped<'a, P: Skip<'a, A, G>, A: Allocator + Copy, G: Gramm
 }
 
 /// Checks the payload of a section of this kind, and keeps no list of items.
-///
-/// # Proved
-///
-/// After `Ok`: `found`, the bytes as a whole are such an encoding. After an error: `none`, the bytes as a whole are no such encoding, unless the cause is `Memory`.
-///
-/// ```text
-/// ensures found { OnOk result
-///     ((x : Contents) × content kind (padded_of G.grammar) bytes.now x) }
-/// ensures none { IfErr result
-///     (λ e. e.cause ≢ Memory → RejectsWhole (content kind)
-///         (padded_of G.grammar) bytes.now) }
-/// ```
-///
-/// Definitions: [`Contents`](crate::definitions::reader::kinds::Contents), [`content`](crate::definitions::reader::kinds::content), [`padded_of`](crate::definitions::base::numbers::padded_of), [`RejectsWhole`](crate::definitions::base::continuing::RejectsWhole). [How to read clauses](crate::definitions).
 pub(crate) fn check_content<'a, A: Allocator + Copy, G: Grammar>(
     kind: SectionKind,
     bytes: &'a [u8],
@@ -76,23 +47,6 @@ pub(crate) fn check_content<'a, A: Allocator + Copy, G: Grammar>(
 
 /// Returns the number of items of a section, or `None` if they are not counted. The payload of a
 /// custom section is checked.
-///
-/// # Proved
-///
-/// After `Ok`: `found`, the payload encodes items, and the result is their number if they are counted. After an error: `none`, the bytes as a whole are no such encoding, unless the cause is `Memory`.
-///
-/// ```text
-/// ensures found { IfOk result
-///     (λ number. (x : Contents)
-///         × content (section_kind_of (section_of standing.now)) standard
-///         standing.now.payload.now x × (number ≡ number_in x)) }
-/// ensures none { IfErr result
-///     (λ e. e.cause ≢ Memory → RejectsWhole
-///         (content (section_kind_of (section_of standing.now))) standard
-///         standing.now.payload.now) }
-/// ```
-///
-/// Definitions: [`Contents`](crate::definitions::reader::kinds::Contents), [`content`](crate::definitions::reader::kinds::content), [`section_kind_of`](crate::definitions::reader::outlines::section_kind_of), [`section_of`](crate::definitions::reader::outlines::section_of), [`standard`](crate::definitions::base::numbers::Mode), [`number_in`](crate::definitions::reader::kinds::number_in), [`RejectsWhole`](crate::definitions::base::continuing::RejectsWhole). [How to read clauses](crate::definitions).
 pub(crate) fn count_items<A: Allocator + Copy>(
     standing: &Standing<'_>,
     alloc: A,

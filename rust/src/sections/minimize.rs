@@ -83,19 +83,6 @@ impl<'s, G: Grammar> Minimize<G> for Export<'s> {
 
 impl GlobalType {
     /// Appends the minimal encoding in the grammar `G`.
-    ///
-    /// # Proved
-    ///
-    /// - After `Ok`, `ok`: the sink gains the minimal encoding in the grammar.
-    /// - `front`: The new bytes begin with the old ones.
-    ///
-    /// ```text
-    /// ensures ok { OnOk result
-    ///     (sink.new.items ≡ sink.old.items ++ global_encoding_in G.grammar self) }
-    /// ensures front { IsFrontOf sink.old.items sink.new.items }
-    /// ```
-    ///
-    /// Definitions: [`global_encoding_in`](crate::definitions::sections::globals::global_encoding_in), [`IsFrontOf`](crate::definitions::base::minimal::IsFrontOf). [How to read clauses](crate::definitions).
     fn encode_in<G: Grammar, A: Sink>(self, sink: &mut A) -> Result<()> {
         self.val_type.encode_in::<G, _>(sink)?;
         self.flags().encode(sink)
@@ -127,19 +114,6 @@ impl<G: Grammar, C: Allocator> Minimize<G> for GlobalItem<C> {
 
 impl TableType {
     /// Appends the minimal encoding in the grammar `G`.
-    ///
-    /// # Proved
-    ///
-    /// - After `Ok`, `ok`: the sink gains the minimal encoding in the grammar.
-    /// - `front`: The new bytes begin with the old ones.
-    ///
-    /// ```text
-    /// ensures ok { OnOk result
-    ///     (sink.new.items ≡ sink.old.items ++ table_encoding_in G.grammar self) }
-    /// ensures front { IsFrontOf sink.old.items sink.new.items }
-    /// ```
-    ///
-    /// Definitions: [`table_encoding_in`](crate::definitions::sections::tables::table_encoding_in), [`IsFrontOf`](crate::definitions::base::minimal::IsFrontOf). [How to read clauses](crate::definitions).
     fn encode_in<G: Grammar, A: Sink>(self, sink: &mut A) -> Result<()> {
         self.element_type.encode_in::<G, _>(sink)?;
         (self.flags(), self.minimum, Optional(self.maximum)).encode(sink)?;
@@ -181,23 +155,6 @@ impl<G: Grammar, C: Allocator> Minimize<G> for TableItem<C> {
 }
 
 /// Minimizes the bytes of a data segment, with their size prefix.
-///
-/// # Proved
-///
-/// - After `Ok`, `found`: A value decodes from the front of the bytes in this grammar, and `rest` follows it. The call appends the minimal encoding of the value in this grammar.
-/// - After an error, `none`: the bytes do not begin with such an encoding, unless the cause is `Memory`.
-/// - `front`: The new bytes begin with the old ones.
-///
-/// ```text
-/// ensures found { IfOk result
-///     (λ rest. Minimizes G.grammar
-///         (vec byte) bytes.now rest.now sink.old.items sink.new.items) }
-/// ensures none { IfErr result
-///     (λ e. e.cause ≢ Memory → Rejects (vec byte) (padded_of G.grammar) bytes.now) }
-/// ensures front { IsFrontOf sink.old.items sink.new.items }
-/// ```
-///
-/// Definitions: [`Minimizes`](crate::definitions::base::minimal::Minimizes), [`vec`](crate::definitions::base::formats::vec), [`byte`](crate::definitions::base::formats::byte), [`Rejects`](crate::definitions::base::decoding::Rejects), [`padded_of`](crate::definitions::base::numbers::padded_of), [`IsFrontOf`](crate::definitions::base::minimal::IsFrontOf). [How to read clauses](crate::definitions).
 fn minimize_bytes<'a, A: Allocator + Copy, G: Grammar, B: Sink>(
     bytes: &'a [u8],
     alloc: A,
@@ -209,24 +166,6 @@ fn minimize_bytes<'a, A: Allocator + Copy, G: Grammar, B: Sink>(
 }
 
 /// Minimizes the offset of a data segment, and then its bytes.
-///
-/// # Proved
-///
-/// - After `Ok`, `found`: A value decodes from the front of the bytes in this grammar, and `rest` follows it. The call appends the minimal encoding of the value in this grammar.
-/// - After an error, `none`: the bytes do not begin with such an encoding, unless the cause is `Memory`.
-/// - `front`: The new bytes begin with the old ones.
-///
-/// ```text
-/// ensures found { IfOk result
-///     (λ rest. Minimizes G.grammar
-///         (pair expression (vec byte)) bytes.now rest.now sink.old.items sink.new.items) }
-/// ensures none { IfErr result
-///     (λ e. e.cause ≢ Memory → Rejects (pair expression (vec byte))
-///         (padded_of G.grammar) bytes.now) }
-/// ensures front { IsFrontOf sink.old.items sink.new.items }
-/// ```
-///
-/// Definitions: [`Minimizes`](crate::definitions::base::minimal::Minimizes), [`pair`](crate::definitions::base::formats::pair), [`expression`](crate::definitions::code::expressions::expression), [`vec`](crate::definitions::base::formats::vec), [`byte`](crate::definitions::base::formats::byte), [`Rejects`](crate::definitions::base::decoding::Rejects), [`padded_of`](crate::definitions::base::numbers::padded_of), [`IsFrontOf`](crate::definitions::base::minimal::IsFrontOf). [How to read clauses](crate::definitions).
 fn minimize_placed<'a, A: Allocator + Copy, G: Grammar, B: Sink>(
     bytes: &'a [u8],
     alloc: A,
@@ -287,17 +226,6 @@ impl<'s, G: Grammar, C: Allocator> Minimize<G> for Segment<'s, C> {
 }
 
 /// Appends the flag of an active segment, and the memory's index unless it is 0.
-///
-/// # Proved
-///
-/// `front`: The new bytes begin with the old ones.
-///
-/// ```text
-/// ensures ok { OnOk result (sink.new.items ≡ sink.old.items ++ active_front memory) }
-/// ensures front { IsFrontOf sink.old.items sink.new.items }
-/// ```
-///
-/// Definitions: [`active_front`](crate::definitions::sections::data_segments::active_front), [`IsFrontOf`](crate::definitions::base::minimal::IsFrontOf). [How to read clauses](crate::definitions).
 fn append_memory<B: Sink>(memory: u32, sink: &mut B) -> Result<()> {
     if memory == 0 {
         0u32.encode(sink)?;
@@ -308,25 +236,6 @@ fn append_memory<B: Sink>(memory: u32, sink: &mut B) -> Result<()> {
 }
 
 /// Minimizes the mode of an element segment.
-///
-/// # Proved
-///
-/// - After `Ok`, `found`: A value decodes from the front of the bytes in this grammar, and `rest` follows it. The call appends the minimal encoding of the value in this grammar.
-/// - After an error, `none`: the bytes do not begin with such an encoding, unless the cause is `Memory`.
-/// - `front`: The new bytes begin with the old ones.
-///
-/// ```text
-/// ensures found { IfOk result
-///     (λ rest. Minimizes G.grammar
-///         (segment_mode (element_flag_view flag)) bytes.now rest.now sink.old.items
-///         sink.new.items) }
-/// ensures none { IfErr result
-///     (λ e. e.cause ≢ Memory → Rejects (segment_mode (element_flag_view flag))
-///         (padded_of G.grammar) bytes.now) }
-/// ensures front { IsFrontOf sink.old.items sink.new.items }
-/// ```
-///
-/// Definitions: [`Minimizes`](crate::definitions::base::minimal::Minimizes), [`segment_mode`](crate::definitions::sections::elements::segment_mode), [`element_flag_view`](crate::definitions::sections::elements::element_flag_view), [`Rejects`](crate::definitions::base::decoding::Rejects), [`padded_of`](crate::definitions::base::numbers::padded_of), [`IsFrontOf`](crate::definitions::base::minimal::IsFrontOf). [How to read clauses](crate::definitions).
 fn minimize_segment_mode<'a, A: Allocator + Copy, G: Grammar, B: Sink>(
     flag: ElementFlag,
     bytes: &'a [u8],
@@ -348,24 +257,6 @@ fn minimize_segment_mode<'a, A: Allocator + Copy, G: Grammar, B: Sink>(
 }
 
 /// Minimizes elements that are functions.
-///
-/// # Proved
-///
-/// - After `Ok`, `found`: A value decodes from the front of the bytes in this grammar, and `rest` follows it. The call appends the minimal encoding of the value in this grammar.
-/// - After an error, `none`: the bytes do not begin with such an encoding, unless the cause is `Memory`.
-/// - `front`: The new bytes begin with the old ones.
-///
-/// ```text
-/// ensures found { IfOk result
-///     (λ rest. Minimizes G.grammar
-///         (elements_as explicit false) bytes.now rest.now sink.old.items sink.new.items) }
-/// ensures none { IfErr result
-///     (λ e. e.cause ≢ Memory → Rejects (elements_as explicit false)
-///         (padded_of G.grammar) bytes.now) }
-/// ensures front { IsFrontOf sink.old.items sink.new.items }
-/// ```
-///
-/// Definitions: [`Minimizes`](crate::definitions::base::minimal::Minimizes), [`elements_as`](crate::definitions::sections::elements::elements_as), [`Rejects`](crate::definitions::base::decoding::Rejects), [`padded_of`](crate::definitions::base::numbers::padded_of), [`IsFrontOf`](crate::definitions::base::minimal::IsFrontOf). [How to read clauses](crate::definitions).
 fn minimize_functions<'a, A: Allocator + Copy, G: Grammar, B: Sink>(
     explicit: bool,
     bytes: &'a [u8],
@@ -386,24 +277,6 @@ fn minimize_functions<'a, A: Allocator + Copy, G: Grammar, B: Sink>(
 }
 
 /// Minimizes elements that are expressions.
-///
-/// # Proved
-///
-/// - After `Ok`, `found`: A value decodes from the front of the bytes in this grammar, and `rest` follows it. The call appends the minimal encoding of the value in this grammar.
-/// - After an error, `none`: the bytes do not begin with such an encoding, unless the cause is `Memory`.
-/// - `front`: The new bytes begin with the old ones.
-///
-/// ```text
-/// ensures found { IfOk result
-///     (λ rest. Minimizes G.grammar
-///         (elements_as explicit true) bytes.now rest.now sink.old.items sink.new.items) }
-/// ensures none { IfErr result
-///     (λ e. e.cause ≢ Memory → Rejects (elements_as explicit true)
-///         (padded_of G.grammar) bytes.now) }
-/// ensures front { IsFrontOf sink.old.items sink.new.items }
-/// ```
-///
-/// Definitions: [`Minimizes`](crate::definitions::base::minimal::Minimizes), [`elements_as`](crate::definitions::sections::elements::elements_as), [`Rejects`](crate::definitions::base::decoding::Rejects), [`padded_of`](crate::definitions::base::numbers::padded_of), [`IsFrontOf`](crate::definitions::base::minimal::IsFrontOf). [How to read clauses](crate::definitions).
 fn minimize_expressions<'a, A: Allocator + Copy, G: Grammar, B: Sink>(
     explicit: bool,
     bytes: &'a [u8],
@@ -420,25 +293,6 @@ fn minimize_expressions<'a, A: Allocator + Copy, G: Grammar, B: Sink>(
 }
 
 /// Minimizes the elements of a segment.
-///
-/// # Proved
-///
-/// - After `Ok`, `found`: A value decodes from the front of the bytes in this grammar, and `rest` follows it. The call appends the minimal encoding of the value in this grammar.
-/// - After an error, `none`: the bytes do not begin with such an encoding, unless the cause is `Memory`.
-/// - `front`: The new bytes begin with the old ones.
-///
-/// ```text
-/// ensures found { IfOk result
-///     (λ rest. Minimizes G.grammar
-///         (elements_as explicit of_expressions) bytes.now rest.now sink.old.items
-///         sink.new.items) }
-/// ensures none { IfErr result
-///     (λ e. e.cause ≢ Memory → Rejects (elements_as explicit of_expressions)
-///         (padded_of G.grammar) bytes.now) }
-/// ensures front { IsFrontOf sink.old.items sink.new.items }
-/// ```
-///
-/// Definitions: [`Minimizes`](crate::definitions::base::minimal::Minimizes), [`elements_as`](crate::definitions::sections::elements::elements_as), [`Rejects`](crate::definitions::base::decoding::Rejects), [`padded_of`](crate::definitions::base::numbers::padded_of), [`IsFrontOf`](crate::definitions::base::minimal::IsFrontOf). [How to read clauses](crate::definitions).
 fn minimize_elements<'a, A: Allocator + Copy, G: Grammar, B: Sink>(
     explicit: bool,
     of_expressions: bool,
@@ -475,19 +329,6 @@ impl<G: Grammar, C: Allocator> Minimize<G> for ElementItem<C> {
 
 impl EntityType {
     /// Appends the minimal encoding in the grammar `G`.
-    ///
-    /// # Proved
-    ///
-    /// - After `Ok`, `ok`: the sink gains the minimal encoding in the grammar.
-    /// - `front`: The new bytes begin with the old ones.
-    ///
-    /// ```text
-    /// ensures ok { OnOk result
-    ///     (sink.new.items ≡ sink.old.items ++ entity_encoding_in G.grammar self) }
-    /// ensures front { IsFrontOf sink.old.items sink.new.items }
-    /// ```
-    ///
-    /// Definitions: [`entity_encoding_in`](crate::definitions::sections::imports::entity_encoding_in), [`IsFrontOf`](crate::definitions::base::minimal::IsFrontOf). [How to read clauses](crate::definitions).
     fn encode_in<G: Grammar, A: Sink>(self, sink: &mut A) -> Result<()> {
         match self {
             EntityType::Function(index) => (CORE_FUNCTION_SORT, index).encode(sink),

@@ -22,16 +22,6 @@ impl<G: Grammar> Minimize<G> for Mutable {
 
 impl StorageType {
     /// Appends the minimal encoding in the grammar `G`.
-    ///
-    /// # Proved
-    ///
-    /// The call appends the encoding, or returns an error and leaves the bytes as they were. If the value fits, the call never returns `TooLong`, and it succeeds within the spare capacity.
-    ///
-    /// ```text
-    /// ensures { Appends (storage_encoding_in G.grammar self) ⊤ sink.old sink.new result }
-    /// ```
-    ///
-    /// Definitions: [`Appends`](crate::definitions::base::calls::Appends), [`storage_encoding_in`](crate::definitions::types::rec_types::storage_encoding_in). [How to read clauses](crate::definitions).
     fn encode_in<G: Grammar, A: Sink>(self, sink: &mut A) -> crate::base::Result<()> {
         match self {
             StorageType::Val(ty) => ty.encode_in::<G, _>(sink),
@@ -63,22 +53,6 @@ impl<G: Grammar> Minimize<G> for FieldType {
 }
 
 /// Minimizes the index of a continuation's function type.
-///
-/// # Proved
-///
-/// - After `Ok`, `found`: A value decodes from the front of the bytes in this grammar, and `rest` follows it. The call appends the minimal encoding of the value in this grammar.
-/// - After an error, `none`: the bytes do not begin with such an encoding, unless the cause is `Memory`.
-/// - `front`: The new bytes begin with the old ones.
-///
-/// ```text
-/// ensures found { IfOk result
-///     (λ rest. Minimizes G.grammar s33 bytes.now rest.now sink.old.items sink.new.items) }
-/// ensures none { IfErr result
-///     (λ e. e.cause ≢ Memory → Rejects s33 (padded_of G.grammar) bytes.now) }
-/// ensures front { IsFrontOf sink.old.items sink.new.items }
-/// ```
-///
-/// Definitions: [`Minimizes`](crate::definitions::base::minimal::Minimizes), [`s33`](crate::definitions::base::formats::s33), [`Rejects`](crate::definitions::base::decoding::Rejects), [`padded_of`](crate::definitions::base::numbers::padded_of), [`IsFrontOf`](crate::definitions::base::minimal::IsFrontOf). [How to read clauses](crate::definitions).
 fn minimize_index<'a, G: Grammar, B: Sink>(
     bytes: &'a [u8],
     sink: &mut B,
@@ -89,24 +63,6 @@ fn minimize_index<'a, G: Grammar, B: Sink>(
 }
 
 /// Minimizes an inner type after its first byte, `tag`, which is appended already.
-///
-/// # Proved
-///
-/// - After `Ok`, `found`: A value decodes from the front of the bytes in this grammar, and `rest` follows it. The call appends the minimal encoding of the value in this grammar.
-/// - After an error, `none`: the bytes do not begin with such an encoding, unless the cause is `Memory`.
-/// - `front`: The new bytes begin with the old ones.
-///
-/// ```text
-/// ensures found { IfOk result
-///     (λ rest. Minimizes G.grammar
-///         (after_shape tag) bytes.now rest.now sink.old.items sink.new.items) }
-/// ensures none { IfErr result
-///     (λ e. e.cause ≢ Memory → Rejects (after_shape tag) (padded_of G.grammar) bytes.now)
-///     }
-/// ensures front { IsFrontOf sink.old.items sink.new.items }
-/// ```
-///
-/// Definitions: [`Minimizes`](crate::definitions::base::minimal::Minimizes), [`after_shape`](crate::definitions::types::rec_types::after_shape), [`Rejects`](crate::definitions::base::decoding::Rejects), [`padded_of`](crate::definitions::base::numbers::padded_of), [`IsFrontOf`](crate::definitions::base::minimal::IsFrontOf). [How to read clauses](crate::definitions).
 fn minimize_shape_after<'a, A: Allocator + Copy, G: Grammar, B: Sink>(
     tag: u8,
     bytes: &'a [u8],
@@ -124,24 +80,6 @@ fn minimize_shape_after<'a, A: Allocator + Copy, G: Grammar, B: Sink>(
 
 /// Minimizes an optional descriptor and an inner type after the first byte, `tag`, which is
 /// appended already.
-///
-/// # Proved
-///
-/// - After `Ok`, `found`: A value decodes from the front of the bytes in this grammar, and `rest` follows it. The call appends the minimal encoding of the value in this grammar.
-/// - After an error, `none`: the bytes do not begin with such an encoding, unless the cause is `Memory`.
-/// - `front`: The new bytes begin with the old ones.
-///
-/// ```text
-/// ensures found { IfOk result
-///     (λ rest. Minimizes G.grammar
-///         (after_descriptor tag) bytes.now rest.now sink.old.items sink.new.items) }
-/// ensures none { IfErr result
-///     (λ e. e.cause ≢ Memory → Rejects (after_descriptor tag)
-///         (padded_of G.grammar) bytes.now) }
-/// ensures front { IsFrontOf sink.old.items sink.new.items }
-/// ```
-///
-/// Definitions: [`Minimizes`](crate::definitions::base::minimal::Minimizes), [`after_descriptor`](crate::definitions::types::rec_types::after_descriptor), [`Rejects`](crate::definitions::base::decoding::Rejects), [`padded_of`](crate::definitions::base::numbers::padded_of), [`IsFrontOf`](crate::definitions::base::minimal::IsFrontOf). [How to read clauses](crate::definitions).
 fn minimize_descriptor_after<'a, A: Allocator + Copy, G: Grammar, B: Sink>(
     tag: u8,
     bytes: &'a [u8],
@@ -159,24 +97,6 @@ fn minimize_descriptor_after<'a, A: Allocator + Copy, G: Grammar, B: Sink>(
 
 /// Minimizes an optional described type, an optional descriptor and an inner type after the first
 /// byte, `tag`, which is appended already.
-///
-/// # Proved
-///
-/// - After `Ok`, `found`: A value decodes from the front of the bytes in this grammar, and `rest` follows it. The call appends the minimal encoding of the value in this grammar.
-/// - After an error, `none`: the bytes do not begin with such an encoding, unless the cause is `Memory`.
-/// - `front`: The new bytes begin with the old ones.
-///
-/// ```text
-/// ensures found { IfOk result
-///     (λ rest. Minimizes G.grammar
-///         (after_describes tag) bytes.now rest.now sink.old.items sink.new.items) }
-/// ensures none { IfErr result
-///     (λ e. e.cause ≢ Memory → Rejects (after_describes tag)
-///         (padded_of G.grammar) bytes.now) }
-/// ensures front { IsFrontOf sink.old.items sink.new.items }
-/// ```
-///
-/// Definitions: [`Minimizes`](crate::definitions::base::minimal::Minimizes), [`after_describes`](crate::definitions::types::rec_types::after_describes), [`Rejects`](crate::definitions::base::decoding::Rejects), [`padded_of`](crate::definitions::base::numbers::padded_of), [`IsFrontOf`](crate::definitions::base::minimal::IsFrontOf). [How to read clauses](crate::definitions).
 fn minimize_describes_after<'a, A: Allocator + Copy, G: Grammar, B: Sink>(
     tag: u8,
     bytes: &'a [u8],
@@ -193,24 +113,6 @@ fn minimize_describes_after<'a, A: Allocator + Copy, G: Grammar, B: Sink>(
 }
 
 /// Minimizes a composite type after its first byte, `tag`, which is appended already.
-///
-/// # Proved
-///
-/// - After `Ok`, `found`: A value decodes from the front of the bytes in this grammar, and `rest` follows it. The call appends the minimal encoding of the value in this grammar.
-/// - After an error, `none`: the bytes do not begin with such an encoding, unless the cause is `Memory`.
-/// - `front`: The new bytes begin with the old ones.
-///
-/// ```text
-/// ensures found { IfOk result
-///     (λ rest. Minimizes G.grammar
-///         (after_composite tag) bytes.now rest.now sink.old.items sink.new.items) }
-/// ensures none { IfErr result
-///     (λ e. e.cause ≢ Memory → Rejects (after_composite tag)
-///         (padded_of G.grammar) bytes.now) }
-/// ensures front { IsFrontOf sink.old.items sink.new.items }
-/// ```
-///
-/// Definitions: [`Minimizes`](crate::definitions::base::minimal::Minimizes), [`after_composite`](crate::definitions::types::rec_types::after_composite), [`Rejects`](crate::definitions::base::decoding::Rejects), [`padded_of`](crate::definitions::base::numbers::padded_of), [`IsFrontOf`](crate::definitions::base::minimal::IsFrontOf). [How to read clauses](crate::definitions).
 fn minimize_composite_after<'a, A: Allocator + Copy, G: Grammar, B: Sink>(
     tag: u8,
     bytes: &'a [u8],
@@ -227,23 +129,6 @@ fn minimize_composite_after<'a, A: Allocator + Copy, G: Grammar, B: Sink>(
 }
 
 /// Minimizes a composite type.
-///
-/// # Proved
-///
-/// - After `Ok`, `found`: A value decodes from the front of the bytes in this grammar, and `rest` follows it. The call appends the minimal encoding of the value in this grammar.
-/// - After an error, `none`: the bytes do not begin with such an encoding, unless the cause is `Memory`.
-/// - `front`: The new bytes begin with the old ones.
-///
-/// ```text
-/// ensures found { IfOk result
-///     (λ rest. Minimizes G.grammar composite_type bytes.now rest.now sink.old.items
-///         sink.new.items) }
-/// ensures none { IfErr result
-///     (λ e. e.cause ≢ Memory → Rejects composite_type (padded_of G.grammar) bytes.now) }
-/// ensures front { IsFrontOf sink.old.items sink.new.items }
-/// ```
-///
-/// Definitions: [`Minimizes`](crate::definitions::base::minimal::Minimizes), [`composite_type`](crate::definitions::types::rec_types::composite_type), [`Rejects`](crate::definitions::base::decoding::Rejects), [`padded_of`](crate::definitions::base::numbers::padded_of), [`IsFrontOf`](crate::definitions::base::minimal::IsFrontOf). [How to read clauses](crate::definitions).
 fn minimize_composite<'a, A: Allocator + Copy, G: Grammar, B: Sink>(
     bytes: &'a [u8],
     alloc: A,
@@ -255,23 +140,6 @@ fn minimize_composite<'a, A: Allocator + Copy, G: Grammar, B: Sink>(
 }
 
 /// Minimizes supertypes and a composite type.
-///
-/// # Proved
-///
-/// - After `Ok`, `found`: A value decodes from the front of the bytes in this grammar, and `rest` follows it. The call appends the minimal encoding of the value in this grammar.
-/// - After an error, `none`: the bytes do not begin with such an encoding, unless the cause is `Memory`.
-/// - `front`: The new bytes begin with the old ones.
-///
-/// ```text
-/// ensures found { IfOk result
-///     (λ rest. Minimizes G.grammar supertypes_and bytes.now rest.now sink.old.items
-///         sink.new.items) }
-/// ensures none { IfErr result
-///     (λ e. e.cause ≢ Memory → Rejects supertypes_and (padded_of G.grammar) bytes.now) }
-/// ensures front { IsFrontOf sink.old.items sink.new.items }
-/// ```
-///
-/// Definitions: [`Minimizes`](crate::definitions::base::minimal::Minimizes), [`supertypes_and`](crate::definitions::types::rec_types::supertypes_and), [`Rejects`](crate::definitions::base::decoding::Rejects), [`padded_of`](crate::definitions::base::numbers::padded_of), [`IsFrontOf`](crate::definitions::base::minimal::IsFrontOf). [How to read clauses](crate::definitions).
 fn minimize_supertypes_and<'a, A: Allocator + Copy, G: Grammar, B: Sink>(
     bytes: &'a [u8],
     alloc: A,
@@ -284,24 +152,6 @@ fn minimize_supertypes_and<'a, A: Allocator + Copy, G: Grammar, B: Sink>(
 /// Minimizes a final subtype whose first byte, 0x4F, precedes the bytes and is not appended.
 /// Without supertypes, which only the standard's grammar admits here, the composite type alone is
 /// appended.
-///
-/// # Proved
-///
-/// - After `Ok`, `found`: A value decodes from the front of the bytes in this grammar, and `rest` follows it. The call appends the minimal encoding of the value in this grammar.
-/// - After an error, `none`: the bytes do not begin with such an encoding, unless the cause is `Memory`.
-/// - `front`: The new bytes begin with the old ones.
-///
-/// ```text
-/// ensures found { IfOk result
-///     (λ rest. Minimizes G.grammar sub_type
-///         (0x4F ∷ bytes.now) rest.now sink.old.items sink.new.items) }
-/// ensures none { IfErr result
-///     (λ e. e.cause ≢ Memory → Rejects sub_type (padded_of G.grammar) (0x4F ∷ bytes.now))
-///     }
-/// ensures front { IsFrontOf sink.old.items sink.new.items }
-/// ```
-///
-/// Definitions: [`Minimizes`](crate::definitions::base::minimal::Minimizes), [`sub_type`](crate::definitions::types::rec_types::sub_type), [`Rejects`](crate::definitions::base::decoding::Rejects), [`padded_of`](crate::definitions::base::numbers::padded_of), [`IsFrontOf`](crate::definitions::base::minimal::IsFrontOf). [How to read clauses](crate::definitions).
 fn minimize_final<'a, A: Allocator + Copy, G: Grammar, B: Sink>(
     bytes: &'a [u8],
     alloc: A,

@@ -7,22 +7,6 @@ use crate::alloc::Allocator;
 use crate::base::{DecodeError, Dropped, Grammar, ReadFault, Readable, Skip, ValType, read_index, skip_many};
 
 /// Skips an inner type after its first byte, `tag`.
-///
-/// # Proved
-///
-/// After `Ok`: `found`, the bytes begin with such an encoding, and the returned bytes follow it. After an error: `none`, the bytes do not begin with such an encoding, unless the cause is `Memory`.
-///
-/// ```text
-/// ensures found { IfOk result
-///     (λ rest. (x : Shape) × Decodes (after_shape tag)
-///         (padded_of G.grammar) bytes.now x rest.now) }
-/// ensures none { IfErr result
-///     (λ e. e.cause ≢ Memory → Rejects (after_shape tag) (padded_of G.grammar) bytes.now)
-///     }
-/// ensures no_memory { IfErr result (λ e. e.cause ≢ Memory) }
-/// ```
-///
-/// Definitions: [`Shape`](crate::definitions::types::rec_types::Shape), [`Decodes`](crate::definitions::base::decoding::Decodes), [`after_shape`](crate::definitions::types::rec_types::after_shape), [`padded_of`](crate::definitions::base::numbers::padded_of), [`Rejects`](crate::definitions::base::decoding::Rejects). [How to read clauses](crate::definitions).
 fn skip_shape_after<'a, A: Allocator + Copy, G: Grammar>(
     tag: u8,
     bytes: &'a [u8],
@@ -51,22 +35,6 @@ fn skip_shape_after<'a, A: Allocator + Copy, G: Grammar>(
 }
 
 /// Skips an optional descriptor and an inner type after the first byte, `tag`.
-///
-/// # Proved
-///
-/// After `Ok`: `found`, the bytes begin with such an encoding, and the returned bytes follow it. After an error: `none`, the bytes do not begin with such an encoding, unless the cause is `Memory`.
-///
-/// ```text
-/// ensures found { IfOk result
-///     (λ rest. (x : Option ℕ × Shape)
-///         × Decodes (after_descriptor tag) (padded_of G.grammar) bytes.now x rest.now) }
-/// ensures none { IfErr result
-///     (λ e. e.cause ≢ Memory → Rejects (after_descriptor tag)
-///         (padded_of G.grammar) bytes.now) }
-/// ensures no_memory { IfErr result (λ e. e.cause ≢ Memory) }
-/// ```
-///
-/// Definitions: [`Shape`](crate::definitions::types::rec_types::Shape), [`Decodes`](crate::definitions::base::decoding::Decodes), [`after_descriptor`](crate::definitions::types::rec_types::after_descriptor), [`padded_of`](crate::definitions::base::numbers::padded_of), [`Rejects`](crate::definitions::base::decoding::Rejects). [How to read clauses](crate::definitions).
 fn skip_descriptor_after<'a, A: Allocator + Copy, G: Grammar>(
     tag: u8,
     bytes: &'a [u8],
@@ -82,22 +50,6 @@ fn skip_descriptor_after<'a, A: Allocator + Copy, G: Grammar>(
 
 /// Skips an optional described type, an optional descriptor and an inner type after the first byte,
 /// `tag`.
-///
-/// # Proved
-///
-/// After `Ok`: `found`, the bytes begin with such an encoding, and the returned bytes follow it. After an error: `none`, the bytes do not begin with such an encoding, unless the cause is `Memory`.
-///
-/// ```text
-/// ensures found { IfOk result
-///     (λ rest. (x : Option ℕ × (Option ℕ × Shape))
-///         × Decodes (after_describes tag) (padded_of G.grammar) bytes.now x rest.now) }
-/// ensures none { IfErr result
-///     (λ e. e.cause ≢ Memory → Rejects (after_describes tag)
-///         (padded_of G.grammar) bytes.now) }
-/// ensures no_memory { IfErr result (λ e. e.cause ≢ Memory) }
-/// ```
-///
-/// Definitions: [`Shape`](crate::definitions::types::rec_types::Shape), [`Decodes`](crate::definitions::base::decoding::Decodes), [`after_describes`](crate::definitions::types::rec_types::after_describes), [`padded_of`](crate::definitions::base::numbers::padded_of), [`Rejects`](crate::definitions::base::decoding::Rejects). [How to read clauses](crate::definitions).
 fn skip_describes_after<'a, A: Allocator + Copy, G: Grammar>(
     tag: u8,
     bytes: &'a [u8],
@@ -112,22 +64,6 @@ fn skip_describes_after<'a, A: Allocator + Copy, G: Grammar>(
 }
 
 /// Skips a composite type after its first byte, `tag`.
-///
-/// # Proved
-///
-/// After `Ok`: `found`, the bytes begin with such an encoding, and the returned bytes follow it. After an error: `none`, the bytes do not begin with such an encoding, unless the cause is `Memory`.
-///
-/// ```text
-/// ensures found { IfOk result
-///     (λ rest. (x : Composite)
-///         × Decodes (after_composite tag) (padded_of G.grammar) bytes.now x rest.now) }
-/// ensures none { IfErr result
-///     (λ e. e.cause ≢ Memory → Rejects (after_composite tag)
-///         (padded_of G.grammar) bytes.now) }
-/// ensures no_memory { IfErr result (λ e. e.cause ≢ Memory) }
-/// ```
-///
-/// Definitions: [`Composite`](crate::definitions::types::rec_types::Composite), [`Decodes`](crate::definitions::base::decoding::Decodes), [`after_composite`](crate::definitions::types::rec_types::after_composite), [`padded_of`](crate::definitions::base::numbers::padded_of), [`Rejects`](crate::definitions::base::decoding::Rejects). [How to read clauses](crate::definitions).
 fn skip_composite_after<'a, A: Allocator + Copy, G: Grammar>(
     tag: u8,
     bytes: &'a [u8],
@@ -142,21 +78,6 @@ fn skip_composite_after<'a, A: Allocator + Copy, G: Grammar>(
 }
 
 /// Skips a composite type.
-///
-/// # Proved
-///
-/// After `Ok`: `found`, the bytes begin with such an encoding, and the returned bytes follow it. After an error: `none`, the bytes do not begin with such an encoding, unless the cause is `Memory`.
-///
-/// ```text
-/// ensures found { IfOk result
-///     (λ rest. (x : Composite)
-///         × Decodes composite_type (padded_of G.grammar) bytes.now x rest.now) }
-/// ensures none { IfErr result
-///     (λ e. e.cause ≢ Memory → Rejects composite_type (padded_of G.grammar) bytes.now) }
-/// ensures no_memory { IfErr result (λ e. e.cause ≢ Memory) }
-/// ```
-///
-/// Definitions: [`Composite`](crate::definitions::types::rec_types::Composite), [`Decodes`](crate::definitions::base::decoding::Decodes), [`composite_type`](crate::definitions::types::rec_types::composite_type), [`padded_of`](crate::definitions::base::numbers::padded_of), [`Rejects`](crate::definitions::base::decoding::Rejects). [How to read clauses](crate::definitions).
 fn skip_composite<'a, A: Allocator + Copy, G: Grammar>(
     bytes: &'a [u8],
     alloc: A,
@@ -166,21 +87,6 @@ fn skip_composite<'a, A: Allocator + Copy, G: Grammar>(
 }
 
 /// Skips supertypes and a composite type.
-///
-/// # Proved
-///
-/// After `Ok`: `found`, the bytes begin with such an encoding, and the returned bytes follow it. After an error: `none`, the bytes do not begin with such an encoding, unless the cause is `Memory`.
-///
-/// ```text
-/// ensures found { IfOk result
-///     (λ rest. (x : List ℕ × Composite)
-///         × Decodes supertypes_and (padded_of G.grammar) bytes.now x rest.now) }
-/// ensures none { IfErr result
-///     (λ e. e.cause ≢ Memory → Rejects supertypes_and (padded_of G.grammar) bytes.now) }
-/// ensures no_memory { IfErr result (λ e. e.cause ≢ Memory) }
-/// ```
-///
-/// Definitions: [`Composite`](crate::definitions::types::rec_types::Composite), [`Decodes`](crate::definitions::base::decoding::Decodes), [`supertypes_and`](crate::definitions::types::rec_types::supertypes_and), [`padded_of`](crate::definitions::base::numbers::padded_of), [`Rejects`](crate::definitions::base::decoding::Rejects). [How to read clauses](crate::definitions).
 fn skip_supertypes_and<'a, A: Allocator + Copy, G: Grammar>(
     bytes: &'a [u8],
     alloc: A,
@@ -191,23 +97,6 @@ fn skip_supertypes_and<'a, A: Allocator + Copy, G: Grammar>(
 
 /// Skips the supertypes of a final type, and its composite type. Only the standard's grammar has
 /// an empty vector of supertypes here.
-///
-/// # Proved
-///
-/// After `Ok`: `found`, the bytes begin with such an encoding, and the returned bytes follow it. After an error: `none`, the bytes do not begin with such an encoding, unless the cause is `Memory`.
-///
-/// ```text
-/// ensures found { IfOk result
-///     (λ rest. (x : List ℕ × Composite)
-///         × Decodes (such (HasFinalPrefix G.grammar) supertypes_and)
-///         (padded_of G.grammar) bytes.now x rest.now) }
-/// ensures none { IfErr result
-///     (λ e. e.cause ≢ Memory → Rejects (such (HasFinalPrefix G.grammar) supertypes_and)
-///         (padded_of G.grammar) bytes.now) }
-/// ensures no_memory { IfErr result (λ e. e.cause ≢ Memory) }
-/// ```
-///
-/// Definitions: [`Composite`](crate::definitions::types::rec_types::Composite), [`Decodes`](crate::definitions::base::decoding::Decodes), [`such`](crate::definitions::base::formats::such), [`HasFinalPrefix`](crate::definitions::types::rec_types::HasFinalPrefix), [`supertypes_and`](crate::definitions::types::rec_types::supertypes_and), [`padded_of`](crate::definitions::base::numbers::padded_of), [`Rejects`](crate::definitions::base::decoding::Rejects). [How to read clauses](crate::definitions).
 fn skip_final_and<'a, A: Allocator + Copy, G: Grammar>(
     bytes: &'a [u8],
     alloc: A,
@@ -220,21 +109,6 @@ fn skip_final_and<'a, A: Allocator + Copy, G: Grammar>(
 }
 
 /// Skips a subtype after its first byte, `tag`.
-///
-/// # Proved
-///
-/// After `Ok`: `found`, the bytes begin with such an encoding, and the returned bytes follow it. After an error: `none`, the bytes do not begin with such an encoding, unless the cause is `Memory`.
-///
-/// ```text
-/// ensures found { IfOk result
-///     (λ rest. (x : Sub) × Decodes (after_sub tag)
-///         (padded_of G.grammar) bytes.now x rest.now) }
-/// ensures none { IfErr result
-///     (λ e. e.cause ≢ Memory → Rejects (after_sub tag) (padded_of G.grammar) bytes.now) }
-/// ensures no_memory { IfErr result (λ e. e.cause ≢ Memory) }
-/// ```
-///
-/// Definitions: [`Sub`](crate::definitions::types::rec_types::Sub), [`Decodes`](crate::definitions::base::decoding::Decodes), [`after_sub`](crate::definitions::types::rec_types::after_sub), [`padded_of`](crate::definitions::base::numbers::padded_of), [`Rejects`](crate::definitions::base::decoding::Rejects). [How to read clauses](crate::definitions).
 fn skip_sub_after<'a, A: Allocator + Copy, G: Grammar>(
     tag: u8,
     bytes: &'a [u8],
