@@ -67,14 +67,6 @@ pub struct DecodeError {
 }
 
 /// Returns the length of the bytes, or 4294967295 if it is greater.
-///
-/// # Proved
-///
-/// ```text
-/// ensures { result ≡ min (length bytes.now) longest }
-/// ```
-///
-/// Definitions: [`longest`](crate::definitions::base::encodings::longest). [How to read clauses](crate::definitions).
 fn length(bytes: &[u8]) -> u32 {
     u32::try_from(bytes.len()).unwrap_or(u32::MAX)
 }
@@ -121,14 +113,6 @@ impl ReadFault {
 
 impl DecodeError {
     /// Returns the error with this cause and this number of bytes left.
-    ///
-    /// # Proved
-    ///
-    /// ```text
-    /// ensures { result ≡ record { cause = cause; left = left } }
-    /// ```
-    ///
-    /// [How to read clauses](crate::definitions).
     fn new(cause: ReadFault, left: u32) -> DecodeError {
         DecodeError {
             word: u64::from(left) * 256 + cause as u64,
@@ -203,14 +187,6 @@ impl fmt::Debug for DecodeError {
 }
 
 /// Returns the error of a failed allocation, with no bytes left.
-///
-/// # Proved
-///
-/// ```text
-/// ensures { result.cause ≡ Memory }
-/// ```
-///
-/// [How to read clauses](crate::definitions).
 fn no_memory() -> DecodeError {
     DecodeError::new(ReadFault::Memory, 0)
 }

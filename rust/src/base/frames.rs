@@ -106,19 +106,6 @@ pub fn encode_size_prefixed<A: Sink>(sink: &mut A, bytes: &[u8]) -> Result<()> {
 }
 
 /// Appends the bytes with their size prefix, which may have several bytes.
-///
-/// # Proved
-///
-/// - `appends`: The call appends the encoding, or returns an error and leaves the bytes as they were. If the value fits, the call never returns `TooLong`, and it succeeds within the spare capacity.
-/// - `too_many`: more than 4294967295 give `TooLong`.
-///
-/// ```text
-/// ensures appends { Appends (size_prefixed_encoding bytes.now)
-///     (HasEncodableSize bytes.now) sink.old sink.new result }
-/// ensures too_many { longest < length bytes.now → result ≡ Err Refused.TooLong }
-/// ```
-///
-/// Definitions: [`Appends`](crate::definitions::base::calls::Appends), [`size_prefixed_encoding`](crate::definitions::base::encodings::size_prefixed_encoding), [`HasEncodableSize`](crate::definitions::base::encodings::HasEncodableSize), [`longest`](crate::definitions::base::encodings::longest). [How to read clauses](crate::definitions).
 #[inline(never)]
 fn encode_long_payload<A: Sink>(sink: &mut A, bytes: &[u8]) -> Result<()> {
     begin_size_prefixed(sink, bytes.len())?;
@@ -339,23 +326,6 @@ pub fn prefix_size_since<B: Sink>(sink: &mut B, start: usize) -> Result<()> {
 }
 
 /// Appends the minimal encoding of the value with its size prefix.
-///
-/// # Proved
-///
-/// - After `Ok`, `ok`: the sink gains the encoding that is minimal in the `grammars` of the type.
-/// - `front`: The new bytes begin with the old ones.
-/// - `too_long`: a value that has an encoding never gives `TooLong`.
-///
-/// ```text
-/// ensures ok { OnOk result
-///     (AppendsMinimal T.grammars (size_prefixed T.format)
-///         (T.view value.now) sink.old.items sink.new.items) }
-/// ensures front { IsFrontOf sink.old.items sink.new.items }
-/// ensures too_long { HasEncoding T.grammars (size_prefixed T.format) (T.view value.now)
-///     → result ≢ Err TooLong }
-/// ```
-///
-/// Definitions: [`AppendsMinimal`](crate::definitions::base::minimal::AppendsMinimal), [`size_prefixed`](crate::definitions::base::formats::size_prefixed), [`IsFrontOf`](crate::definitions::base::minimal::IsFrontOf), [`HasEncoding`](crate::definitions::base::minimal::HasEncoding). [How to read clauses](crate::definitions).
 fn append_payload<T: Shorten, B: Sink>(value: &T, sink: &mut B) -> Result<()> {
     T::laws();
     let start = sink.len();

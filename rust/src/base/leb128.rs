@@ -44,24 +44,6 @@ pub fn encoding_size(n: u32) -> usize {
 }
 
 /// Returns the number of groups of `n`.
-///
-/// # Asks
-///
-/// [What happens otherwise](crate::fallible#what-is-asked).
-///
-/// ```text
-/// requires { 0 < limit }
-/// ```
-///
-/// [How to read clauses](crate::definitions).
-///
-/// # Proved
-///
-/// ```text
-/// ensures { result ≡ length (groups_encoding negative limit n) }
-/// ```
-///
-/// Definitions: [`groups_encoding`](crate::definitions::base::numbers::groups_encoding). [How to read clauses](crate::definitions).
 fn groups_size(negative: bool, limit: u64, n: u64) -> usize {
     let mut size = 1;
     let mut rest = n;
@@ -73,14 +55,6 @@ fn groups_size(negative: bool, limit: u64, n: u64) -> usize {
 }
 
 /// Returns the lowest group of `n`, which further groups follow.
-///
-/// # Proved
-///
-/// ```text
-/// ensures { result ≡ next_group negative n }
-/// ```
-///
-/// Definitions: [`next_group`](crate::definitions::base::numbers::next_group). [How to read clauses](crate::definitions).
 #[inline]
 fn group_before_others(negative: bool, n: u64) -> u8 {
     let low = (n % 0x80) as u8;
@@ -88,24 +62,6 @@ fn group_before_others(negative: bool, n: u64) -> u8 {
 }
 
 /// Returns the last group of a number.
-///
-/// # Asks
-///
-/// [What happens otherwise](crate::fallible#what-is-asked).
-///
-/// ```text
-/// requires { n < 0x80 }
-/// ```
-///
-/// [How to read clauses](crate::definitions).
-///
-/// # Proved
-///
-/// ```text
-/// ensures { result ≡ last_group negative n }
-/// ```
-///
-/// Definitions: [`last_group`](crate::definitions::base::numbers::last_group). [How to read clauses](crate::definitions).
 #[inline]
 fn group_at_the_end(negative: bool, n: u64) -> u8 {
     let low = n as u8;
@@ -113,27 +69,6 @@ fn group_at_the_end(negative: bool, n: u64) -> u8 {
 }
 
 /// Appends the groups of `n` into spare capacity of the sink, which holds them all.
-///
-/// # Asks
-///
-/// [What happens otherwise](crate::fallible#what-is-asked).
-///
-/// ```text
-/// requires limit { 0 < limit × limit ≤ 0x80 }
-/// requires spare { vec_len sink.old + length (groups_encoding negative limit n)
-///     ≤ vec_capacity sink.old }
-/// ```
-///
-/// Definitions: [`groups_encoding`](crate::definitions::base::numbers::groups_encoding). [How to read clauses](crate::definitions).
-///
-/// # Proved
-///
-/// ```text
-/// ensures items { sink.new.items ≡ sink.old.items ++ groups_encoding negative limit n }
-/// ensures capacity { vec_capacity sink.new ≡ vec_capacity sink.old }
-/// ```
-///
-/// Definitions: [`groups_encoding`](crate::definitions::base::numbers::groups_encoding). [How to read clauses](crate::definitions).
 fn put_groups<A: Sink>(sink: &mut A, negative: bool, limit: u64, n: u64) {
     let mut rest = n;
     while rest >= limit {
@@ -144,27 +79,6 @@ fn put_groups<A: Sink>(sink: &mut A, negative: bool, limit: u64, n: u64) {
 }
 
 /// Appends the two groups of `n` into spare capacity of the sink, which holds them.
-///
-/// # Asks
-///
-/// [What happens otherwise](crate::fallible#what-is-asked).
-///
-/// ```text
-/// requires limit { 0 < limit × limit ≤ 0x80 }
-/// requires two { limit ≤ n × n < limit * 0x80 }
-/// requires spare { vec_len sink.old + 2 ≤ vec_capacity sink.old }
-/// ```
-///
-/// [How to read clauses](crate::definitions).
-///
-/// # Proved
-///
-/// ```text
-/// ensures items { sink.new.items ≡ sink.old.items ++ groups_encoding negative limit n }
-/// ensures capacity { vec_capacity sink.new ≡ vec_capacity sink.old }
-/// ```
-///
-/// Definitions: [`groups_encoding`](crate::definitions::base::numbers::groups_encoding). [How to read clauses](crate::definitions).
 #[inline]
 fn put_two_groups<A: Sink>(sink: &mut A, negative: bool, limit: u64, n: u64) {
     sink.push_both_reserved([group_before_others(negative, n), group_at_the_end(negative, n / 0x80)]);
@@ -175,27 +89,6 @@ const MOST_GROUPS: usize = 10;
 
 /// Appends the groups of `n`, of which there are at least two. With spare capacity for
 /// `MOST_GROUPS` they are not counted first, and two groups are written without a loop.
-///
-/// # Asks
-///
-/// [What happens otherwise](crate::fallible#what-is-asked).
-///
-/// ```text
-/// requires limit { 0x40 ≤ limit × limit ≤ 0x80 }
-/// requires several { limit ≤ n }
-/// ```
-///
-/// [How to read clauses](crate::definitions).
-///
-/// # Proved
-///
-/// The call appends the encoding, or returns an error and leaves the bytes as they were. If the value fits, the call never returns `TooLong`, and it succeeds within the spare capacity.
-///
-/// ```text
-/// ensures { Appends (groups_encoding negative limit n) ⊤ sink.old sink.new result }
-/// ```
-///
-/// Definitions: [`Appends`](crate::definitions::base::calls::Appends), [`groups_encoding`](crate::definitions::base::numbers::groups_encoding). [How to read clauses](crate::definitions).
 #[inline(always)]
 fn append_groups<A: Sink>(
     sink: &mut A,
@@ -215,26 +108,6 @@ fn append_groups<A: Sink>(
 }
 
 /// Appends the groups of `n`, which are counted first so that one reservation suffices.
-///
-/// # Asks
-///
-/// [What happens otherwise](crate::fallible#what-is-asked).
-///
-/// ```text
-/// requires { 0 < limit × limit ≤ 0x80 }
-/// ```
-///
-/// [How to read clauses](crate::definitions).
-///
-/// # Proved
-///
-/// The call appends the encoding, or returns an error and leaves the bytes as they were. If the value fits, the call never returns `TooLong`, and it succeeds within the spare capacity.
-///
-/// ```text
-/// ensures { Appends (groups_encoding negative limit n) ⊤ sink.old sink.new result }
-/// ```
-///
-/// Definitions: [`Appends`](crate::definitions::base::calls::Appends), [`groups_encoding`](crate::definitions::base::numbers::groups_encoding). [How to read clauses](crate::definitions).
 #[cold]
 #[inline(never)]
 fn append_counted_groups<A: Sink>(
@@ -249,68 +122,18 @@ fn append_counted_groups<A: Sink>(
 }
 
 /// Appends an unsigned number of several groups.
-///
-/// # Asks
-///
-/// [What happens otherwise](crate::fallible#what-is-asked).
-///
-/// ```text
-/// requires { 0x80 ≤ n }
-/// ```
-///
-/// [How to read clauses](crate::definitions).
-///
-/// # Proved
-///
-/// The call appends the encoding, or returns an error and leaves the bytes as they were. If the value fits, the call never returns `TooLong`, and it succeeds within the spare capacity.
-///
-/// ```text
-/// ensures { Appends (unsigned_encoding n) ⊤ sink.old sink.new result }
-/// ```
-///
-/// Definitions: [`Appends`](crate::definitions::base::calls::Appends), [`unsigned_encoding`](crate::definitions::base::numbers::unsigned_encoding). [How to read clauses](crate::definitions).
 #[inline(never)]
 fn append_long_unsigned<A: Sink>(sink: &mut A, n: u64) -> Result<()> {
     append_groups(sink, false, UNSIGNED_LIMIT, n)
 }
 
 /// Appends a signed number of several groups.
-///
-/// # Asks
-///
-/// [What happens otherwise](crate::fallible#what-is-asked).
-///
-/// ```text
-/// requires { 0x40 ≤ n }
-/// ```
-///
-/// [How to read clauses](crate::definitions).
-///
-/// # Proved
-///
-/// The call appends the encoding, or returns an error and leaves the bytes as they were. If the value fits, the call never returns `TooLong`, and it succeeds within the spare capacity.
-///
-/// ```text
-/// ensures { Appends (groups_encoding negative SIGNED_LIMIT n) ⊤ sink.old sink.new result }
-/// ```
-///
-/// Definitions: [`Appends`](crate::definitions::base::calls::Appends), [`groups_encoding`](crate::definitions::base::numbers::groups_encoding). [How to read clauses](crate::definitions).
 #[inline(never)]
 fn append_long_signed<A: Sink>(sink: &mut A, negative: bool, n: u64) -> Result<()> {
     append_groups(sink, negative, SIGNED_LIMIT, n)
 }
 
 /// Appends an unsigned number. Most have one byte, which is written here without a call.
-///
-/// # Proved
-///
-/// The call appends the encoding, or returns an error and leaves the bytes as they were. If the value fits, the call never returns `TooLong`, and it succeeds within the spare capacity.
-///
-/// ```text
-/// ensures { Appends (unsigned_encoding n) ⊤ sink.old sink.new result }
-/// ```
-///
-/// Definitions: [`Appends`](crate::definitions::base::calls::Appends), [`unsigned_encoding`](crate::definitions::base::numbers::unsigned_encoding). [How to read clauses](crate::definitions).
 #[inline]
 fn append_unsigned<A: Sink>(sink: &mut A, n: u64) -> Result<()> {
     if n < UNSIGNED_LIMIT {
@@ -321,16 +144,6 @@ fn append_unsigned<A: Sink>(sink: &mut A, n: u64) -> Result<()> {
 }
 
 /// Appends a signed number. Most have one byte, which is written here without a call.
-///
-/// # Proved
-///
-/// The call appends the encoding, or returns an error and leaves the bytes as they were. If the value fits, the call never returns `TooLong`, and it succeeds within the spare capacity.
-///
-/// ```text
-/// ensures { Appends (signed_encoding n) ⊤ sink.old sink.new result }
-/// ```
-///
-/// Definitions: [`Appends`](crate::definitions::base::calls::Appends), [`signed_encoding`](crate::definitions::base::numbers::signed_encoding). [How to read clauses](crate::definitions).
 #[inline]
 fn append_signed<A: Sink>(sink: &mut A, n: i64) -> Result<()> {
     let negative = n < 0;
@@ -538,24 +351,6 @@ pub fn read_groups(bytes: &[u8], limit: u8) -> Result<(Groups, &[u8]), DecodeErr
 }
 
 /// Returns the number that the groups encode in two's complement.
-///
-/// # Asks
-///
-/// [What happens otherwise](crate::fallible#what-is-asked).
-///
-/// ```text
-/// requires { groups.sum < 2 ^ 70 × groups.power ≤ 2 ^ 70 }
-/// ```
-///
-/// [How to read clauses](crate::definitions).
-///
-/// # Proved
-///
-/// ```text
-/// ensures { result ≡ signed_of groups.sum groups.power groups.last }
-/// ```
-///
-/// Definitions: [`signed_of`](crate::definitions::base::groups::signed_of). [How to read clauses](crate::definitions).
 fn signed(groups: Groups) -> i128 {
     if groups.last < 0x40 {
         groups.sum as i128
@@ -565,24 +360,6 @@ fn signed(groups: Groups) -> i128 {
 }
 
 /// Returns the number that one group encodes in two's complement.
-///
-/// # Asks
-///
-/// [What happens otherwise](crate::fallible#what-is-asked).
-///
-/// ```text
-/// requires { group < 0x80 }
-/// ```
-///
-/// [How to read clauses](crate::definitions).
-///
-/// # Proved
-///
-/// ```text
-/// ensures { result ≡ signed_of group 0x80 group }
-/// ```
-///
-/// Definitions: [`signed_of`](crate::definitions::base::groups::signed_of). [How to read clauses](crate::definitions).
 #[inline]
 fn signed_byte(group: u8) -> i16 {
     if group < 0x40 {
@@ -601,23 +378,6 @@ struct FewGroups {
 }
 
 /// Decodes the groups at the front, at most five, and returns them with the remaining bytes.
-///
-/// # Proved
-///
-/// - After `Ok`, `found`: The bytes begin with LEB128 groups: their sum, 128 to the power of their number, and the last group. The returned bytes follow them.
-/// - After `Ok`, `below`: the sum is below the power.
-/// - After an error, `none`: the bytes do not begin with such an encoding.
-///
-/// ```text
-/// ensures found { IfOk result
-///     (λ x. HasGroups 5 bytes.now x.0.sum x.0.power x.0.last x.1.now) }
-/// ensures power { IfOk result (λ x. x.0.power ≤ 2 ^ 35) }
-/// ensures below { IfOk result (λ x. x.0.sum < x.0.power) }
-/// ensures none { IfErr result (λ _. Rejects (groups 5) padded bytes.now) }
-/// ensures no_memory { IfErr result (λ e. e.cause ≢ Memory) }
-/// ```
-///
-/// Definitions: [`HasGroups`](crate::definitions::base::groups::HasGroups), [`Rejects`](crate::definitions::base::decoding::Rejects), [`groups`](crate::definitions::base::groups::groups), [`padded`](crate::definitions::base::numbers::Mode). [How to read clauses](crate::definitions).
 #[inline]
 fn read_few_groups(bytes: &[u8]) -> Result<(FewGroups, &[u8]), DecodeError> {
     let mut rest = bytes;
@@ -643,24 +403,6 @@ fn read_few_groups(bytes: &[u8]) -> Result<(FewGroups, &[u8]), DecodeError> {
 }
 
 /// Returns the number that at most five groups encode in two's complement.
-///
-/// # Asks
-///
-/// [What happens otherwise](crate::fallible#what-is-asked).
-///
-/// ```text
-/// requires { groups.sum < 2 ^ 35 × groups.power ≤ 2 ^ 35 }
-/// ```
-///
-/// [How to read clauses](crate::definitions).
-///
-/// # Proved
-///
-/// ```text
-/// ensures { result ≡ signed_of groups.sum groups.power groups.last }
-/// ```
-///
-/// Definitions: [`signed_of`](crate::definitions::base::groups::signed_of). [How to read clauses](crate::definitions).
 #[inline]
 fn signed_few(groups: FewGroups) -> i64 {
     if groups.last < 0x40 {
@@ -671,20 +413,6 @@ fn signed_few(groups: FewGroups) -> i64 {
 }
 
 /// Decodes an unsigned number of 32 bits. Out of line, for those of several bytes.
-///
-/// # Proved
-///
-/// After `Ok`: `found`, the bytes begin with an encoding of the value, and the returned bytes follow it. After an error: `none`, the bytes do not begin with such an encoding, unless the cause is `Memory`.
-///
-/// ```text
-/// ensures found { IfOk result
-///     (λ x. Decodes u32_format (padded_of G.grammar) bytes.now x.0 x.1.now) }
-/// ensures none { IfErr result
-///     (λ e. e.cause ≢ Memory → Rejects u32_format (padded_of G.grammar) bytes.now) }
-/// ensures no_memory { IfErr result (λ e. e.cause ≢ Memory) }
-/// ```
-///
-/// Definitions: [`Decodes`](crate::definitions::base::decoding::Decodes), [`u32_format`](crate::definitions::base::formats::u32), [`padded_of`](crate::definitions::base::numbers::padded_of), [`Rejects`](crate::definitions::base::decoding::Rejects). [How to read clauses](crate::definitions).
 #[inline(never)]
 fn read_long_u32<G: Grammar>(bytes: &[u8]) -> Result<(u32, &[u8]), DecodeError> {
     let (groups, rest) = read_few_groups(bytes)?;
@@ -696,20 +424,6 @@ fn read_long_u32<G: Grammar>(bytes: &[u8]) -> Result<(u32, &[u8]), DecodeError> 
 }
 
 /// Decodes an unsigned number of 64 bits. Out of line, for those of several bytes.
-///
-/// # Proved
-///
-/// After `Ok`: `found`, the bytes begin with an encoding of the value, and the returned bytes follow it. After an error: `none`, the bytes do not begin with such an encoding, unless the cause is `Memory`.
-///
-/// ```text
-/// ensures found { IfOk result
-///     (λ x. Decodes u64_format (padded_of G.grammar) bytes.now x.0 x.1.now) }
-/// ensures none { IfErr result
-///     (λ e. e.cause ≢ Memory → Rejects u64_format (padded_of G.grammar) bytes.now) }
-/// ensures no_memory { IfErr result (λ e. e.cause ≢ Memory) }
-/// ```
-///
-/// Definitions: [`Decodes`](crate::definitions::base::decoding::Decodes), [`u64_format`](crate::definitions::base::formats::u64), [`padded_of`](crate::definitions::base::numbers::padded_of), [`Rejects`](crate::definitions::base::decoding::Rejects). [How to read clauses](crate::definitions).
 #[inline(never)]
 fn read_long_u64<G: Grammar>(bytes: &[u8]) -> Result<(u64, &[u8]), DecodeError> {
     if let Ok((groups, rest)) = read_few_groups(bytes) {
@@ -724,20 +438,6 @@ fn read_long_u64<G: Grammar>(bytes: &[u8]) -> Result<(u64, &[u8]), DecodeError> 
 }
 
 /// Decodes a signed number of 32 bits. Out of line, for those of several bytes.
-///
-/// # Proved
-///
-/// After `Ok`: `found`, the bytes begin with an encoding of the value, and the returned bytes follow it. After an error: `none`, the bytes do not begin with such an encoding, unless the cause is `Memory`.
-///
-/// ```text
-/// ensures found { IfOk result
-///     (λ x. Decodes s32 (padded_of G.grammar) bytes.now x.0 x.1.now) }
-/// ensures none { IfErr result
-///     (λ e. e.cause ≢ Memory → Rejects s32 (padded_of G.grammar) bytes.now) }
-/// ensures no_memory { IfErr result (λ e. e.cause ≢ Memory) }
-/// ```
-///
-/// Definitions: [`Decodes`](crate::definitions::base::decoding::Decodes), [`s32`](crate::definitions::base::formats::s32), [`padded_of`](crate::definitions::base::numbers::padded_of), [`Rejects`](crate::definitions::base::decoding::Rejects). [How to read clauses](crate::definitions).
 #[inline(never)]
 fn read_long_i32<G: Grammar>(bytes: &[u8]) -> Result<(i32, &[u8]), DecodeError> {
     let (groups, rest) = read_few_groups(bytes)?;
@@ -753,20 +453,6 @@ fn read_long_i32<G: Grammar>(bytes: &[u8]) -> Result<(i32, &[u8]), DecodeError> 
 }
 
 /// Decodes a signed number of 64 bits. Out of line, for those of several bytes.
-///
-/// # Proved
-///
-/// After `Ok`: `found`, the bytes begin with an encoding of the value, and the returned bytes follow it. After an error: `none`, the bytes do not begin with such an encoding, unless the cause is `Memory`.
-///
-/// ```text
-/// ensures found { IfOk result
-///     (λ x. Decodes s64 (padded_of G.grammar) bytes.now x.0 x.1.now) }
-/// ensures none { IfErr result
-///     (λ e. e.cause ≢ Memory → Rejects s64 (padded_of G.grammar) bytes.now) }
-/// ensures no_memory { IfErr result (λ e. e.cause ≢ Memory) }
-/// ```
-///
-/// Definitions: [`Decodes`](crate::definitions::base::decoding::Decodes), [`s64`](crate::definitions::base::formats::s64), [`padded_of`](crate::definitions::base::numbers::padded_of), [`Rejects`](crate::definitions::base::decoding::Rejects). [How to read clauses](crate::definitions).
 #[inline(never)]
 fn read_long_i64<G: Grammar>(bytes: &[u8]) -> Result<(i64, &[u8]), DecodeError> {
     if let Ok((groups, rest)) = read_few_groups(bytes) {

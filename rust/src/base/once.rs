@@ -112,21 +112,6 @@ pub struct BytesOf<I> {
 
 /// Returns the number of items that the iterator reports, or `TooLong` if a count cannot represent
 /// it.
-///
-/// # Proved
-///
-/// After an error: `refused`, the error is `TooLong`. In any case: `too_many`, more than 4294967295 give `TooLong`.
-///
-/// ```text
-/// ensures ok { IfOk result
-///     (λ count. IsFinite (I.remaining items.now) × (size (I.remaining items.now) ≡ count)
-///         × (count ≤ longest)) }
-/// ensures too_long { size (I.remaining items.now) ≤ longest → result ≢ Err TooLong }
-/// ensures too_many { longest < size (I.remaining items.now) → result ≡ Err TooLong }
-/// ensures refused { IfErr result (λ refused. refused ≡ TooLong) }
-/// ```
-///
-/// Definitions: [`longest`](crate::definitions::base::encodings::longest). [How to read clauses](crate::definitions).
 fn count_of<I: ExactSizeIterator>(items: &I) -> Result<u32> {
     let Ok(count) = u32::try_from(items.len()) else {
         return Err(Refused::TooLong);
@@ -257,27 +242,6 @@ const SHORT: usize = 256;
 
 /// Returns the next `BLOCK` bytes of an iterator that has that many. Only their number is tested,
 /// so that the compiler copies them as a whole.
-///
-/// # Asks
-///
-/// [What happens otherwise](crate::fallible#what-is-asked).
-///
-/// ```text
-/// requires ready { I.can_next items.old × IsFinite (I.remaining items.old) }
-/// requires many { (xs : List ℕ) → Drains I.next_gives items.old xs → 16 ≤ length xs }
-/// ```
-///
-/// [How to read clauses](crate::definitions).
-///
-/// # Proved
-///
-/// ```text
-/// ensures yields { Yields I.next_gives items.old result items.new }
-/// ensures count { length result ≡ 16 }
-/// ensures ready { I.can_next items.new × IsFinite (I.remaining items.new) }
-/// ```
-///
-/// [How to read clauses](crate::definitions).
 fn next_block<I: Iterator<Item = u8>>(items: &mut I) -> [u8; BLOCK] {
     let mut block = [0; BLOCK];
     for i in 0..BLOCK {
@@ -288,32 +252,6 @@ fn next_block<I: Iterator<Item = u8>>(items: &mut I) -> [u8; BLOCK] {
 
 /// Appends a short run except its last few bytes, one block at a time, and nothing of a long run.
 /// The sink has spare capacity for the whole run.
-///
-/// # Asks
-///
-/// [What happens otherwise](crate::fallible#what-is-asked).
-///
-/// ```text
-/// requires ready { I.can_next items.old × IsFinite (I.remaining items.old) }
-/// requires reported { (xs : List ℕ) → Drains I.next_gives items.old xs
-///     → length xs ≡ count }
-/// requires spare { vec_len sink.old + count ≤ vec_capacity sink.old }
-/// ```
-///
-/// [How to read clauses](crate::definitions).
-///
-/// # Proved
-///
-/// In any case: `capacity`, the capacity does not shrink.
-///
-/// ```text
-/// ensures appends { (xs : List ℕ) × Yields I.next_gives items.old xs items.new
-///     × (sink.new.items ≡ sink.old.items ++ xs) }
-/// ensures ready { I.can_next items.new × IsFinite (I.remaining items.new) }
-/// ensures capacity { vec_capacity sink.old ≤ vec_capacity sink.new }
-/// ```
-///
-/// [How to read clauses](crate::definitions).
 fn append_blocks<I: Iterator<Item = u8>, A: Sink>(
     sink: &mut A,
     items: &mut I,

@@ -44,24 +44,6 @@ pub struct Pieces<A: Allocator = Global> {
 }
 
 /// Returns the offset at which the entry at `index` begins.
-///
-/// # Asks
-///
-/// [What happens otherwise](crate::fallible#what-is-asked).
-///
-/// ```text
-/// requires { index ≤ length ends.now }
-/// ```
-///
-/// [How to read clauses](crate::definitions).
-///
-/// # Proved
-///
-/// ```text
-/// ensures { result ≡ slice_index (0 ∷ ends.now) index }
-/// ```
-///
-/// [How to read clauses](crate::definitions).
 fn start_of(ends: &[usize], index: usize) -> usize {
     if index == 0 { 0 } else { ends[index - 1] }
 }
@@ -109,14 +91,6 @@ impl<A: Allocator> Pieces<A> {
     }
 
     /// Returns `true` if there are as many entries as a count of 32 bits represents.
-    ///
-    /// # Proved
-    ///
-    /// ```text
-    /// ensures { Decides result (length self.now ≡ longest) }
-    /// ```
-    ///
-    /// Definitions: [`longest`](crate::definitions::base::encodings::longest). [How to read clauses](crate::definitions).
     #[inline]
     fn is_full(&self) -> bool {
         self.len() == u32::MAX

@@ -13,17 +13,6 @@ use crate::base::shorten::Shorten;
 use crate::alloc::Allocator;
 
 /// Appends the encodings of both values, or of neither.
-///
-/// # Proved
-///
-/// The call appends the encoding, or returns an error and leaves the bytes as they were. If the value fits, the call never returns `TooLong`, and it succeeds within the spare capacity.
-///
-/// ```text
-/// ensures { Appends (S.encoding first.now ++ T.encoding second.now)
-///     (S.encodable first.now × T.encodable second.now) sink.old sink.new result }
-/// ```
-///
-/// Definitions: [`Appends`](crate::definitions::base::calls::Appends). [How to read clauses](crate::definitions).
 #[inline(always)]
 fn encode_both<S: Encode, T: Encode, A: Sink>(
     first: &S,

@@ -189,14 +189,6 @@ pub enum ValType {
 
 impl AbstractHeapType {
     /// Returns the byte that encodes the type.
-    ///
-    /// # Proved
-    ///
-    /// ```text
-    /// ensures { result ≡ abstract_code self }
-    /// ```
-    ///
-    /// Definitions: [`abstract_code`](crate::definitions::base::types::abstract_code). [How to read clauses](crate::definitions).
     #[inline]
     fn byte(self) -> u8 {
         self as u8
@@ -246,17 +238,6 @@ impl Encode for HeapType {
 impl RefType {
     /// Appends the byte for the nullability, and the heap type. Out of line, since most reference
     /// types have a byte of their own.
-    ///
-    /// # Proved
-    ///
-    /// The call appends the encoding, or returns an error and leaves the bytes as they were. If the value fits, the call never returns `TooLong`, and it succeeds within the spare capacity.
-    ///
-    /// ```text
-    /// ensures { Appends (cond self.nullable 0x63 0x64 ∷ heap_encoding self.heap_type) ⊤
-    ///     sink.old sink.new result }
-    /// ```
-    ///
-    /// Definitions: [`Appends`](crate::definitions::base::calls::Appends), [`heap_encoding`](crate::definitions::base::types::heap_encoding). [How to read clauses](crate::definitions).
     #[inline(never)]
     fn encode_heap_type<A: Sink>(self, sink: &mut A) -> Result<()> {
         let byte: u8 = if self.nullable { 0x63 } else { 0x64 };
@@ -300,17 +281,6 @@ impl Encode for RefType {
 
 impl RefType {
     /// Appends the minimal encoding by the standard.
-    ///
-    /// # Proved
-    ///
-    /// The call appends the encoding, or returns an error and leaves the bytes as they were. If the value fits, the call never returns `TooLong`, and it succeeds within the spare capacity.
-    ///
-    /// ```text
-    /// ensures { Appends (tight_bytes self.nullable self.heap_type) ⊤ sink.old sink.new result
-    ///     }
-    /// ```
-    ///
-    /// Definitions: [`Appends`](crate::definitions::base::calls::Appends), [`tight_bytes`](crate::definitions::base::types::tight_bytes). [How to read clauses](crate::definitions).
     fn encode_tight<A: Sink>(self, sink: &mut A) -> Result<()> {
         match self {
             RefType {
@@ -390,15 +360,6 @@ impl Encode for ValType {
 }
 
 /// Returns the abstract heap type that the byte encodes, or `None` if it encodes none.
-///
-/// # Proved
-///
-/// ```text
-/// ensures { MatchOption result ((ty : Abstract) → byte ≢ abstract_code ty)
-///     (λ ty. byte ≡ abstract_code ty) }
-/// ```
-///
-/// Definitions: [`abstract_code`](crate::definitions::base::types::abstract_code). [How to read clauses](crate::definitions).
 fn abstract_of(byte: u8) -> Option<AbstractHeapType> {
     match byte {
         0x70 => Some(AbstractHeapType::Func),
@@ -493,15 +454,6 @@ impl<'a, A: Allocator + Copy, G: Grammar> Readable<'a, A, G> for HeapType {
 }
 
 /// Returns `true` if the nullable reference to the heap type has a one-byte encoding by builders.
-///
-/// # Proved
-///
-/// ```text
-/// ensures yes { IsTrue result → HasNoByte heap → ⊥ }
-/// ensures no { result ≡ false → HasNoByte heap }
-/// ```
-///
-/// Definitions: [`HasNoByte`](crate::definitions::base::types::HasNoByte). [How to read clauses](crate::definitions).
 fn has_own_byte(heap: HeapType) -> bool {
     match heap {
         HeapType::Abstract {
@@ -513,15 +465,6 @@ fn has_own_byte(heap: HeapType) -> bool {
 }
 
 /// Returns `true` if the byte 0x63 may precede the heap type of a nullable reference type.
-///
-/// # Proved
-///
-/// ```text
-/// ensures yes { IsTrue result → HasLongForm G.grammar heap }
-/// ensures no { result ≡ false → HasLongForm G.grammar heap → ⊥ }
-/// ```
-///
-/// Definitions: [`HasLongForm`](crate::definitions::base::types::HasLongForm). [How to read clauses](crate::definitions).
 fn has_long_form<G: Grammar>(heap: HeapType) -> bool {
     if G::is_standard() {
         return true;
@@ -531,16 +474,6 @@ fn has_long_form<G: Grammar>(heap: HeapType) -> bool {
 
 /// Returns the nullable reference type that the byte alone encodes in the standard's grammar.
 /// Returns `None` for any other byte, and in the builders' grammar.
-///
-/// # Proved
-///
-/// ```text
-/// ensures { MatchOption result
-///     (is_admitted G.grammar ≡ true → (ty : Abstract) → byte ≢ abstract_code ty)
-///     (λ r. ref_type (padded_of G.grammar) (byte ∷ []) r) }
-/// ```
-///
-/// Definitions: [`is_admitted`](crate::definitions::base::numbers::is_admitted), [`abstract_code`](crate::definitions::base::types::abstract_code), [`ref_type`](crate::definitions::base::types::ref_type), [`padded_of`](crate::definitions::base::numbers::padded_of). [How to read clauses](crate::definitions).
 fn short_ref<G: Grammar>(byte: u8) -> Option<RefType> {
     if !G::is_standard() {
         return None;
@@ -555,22 +488,6 @@ fn short_ref<G: Grammar>(byte: u8) -> Option<RefType> {
 }
 
 /// Decodes a reference type after its first byte, `tag`.
-///
-/// # Proved
-///
-/// After `Ok`: `found`, the bytes begin with an encoding of the value, and the returned bytes follow it. After an error: `none`, the bytes do not begin with such an encoding, unless the cause is `Memory`.
-///
-/// ```text
-/// ensures found { IfOk result
-///     (λ x. Decodes (after_byte ref_type tag) (padded_of G.grammar) bytes.now x.0 x.1.now)
-///     }
-/// ensures none { IfErr result
-///     (λ e. e.cause ≢ Memory → Rejects (after_byte ref_type tag)
-///         (padded_of G.grammar) bytes.now) }
-/// ensures no_memory { IfErr result (λ e. e.cause ≢ Memory) }
-/// ```
-///
-/// Definitions: [`Decodes`](crate::definitions::base::decoding::Decodes), [`after_byte`](crate::definitions::base::formats::after_byte), [`ref_type`](crate::definitions::base::types::ref_type), [`padded_of`](crate::definitions::base::numbers::padded_of), [`Rejects`](crate::definitions::base::decoding::Rejects). [How to read clauses](crate::definitions).
 fn read_ref_after<'a, A: Allocator + Copy, G: Grammar>(
     tag: u8,
     bytes: &'a [u8],

@@ -60,23 +60,6 @@ pub fn read_code<'a, A: Allocator + Copy, G: Grammar>(
 }
 
 /// Appends the minimal encodings of the instructions.
-///
-/// # Proved
-///
-/// - After `Ok`, `ok`: the sink gains the encoding that is minimal in the builders' grammar.
-/// - `front`: The new bytes begin with the old ones.
-/// - `too_long`: a value that has an encoding never gives `TooLong`.
-///
-/// ```text
-/// ensures ok { OnOk result
-///     (AppendsMinimal builders_alone (members (instruction table))
-///         (map plain_view code.now) sink.old.items sink.new.items) }
-/// ensures front { IsFrontOf sink.old.items sink.new.items }
-/// ensures too_long { HasEncoding builders_alone (members (instruction table))
-///     (map plain_view code.now) → result ≢ Err TooLong }
-/// ```
-///
-/// Definitions: [`AppendsMinimal`](crate::definitions::base::minimal::AppendsMinimal), [`builders_alone`](crate::definitions::base::minimal::Grammars), [`members`](crate::definitions::base::formats::members), [`instruction`](crate::definitions::insn::plain::instruction), [`table`](crate::definitions::insn::table::table), [`plain_view`](crate::definitions::insn::views::plain_view), [`IsFrontOf`](crate::definitions::base::minimal::IsFrontOf), [`HasEncoding`](crate::definitions::base::minimal::HasEncoding). [How to read clauses](crate::definitions).
 pub(crate) fn append_code<A: Allocator, B: Sink>(
     code: &[Plain<A>],
     sink: &mut B,
@@ -192,21 +175,6 @@ impl<A: Allocator> Shorten for Body<A> {
 }
 
 /// Walks over the content of a body, without its size prefix.
-///
-/// # Proved
-///
-/// After `Ok`: `found`, the bytes as a whole are an encoding, and the effect takes the minimal one. After an error: `none`, the bytes as a whole are no such encoding, unless the cause is `Memory`; `no_memory`, the cause is `Memory` only with an effect whose calls may fail. In any case: `front`, the effect keeps what it took before.
-///
-/// ```text
-/// ensures found { OnOk result
-///     (WalksWhole E.seen G.grammar body bytes.now effect.old effect.new) }
-/// ensures none { IfErr result
-///     (λ e. e.cause ≢ Memory → RejectsWhole body (padded_of G.grammar) bytes.now) }
-/// ensures no_memory { IfErr result (λ e. e.cause ≡ Memory → E.may_fail) }
-/// ensures front { Keeps E.seen effect.old effect.new }
-/// ```
-///
-/// Definitions: [`WalksWhole`](crate::definitions::base::walks::WalksWhole), [`body`](crate::definitions::code::bodies::body), [`RejectsWhole`](crate::definitions::base::continuing::RejectsWhole), [`padded_of`](crate::definitions::base::numbers::padded_of), [`Keeps`](crate::definitions::base::walks::Keeps). [How to read clauses](crate::definitions).
 fn walk_content<'a, A: Allocator + Copy, G: Grammar, E: Effect>(
     bytes: &'a [u8],
     alloc: A,
@@ -218,22 +186,6 @@ fn walk_content<'a, A: Allocator + Copy, G: Grammar, E: Effect>(
 
 /// Appends the minimal encoding of the content of a body, without its size prefix. After an error,
 /// part of it may follow the old bytes of the sink.
-///
-/// # Proved
-///
-/// - After `Ok`, `found`: The bytes as a whole decode to a value in this grammar, and the call appends the minimal encoding of the value in this grammar.
-/// - After an error, `none`: the bytes as a whole are no such encoding, unless the cause is `Memory`.
-/// - `front`: The new bytes begin with the old ones.
-///
-/// ```text
-/// ensures found { OnOk result
-///     (MinimizesWhole G.grammar body bytes.now sink.old.items sink.new.items) }
-/// ensures none { IfErr result
-///     (λ e. e.cause ≢ Memory → RejectsWhole body (padded_of G.grammar) bytes.now) }
-/// ensures front { IsFrontOf sink.old.items sink.new.items }
-/// ```
-///
-/// Definitions: [`MinimizesWhole`](crate::definitions::base::minimal::MinimizesWhole), [`body`](crate::definitions::code::bodies::body), [`RejectsWhole`](crate::definitions::base::continuing::RejectsWhole), [`padded_of`](crate::definitions::base::numbers::padded_of), [`IsFrontOf`](crate::definitions::base::minimal::IsFrontOf). [How to read clauses](crate::definitions).
 fn minimize_content<A: Allocator + Copy, G: Grammar, B: Sink>(
     bytes: &[u8],
     alloc: A,
@@ -244,24 +196,6 @@ fn minimize_content<A: Allocator + Copy, G: Grammar, B: Sink>(
 
 /// Appends the minimal encoding of a body with its size prefix. After an error, part of it may
 /// follow the old bytes of the sink.
-///
-/// # Proved
-///
-/// - After `Ok`, `found`: the bytes encode a body, and the sink gains its minimal encoding in the builders' grammar, with the size prefix.
-/// - After an error, `none`: the bytes as a whole are no such encoding, unless the cause is `Memory`.
-/// - `front`: The new bytes begin with the old ones.
-///
-/// ```text
-/// ensures found { OnOk result
-///     ((x : BodyModel) × body padded bytes.now x
-///         × AppendsMinimal builders_alone
-///         (size_prefixed body) x sink.old.items sink.new.items) }
-/// ensures none { IfErr result
-///     (λ e. e.cause ≢ Memory → RejectsWhole body padded bytes.now) }
-/// ensures front { IsFrontOf sink.old.items sink.new.items }
-/// ```
-///
-/// Definitions: [`BodyModel`](crate::definitions::code::bodies::Body), [`body`](crate::definitions::code::bodies::body), [`padded`](crate::definitions::base::numbers::Mode), [`AppendsMinimal`](crate::definitions::base::minimal::AppendsMinimal), [`builders_alone`](crate::definitions::base::minimal::Grammars), [`size_prefixed`](crate::definitions::base::formats::size_prefixed), [`RejectsWhole`](crate::definitions::base::continuing::RejectsWhole), [`IsFrontOf`](crate::definitions::base::minimal::IsFrontOf). [How to read clauses](crate::definitions).
 fn write_body<A: Allocator + Copy, B: Sink>(
     bytes: &[u8],
     alloc: A,

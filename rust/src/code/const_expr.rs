@@ -164,29 +164,11 @@ impl<A: Allocator> ConstExpr<A> {
     }
 
     /// Returns the expression whose stored bytes these are, and allocates nothing.
-    ///
-    /// # Proved
-    ///
-    /// ```text
-    /// ensures { result ≡ bytes.items }
-    /// ```
-    ///
-    /// [How to read clauses](crate::definitions).
     pub(crate) fn stored(bytes: Vec<u8, A>) -> Self {
         ConstExpr { first: None, bytes }
     }
 
     /// Returns the expression of the instruction alone, and allocates nothing.
-    ///
-    /// # Proved
-    ///
-    /// The bytes gain the encoding of the instruction. If it is well-formed and the old bytes minimally encode instructions, the new bytes encode these and its normal form.
-    ///
-    /// ```text
-    /// ensures { Stores (instruction_of first) [] result }
-    /// ```
-    ///
-    /// Definitions: [`Stores`](crate::definitions::code::expressions::Stores), [`instruction_of`](crate::definitions::code::expressions::instruction_of). [How to read clauses](crate::definitions).
     #[inline]
     pub(crate) fn of(alloc: A, first: First) -> Self {
         let bytes = Vec::new(alloc);
@@ -726,16 +708,6 @@ impl<A: Allocator> ConstExpr<A> {
 }
 
 /// Returns the index of `RefFunc` if the bytes begin with it, and `None` otherwise.
-///
-/// # Proved
-///
-/// The result is `Some(f)` exactly if the bytes begin with `ref.func f`.
-///
-/// ```text
-/// ensures { IsRefFunc bytes.now result }
-/// ```
-///
-/// Definitions: [`IsRefFunc`](crate::definitions::code::expressions::IsRefFunc). [How to read clauses](crate::definitions).
 pub(crate) fn function_at_front(bytes: &[u8]) -> Option<u32> {
     let [op, rest @ ..] = bytes else {
         return None;
@@ -754,28 +726,6 @@ pub(crate) fn function_at_front(bytes: &[u8]) -> Option<u32> {
 }
 
 /// Appends the encodings of the elements. After an error, some of them may be in the sink.
-///
-/// # Asks
-///
-/// The iterator ends. [What happens otherwise](crate::fallible#what-is-asked).
-///
-/// ```text
-/// requires { (it : I.IntoIter) → I.into_iter_gives elements it
-///     → I.IntoIter.can_next it × IsFinite (I.IntoIter.remaining it) }
-/// ```
-///
-/// [How to read clauses](crate::definitions).
-///
-/// # Proved
-///
-/// If the call succeeds, the buffer gains the encodings of the items that the iterator yields. If all items fit, the call never returns `TooLong`.
-///
-/// ```text
-/// ensures { AppendsEach I.into_iter_gives I.IntoIter.next_gives T.encodable T.encoding
-///     elements sink.old.items sink.new.items result }
-/// ```
-///
-/// Definitions: [`AppendsEach`](crate::definitions::code::expressions::AppendsEach). [How to read clauses](crate::definitions).
 fn encode_each<T: Encode, I: IntoIterator<Item = T>, A: Sink>(
     elements: I,
     sink: &mut A,

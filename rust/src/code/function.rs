@@ -333,32 +333,6 @@ impl<A: Allocator> Buffer for Function<A> {
 }
 
 /// Appends every byte, or none of them.
-///
-/// # Asks
-///
-/// The iterator ends. [What happens otherwise](crate::fallible#what-is-asked).
-///
-/// ```text
-/// requires { (it : I.IntoIter) → I.into_iter_gives bytes it
-///     → I.IntoIter.can_next it × IsFinite (I.IntoIter.remaining it) }
-/// ```
-///
-/// [How to read clauses](crate::definitions).
-///
-/// # Proved
-///
-/// After an error: `err`, the bytes of the sink are unchanged. In any case: `memory`, no error is `TooLong`.
-///
-/// ```text
-/// ensures ok { OnOk result ((it : I.IntoIter) × (xs : List ℕ)
-///     × I.into_iter_gives bytes it
-///     × Drains I.IntoIter.next_gives it xs
-///     × (sink.new.items ≡ sink.old.items ++ xs)) }
-/// ensures err { OnErr result (sink.new.items ≡ sink.old.items) }
-/// ensures memory { result ≢ Err TooLong }
-/// ```
-///
-/// [How to read clauses](crate::definitions).
 pub(crate) fn append_all<I: IntoIterator<Item = u8>, A: Sink>(
     sink: &mut A,
     bytes: I,

@@ -178,14 +178,6 @@ impl<'a, A: Allocator + Copy> Instructions<'a, A, Standard> {
 
 impl<'a, A: Allocator + Copy, G: Grammar> Instructions<'a, A, G> {
     /// Returns a visitor that begins at the first byte.
-    ///
-    /// # Proved
-    ///
-    /// ```text
-    /// ensures { result ≡ record { bytes = bytes.now; offset = 0 } }
-    /// ```
-    ///
-    /// [How to read clauses](crate::definitions).
     fn begin(bytes: &'a [u8], alloc: A) -> Self {
         Instructions {
             bytes,
@@ -196,22 +188,6 @@ impl<'a, A: Allocator + Copy, G: Grammar> Instructions<'a, A, G> {
     }
 
     /// Decodes the runs of a body's locals, and returns them with a visitor of its instructions.
-    ///
-    /// # Proved
-    ///
-    /// After `Ok`: `found`, the bytes begin with an encoding of the locals, and the instructions follow it; `same`, the visitor is over these bytes; `within`, the offset is in the bytes, or at their end. After an error: `none`, the bytes as a whole are no such encoding, unless the cause is `Memory`.
-    ///
-    /// ```text
-    /// ensures found { IfOk result
-    ///     (λ x. Decodes (vec (pair u32 val_type)) (padded_of G.grammar) bytes.now x.0.items
-    ///         (ahead x.1)) }
-    /// ensures same { IfOk result (λ x. x.1.bytes ≡ bytes.now) }
-    /// ensures within { IfOk result (λ x. x.1.offset ≤ length bytes.now) }
-    /// ensures none { IfErr result
-    ///     (λ e. e.cause ≢ Memory → RejectsWhole body (padded_of G.grammar) bytes.now) }
-    /// ```
-    ///
-    /// Definitions: [`Decodes`](crate::definitions::base::decoding::Decodes), [`vec`](crate::definitions::base::formats::vec), [`pair`](crate::definitions::base::formats::pair), [`u32`](crate::definitions::base::formats::u32), [`val_type`](crate::definitions::base::types::val_type), [`padded_of`](crate::definitions::base::numbers::padded_of), [`ahead`](crate::definitions::code::walks::ahead), [`RejectsWhole`](crate::definitions::base::continuing::RejectsWhole), [`body`](crate::definitions::code::bodies::body). [How to read clauses](crate::definitions).
     fn begin_body(bytes: &'a [u8], alloc: A) -> Result<(Vec<(u32, ValType), A>, Self), DecodeError> {
         let (runs, rest) = <Vec<(u32, ValType), A> as Readable<'a, A, G>>::read(bytes, alloc)?;
         let instructions = Instructions {
@@ -224,21 +200,6 @@ impl<'a, A: Allocator + Copy, G: Grammar> Instructions<'a, A, G> {
     }
 
     /// Visits the instruction at the offset of the visitor, and advances the offset past it.
-    ///
-    /// # Proved
-    ///
-    /// - After `Ok`, `found`: The visitor returned this instruction of the format, which lies between the offsets before and after.
-    /// - After an error, `none`: The visitor returned this error, and did not move. No value of the format decodes from the next bytes. The cause is not `Memory`.
-    ///
-    /// ```text
-    /// ensures found { IfOk result
-    ///     (λ it. GivesInstruction (instruction table)
-    ///         (padded_of G.grammar) self.old it self.new) }
-    /// ensures none { IfErr result
-    ///     (λ e. GivesFailure (instruction table) (padded_of G.grammar) self.old e self.new) }
-    /// ```
-    ///
-    /// Definitions: [`GivesInstruction`](crate::definitions::code::walks::GivesInstruction), [`instruction`](crate::definitions::insn::plain::instruction), [`table`](crate::definitions::insn::table::table), [`padded_of`](crate::definitions::base::numbers::padded_of), [`GivesFailure`](crate::definitions::code::walks::GivesFailure). [How to read clauses](crate::definitions).
     #[inline(always)]
     fn step(&mut self) -> Result<Decoded<'a>, DecodeError> {
         let offset = self.offset;

@@ -343,24 +343,6 @@ impl<A: Allocator> Shorten for CoreFrame<A> {
 
 /// Writes the bytes that [`append_stack`] appends. After an error, part of them may follow the old
 /// bytes.
-///
-/// # Proved
-///
-/// - After `Ok`, `ok`: the sink gains the encoding that is minimal in both grammars.
-/// - `front`: The new bytes begin with the old ones.
-/// - `too_long`: a value that has an encoding never gives `TooLong`.
-///
-/// ```text
-/// ensures ok { OnOk result
-///     (AppendsMinimal both_grammars stack_payload
-///         (thread.now, map stack_frame_view frames.now.items) sink.old.items
-///         sink.new.items) }
-/// ensures front { IsFrontOf sink.old.items sink.new.items }
-/// ensures too_long { HasEncoding both_grammars stack_payload
-///     (thread.now, map stack_frame_view frames.now.items) → result ≢ Err TooLong }
-/// ```
-///
-/// Definitions: [`AppendsMinimal`](crate::definitions::base::minimal::AppendsMinimal), [`both_grammars`](crate::definitions::base::minimal::Grammars), [`stack_payload`](crate::definitions::custom::core_stacks::stack_payload), [`stack_frame_view`](crate::definitions::custom::core_stacks::stack_frame_view), [`IsFrontOf`](crate::definitions::base::minimal::IsFrontOf), [`HasEncoding`](crate::definitions::base::minimal::HasEncoding). [How to read clauses](crate::definitions).
 fn write_stack<A: Allocator, B: Sink>(
     thread: &str,
     frames: &Vec<CoreFrame<A>, A>,

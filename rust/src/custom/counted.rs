@@ -85,20 +85,6 @@ pub(crate) trait DecodesItems<'a, T, A: Allocator + Copy, G: Grammar>: ItemsAs<T
 
 /// Decodes a count and that many items, and returns them with the remaining bytes. Memory grows
 /// with the items that decode, and is not allocated by the count.
-///
-/// # Proved
-///
-/// After `Ok`: `found`, the bytes begin with an encoding of the value, and the returned bytes follow it. After an error: `none`, the bytes do not begin with such an encoding, unless the cause is `Memory`.
-///
-/// ```text
-/// ensures found { IfOk result
-///     (λ x. Decodes (vec K.format) (padded_of G.grammar) bytes.now
-///         (map K.view x.0.items) x.1.now) }
-/// ensures none { IfErr result
-///     (λ e. e.cause ≢ Memory → Rejects (vec K.format) (padded_of G.grammar) bytes.now) }
-/// ```
-///
-/// Definitions: [`Decodes`](crate::definitions::base::decoding::Decodes), [`vec`](crate::definitions::base::formats::vec), [`padded_of`](crate::definitions::base::numbers::padded_of), [`Rejects`](crate::definitions::base::decoding::Rejects). [How to read clauses](crate::definitions).
 fn read_items<'a, K: DecodesItems<'a, T, A, G>, T, A: Allocator + Copy, G: Grammar>(
     bytes: &'a [u8],
     alloc: A,
@@ -115,21 +101,6 @@ fn read_items<'a, K: DecodesItems<'a, T, A, G>, T, A: Allocator + Copy, G: Gramm
 }
 
 /// Decodes the payload of a section of this kind, including its name.
-///
-/// # Proved
-///
-/// After `Ok`: `found`, the bytes as a whole encode the value. After an error: `none`, the bytes as a whole are no such encoding, unless the cause is `Memory`.
-///
-/// ```text
-/// ensures found { IfOk result
-///     (λ x. counted_payload K.name K.format (padded_of G.grammar) bytes.now
-///         (map K.view x.items)) }
-/// ensures none { IfErr result
-///     (λ e. e.cause ≢ Memory → RejectsWhole (counted_payload K.name K.format)
-///         (padded_of G.grammar) bytes.now) }
-/// ```
-///
-/// Definitions: [`counted_payload`](crate::definitions::custom::entries::counted_payload), [`padded_of`](crate::definitions::base::numbers::padded_of), [`RejectsWhole`](crate::definitions::base::continuing::RejectsWhole). [How to read clauses](crate::definitions).
 pub(crate) fn read_counted<
     'a,
     K: DecodesItems<'a, T, A, G>,
@@ -148,23 +119,6 @@ pub(crate) fn read_counted<
 }
 
 /// Appends a count and the items.
-///
-/// # Proved
-///
-/// - After `Ok`, `ok`: the sink gains the encoding that is minimal in both grammars.
-/// - `front`: The new bytes begin with the old ones.
-/// - `too_long`: a value that has an encoding never gives `TooLong`.
-///
-/// ```text
-/// ensures ok { OnOk result
-///     (AppendsMinimal both_grammars (vec K.format)
-///         (map K.view items.now) sink.old.items sink.new.items) }
-/// ensures front { IsFrontOf sink.old.items sink.new.items }
-/// ensures too_long { HasEncoding both_grammars (vec K.format) (map K.view items.now)
-///     → result ≢ Err TooLong }
-/// ```
-///
-/// Definitions: [`AppendsMinimal`](crate::definitions::base::minimal::AppendsMinimal), [`both_grammars`](crate::definitions::base::minimal::Grammars), [`vec`](crate::definitions::base::formats::vec), [`IsFrontOf`](crate::definitions::base::minimal::IsFrontOf), [`HasEncoding`](crate::definitions::base::minimal::HasEncoding). [How to read clauses](crate::definitions).
 fn append_items<K: ItemsAs<T>, T, B: Sink>(items: &[T], sink: &mut B) -> Result<()> {
     items.len().encode(sink)?;
     for item in items {
@@ -175,23 +129,6 @@ fn append_items<K: ItemsAs<T>, T, B: Sink>(items: &[T], sink: &mut B) -> Result<
 
 /// Writes the bytes that [`append_counted`] appends. After an error, part of them may follow the
 /// old bytes.
-///
-/// # Proved
-///
-/// - After `Ok`, `ok`: the sink gains the encoding that is minimal in both grammars.
-/// - `front`: The new bytes begin with the old ones.
-/// - `too_long`: a value that has an encoding never gives `TooLong`.
-///
-/// ```text
-/// ensures ok { OnOk result
-///     (AppendsMinimal both_grammars (counted_payload K.name K.format)
-///         (map K.view items.now) sink.old.items sink.new.items) }
-/// ensures front { IsFrontOf sink.old.items sink.new.items }
-/// ensures too_long { HasEncoding both_grammars (counted_payload K.name K.format)
-///     (map K.view items.now) → result ≢ Err TooLong }
-/// ```
-///
-/// Definitions: [`AppendsMinimal`](crate::definitions::base::minimal::AppendsMinimal), [`both_grammars`](crate::definitions::base::minimal::Grammars), [`counted_payload`](crate::definitions::custom::entries::counted_payload), [`IsFrontOf`](crate::definitions::base::minimal::IsFrontOf), [`HasEncoding`](crate::definitions::base::minimal::HasEncoding). [How to read clauses](crate::definitions).
 fn write_counted<K: ItemsAs<T>, T, B: Sink>(items: &[T], sink: &mut B) -> Result<()> {
     K::name().encode(sink)?;
     append_items::<K, T, _>(items, sink)
@@ -199,21 +136,6 @@ fn write_counted<K: ItemsAs<T>, T, B: Sink>(items: &[T], sink: &mut B) -> Result
 
 /// Appends the minimal encoding of the payload of a section of this kind with these items. On an
 /// error, the sink is unchanged.
-///
-/// # Proved
-///
-/// After `Ok`: `ok`, the sink gains the encoding that is minimal in both grammars. After an error: `err`, the bytes of the sink are unchanged. In any case: `too_long`, a value that has an encoding never gives `TooLong`.
-///
-/// ```text
-/// ensures ok { OnOk result
-///     (AppendsMinimal both_grammars (counted_payload K.name K.format)
-///         (map K.view items.now) sink.old.items sink.new.items) }
-/// ensures err { OnErr result (sink.new.items ≡ sink.old.items) }
-/// ensures too_long { HasEncoding both_grammars (counted_payload K.name K.format)
-///     (map K.view items.now) → result ≢ Err TooLong }
-/// ```
-///
-/// Definitions: [`AppendsMinimal`](crate::definitions::base::minimal::AppendsMinimal), [`both_grammars`](crate::definitions::base::minimal::Grammars), [`counted_payload`](crate::definitions::custom::entries::counted_payload), [`HasEncoding`](crate::definitions::base::minimal::HasEncoding). [How to read clauses](crate::definitions).
 pub(crate) fn append_counted<K: ItemsAs<T>, T, B: Sink>(
     items: &[T],
     sink: &mut B,

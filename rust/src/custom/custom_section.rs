@@ -7,33 +7,6 @@ use crate::base::{CowSlice, CowStr, Encode, Refused, Result, Section, SectionId,
 
 /// Appends the size prefix and the name of a custom section, and reserves spare capacity for `size`
 /// bytes of data that the caller appends next.
-///
-/// # Proved
-///
-/// After `Ok`: `reserved`, the sink has spare capacity for the payload. After an error: `err`, the bytes of the sink are unchanged. In any case: `too_many`, more than 4294967295 give `TooLong`; `spare`, the call succeeds if the size fits 32 bits and the bytes fit the spare capacity; `capacity`, the capacity does not shrink.
-///
-/// ```text
-/// ensures ok { OnOk result
-///     (sink.new.items ≡ sink.old.items
-///         ++ (unsigned_encoding (length (size_prefixed_encoding name.now) + size)
-///             ++ size_prefixed_encoding name.now)) }
-/// ensures reserved { OnOk result (vec_len sink.new + size ≤ vec_capacity sink.new) }
-/// ensures err { OnErr result (sink.new.items ≡ sink.old.items) }
-/// ensures was_encodable { OnOk result
-///     (length (size_prefixed_encoding name.now) + size ≤ longest) }
-/// ensures too_long { length (size_prefixed_encoding name.now) + size ≤ longest
-///     → result ≢ Err Refused.TooLong }
-/// ensures too_many { longest < length (size_prefixed_encoding name.now) + size
-///     → result ≡ Err Refused.TooLong }
-/// ensures spare { length (size_prefixed_encoding name.now) + size ≤ longest
-///     → vec_len sink.old + (length
-///         (unsigned_encoding (length (size_prefixed_encoding name.now) + size))
-///         + (length (size_prefixed_encoding name.now) + size)) ≤ vec_capacity sink.old
-///     → IsOk result }
-/// ensures capacity { vec_capacity sink.old ≤ vec_capacity sink.new }
-/// ```
-///
-/// Definitions: [`unsigned_encoding`](crate::definitions::base::numbers::unsigned_encoding), [`size_prefixed_encoding`](crate::definitions::base::encodings::size_prefixed_encoding), [`longest`](crate::definitions::base::encodings::longest). [How to read clauses](crate::definitions).
 pub(crate) fn begin_custom<A: Sink>(
     sink: &mut A,
     name: &str,

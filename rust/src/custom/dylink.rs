@@ -421,24 +421,6 @@ pub fn read_dylink<'a, A: Allocator + Copy + 'a, G: Grammar>(
 }
 
 /// Appends the subsection of the memory and the table.
-///
-/// # Proved
-///
-/// - After `Ok`, `ok`: the sink gains the encoding that is minimal in both grammars.
-/// - `front`: The new bytes begin with the old ones.
-/// - `too_long`: a value that has an encoding never gives `TooLong`.
-///
-/// ```text
-/// ensures ok { OnOk result
-///     (AppendsMinimal both_grammars
-///         (prefixed (1 ∷ []) (size_prefixed needs)) memory sink.old.items sink.new.items)
-///     }
-/// ensures front { IsFrontOf sink.old.items sink.new.items }
-/// ensures too_long { HasEncoding both_grammars
-///     (prefixed (1 ∷ []) (size_prefixed needs)) memory → result ≢ Err TooLong }
-/// ```
-///
-/// Definitions: [`AppendsMinimal`](crate::definitions::base::minimal::AppendsMinimal), [`both_grammars`](crate::definitions::base::minimal::Grammars), [`prefixed`](crate::definitions::base::formats::prefixed), [`size_prefixed`](crate::definitions::base::formats::size_prefixed), [`needs`](crate::definitions::custom::dylink::needs), [`IsFrontOf`](crate::definitions::base::minimal::IsFrontOf), [`HasEncoding`](crate::definitions::base::minimal::HasEncoding). [How to read clauses](crate::definitions).
 fn append_memory<B: Sink>(memory: DylinkMemory, sink: &mut B) -> Result<()> {
     1u8.encode(sink)?;
     SizePrefixed(memory).write_minimal(sink)
@@ -466,23 +448,6 @@ impl<'a, A: Allocator> Shorten for DylinkItem<'a, A> {
 
 /// Writes the bytes that [`append_dylink`] appends. After an error, part of them may follow the old
 /// bytes.
-///
-/// # Proved
-///
-/// - After `Ok`, `ok`: the sink gains the encoding that is minimal in both grammars.
-/// - `front`: The new bytes begin with the old ones.
-/// - `too_long`: a value that has an encoding never gives `TooLong`.
-///
-/// ```text
-/// ensures ok { OnOk result
-///     (AppendsMinimal both_grammars dylink_payload
-///         (map dylink_view items.now) sink.old.items sink.new.items) }
-/// ensures front { IsFrontOf sink.old.items sink.new.items }
-/// ensures too_long { HasEncoding both_grammars dylink_payload (map dylink_view items.now)
-///     → result ≢ Err TooLong }
-/// ```
-///
-/// Definitions: [`AppendsMinimal`](crate::definitions::base::minimal::AppendsMinimal), [`both_grammars`](crate::definitions::base::minimal::Grammars), [`dylink_payload`](crate::definitions::custom::dylink::dylink_payload), [`dylink_view`](crate::definitions::custom::dylink::dylink_view), [`IsFrontOf`](crate::definitions::base::minimal::IsFrontOf), [`HasEncoding`](crate::definitions::base::minimal::HasEncoding). [How to read clauses](crate::definitions).
 fn write_dylink<A: Allocator, B: Sink>(
     items: &[DylinkItem<'_, A>],
     sink: &mut B,

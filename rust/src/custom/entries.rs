@@ -151,54 +151,16 @@ impl<K, A: Allocator> CustomEntries<K, A> {
     }
 
     /// Adds the encoding of the record as an entry.
-    ///
-    /// # Proved
-    ///
-    /// The builder gains one entry with this encoding, or the call returns an error and changes nothing. A full builder, with 2^32 - 1 entries, returns `TooLong`.
-    ///
-    /// ```text
-    /// ensures { Adds (T.encoding given.now) (T.encodable given.now) self.old self.new result }
-    /// ```
-    ///
-    /// Definitions: [`Adds`](crate::definitions::base::calls::Adds). [How to read clauses](crate::definitions).
     pub(crate) fn add_record<T: Encode>(&mut self, given: &T) -> Result<()> {
         self.pieces.add_encoded(given)
     }
 
     /// Adds an encoding of the item as an entry, and consumes the item.
-    ///
-    /// # Asks
-    ///
-    /// Each iterator in the value ends, and yields as many items as it reports: the impl says so by `lawful`. [What happens otherwise](crate::fallible#what-is-asked).
-    ///
-    /// ```text
-    /// requires { T.lawful item }
-    /// ```
-    ///
-    /// [How to read clauses](crate::definitions).
-    ///
-    /// # Proved
-    ///
-    /// The builder gains one entry with one of these encodings, or the call returns an error and changes nothing. A full builder, with 2^32 - 1 entries, returns `TooLong`.
-    ///
-    /// ```text
-    /// ensures { AddsOnce (T.gives item) (T.encodable item) self.old self.new result }
-    /// ```
-    ///
-    /// Definitions: [`AddsOnce`](crate::definitions::base::once::AddsOnce). [How to read clauses](crate::definitions).
     pub(crate) fn add_once<T: EncodeOnce>(&mut self, item: T) -> Result<()> {
         self.pieces.add_once(item)
     }
 
     /// Returns the bytes of the entries, one entry after another.
-    ///
-    /// # Proved
-    ///
-    /// ```text
-    /// ensures { result.now ≡ joined self.now }
-    /// ```
-    ///
-    /// Definitions: [`joined`](crate::definitions::base::pieces::joined). [How to read clauses](crate::definitions).
     pub(crate) fn content(&self) -> &[u8] {
         self.pieces.bytes()
     }
@@ -249,19 +211,6 @@ impl<K, A: Allocator + Copy> CustomEntries<K, A> {
 
 impl<K: CustomKind, A: Allocator> CustomEntries<K, A> {
     /// Returns the section as a custom section, which owns a copy of the data.
-    ///
-    /// # Proved
-    ///
-    /// After `Ok`: `same`, the result has the name and the data of the section. In any case: `memory`, no error is `TooLong`.
-    ///
-    /// ```text
-    /// ensures same { IfOk result
-    ///     (λ s. (utf8_of s.name ≡ K.name)
-    ///         × (items_of s.bytes ≡ entries_encoding K.front K.counted self.now)) }
-    /// ensures memory { result ≢ Err TooLong }
-    /// ```
-    ///
-    /// Definitions: [`utf8_of`](crate::definitions::base::cow::utf8_of), [`items_of`](crate::definitions::base::cow::items_of), [`entries_encoding`](crate::definitions::custom::entries::entries_encoding). [How to read clauses](crate::definitions).
     pub(crate) fn owned<B: Allocator>(&self, alloc: B) -> Result<CustomSection<'_, B>> {
         let data = data_of(alloc, K::front(), K::counted(), &self.pieces)?;
         Ok(CustomSection {
@@ -280,15 +229,6 @@ struct Count {
 
 impl Count {
     /// Returns the length of its encoding, in bytes.
-    ///
-    /// # Proved
-    ///
-    /// ```text
-    /// ensures is { result ≡ length (count_encoding self.counted self.number) }
-    /// ensures small { result ≤ 5 }
-    /// ```
-    ///
-    /// Definitions: [`count_encoding`](crate::definitions::custom::entries::count_encoding). [How to read clauses](crate::definitions).
     fn size(self) -> usize {
         if self.counted {
             encoding_size(self.number)
@@ -320,22 +260,6 @@ impl Encode for Count {
 
 /// Returns the length of the data in bytes if a size prefix can represent it, and a number above
 /// 4294967295 otherwise.
-///
-/// # Proved
-///
-/// ```text
-/// ensures known { result ≤ longest
-///     → result ≡ length front.now
-///     + (length (count_encoding count.counted count.number) + length (joined pieces.now))
-///     }
-/// ensures small { length front.now
-///     + (length (count_encoding count.counted count.number) + length (joined pieces.now))
-///     ≤ longest → result ≡ length front.now
-///     + (length (count_encoding count.counted count.number) + length (joined pieces.now))
-///     }
-/// ```
-///
-/// Definitions: [`longest`](crate::definitions::base::encodings::longest), [`count_encoding`](crate::definitions::custom::entries::count_encoding), [`joined`](crate::definitions::base::pieces::joined). [How to read clauses](crate::definitions).
 fn data_size<B: Allocator>(front: &[u8], count: Count, pieces: &Pieces<B>) -> usize {
     front
         .len()
@@ -345,24 +269,6 @@ fn data_size<B: Allocator>(front: &[u8], count: Count, pieces: &Pieces<B>) -> us
 
 /// Appends a custom section without its id: the size prefix, the name, the bytes `front`, the
 /// number of entries if they are counted, and the entries.
-///
-/// # Proved
-///
-/// - `appends`: The call appends the encoding, or returns an error and leaves the bytes as they were. If the value fits, the call never returns `TooLong`, and it succeeds within the spare capacity.
-/// - `too_many`: more than 4294967295 give `TooLong`.
-///
-/// ```text
-/// ensures appends { Appends
-///     (named_encoding name.now (entries_encoding front.now counted pieces.now))
-///     (IsEncodableNamed name.now (entries_encoding front.now counted pieces.now)) sink.old
-///     sink.new result }
-/// ensures few { length pieces.now ≤ longest }
-/// ensures too_many { longest
-///     < length (size_prefixed_encoding name.now)
-///     + length (entries_encoding front.now counted pieces.now) → result ≡ Err TooLong }
-/// ```
-///
-/// Definitions: [`Appends`](crate::definitions::base::calls::Appends), [`named_encoding`](crate::definitions::custom::customs::named_encoding), [`entries_encoding`](crate::definitions::custom::entries::entries_encoding), [`IsEncodableNamed`](crate::definitions::custom::customs::IsEncodableNamed), [`longest`](crate::definitions::base::encodings::longest), [`size_prefixed_encoding`](crate::definitions::base::encodings::size_prefixed_encoding). [How to read clauses](crate::definitions).
 pub(crate) fn encode_entries<A: Sink, B: Allocator>(
     sink: &mut A,
     name: &str,
@@ -383,18 +289,6 @@ pub(crate) fn encode_entries<A: Sink, B: Allocator>(
 }
 
 /// Returns a copy of the data of a section.
-///
-/// # Proved
-///
-/// In any case: `memory`, no error is `TooLong`.
-///
-/// ```text
-/// ensures same { IfOk result
-///     (λ v. v.items ≡ entries_encoding front.now counted pieces.now) }
-/// ensures memory { result ≢ Err TooLong }
-/// ```
-///
-/// Definitions: [`entries_encoding`](crate::definitions::custom::entries::entries_encoding). [How to read clauses](crate::definitions).
 pub(crate) fn data_of<A: Allocator, B: Allocator>(
     alloc: A,
     front: &[u8],

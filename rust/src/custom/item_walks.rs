@@ -11,23 +11,6 @@ use crate::alloc::Allocator;
 use crate::base::{DecodeError, Effect, Grammar, ReadFault, Readable, Shared, Walk, walk_shared, walk_whole};
 
 /// Walks over the payload of a section of this name with a vector of items. No item is kept.
-///
-/// # Proved
-///
-/// After `Ok`: `found`, the bytes as a whole are an encoding, and the effect takes the minimal one. After an error: `none`, the bytes as a whole are no such encoding, unless the cause is `Memory`; `no_memory`, the cause is `Memory` only with an effect whose calls may fail. In any case: `front`, the effect keeps what it took before.
-///
-/// ```text
-/// ensures found { OnOk result
-///     (WalksWhole E.seen G.grammar
-///         (counted_payload name.now T.format) bytes.now effect.old effect.new) }
-/// ensures none { IfErr result
-///     (λ e. e.cause ≢ Memory → RejectsWhole (counted_payload name.now T.format)
-///         (padded_of G.grammar) bytes.now) }
-/// ensures no_memory { IfErr result (λ e. e.cause ≡ Memory → E.may_fail) }
-/// ensures front { Keeps E.seen effect.old effect.new }
-/// ```
-///
-/// Definitions: [`WalksWhole`](crate::definitions::base::walks::WalksWhole), [`counted_payload`](crate::definitions::custom::entries::counted_payload), [`RejectsWhole`](crate::definitions::base::continuing::RejectsWhole), [`padded_of`](crate::definitions::base::numbers::padded_of), [`Keeps`](crate::definitions::base::walks::Keeps). [How to read clauses](crate::definitions).
 pub(crate) fn walk_counted<'a, T: Walk<G>, A: Allocator + Copy, G: Grammar, E: Effect>(
     name: &str,
     bytes: &'a [u8],

@@ -187,21 +187,6 @@ pub enum LinkItem<'a, A: Allocator = Global> {
 }
 
 /// Decodes a size-prefixed vector, which is the content of most subsections.
-///
-/// # Proved
-///
-/// After `Ok`: `found`, the bytes begin with an encoding of the value, and the returned bytes follow it. After an error: `none`, the bytes do not begin with such an encoding, unless the cause is `Memory`.
-///
-/// ```text
-/// ensures found { IfOk result
-///     (λ x. Decodes (size_prefixed (vec T.format)) (padded_of G.grammar) bytes.now
-///         (map T.view x.0.items) x.1.now) }
-/// ensures none { IfErr result
-///     (λ e. e.cause ≢ Memory → Rejects (size_prefixed (vec T.format))
-///         (padded_of G.grammar) bytes.now) }
-/// ```
-///
-/// Definitions: [`Decodes`](crate::definitions::base::decoding::Decodes), [`size_prefixed`](crate::definitions::base::formats::size_prefixed), [`vec`](crate::definitions::base::formats::vec), [`padded_of`](crate::definitions::base::numbers::padded_of), [`Rejects`](crate::definitions::base::decoding::Rejects). [How to read clauses](crate::definitions).
 pub(crate) fn read_vector<'a, T: Readable<'a, A, G>, A: Allocator + Copy, G: Grammar>(
     bytes: &'a [u8],
     alloc: A,
@@ -275,23 +260,6 @@ impl<'a, A: Allocator + Copy + 'a, G: Grammar> Readable<'a, A, G> for LinkItem<'
 }
 
 /// Skips the version, and returns the remaining bytes.
-///
-/// # Proved
-///
-/// - After `Ok`, `found`: The bytes begin with such an encoding, and the remaining bytes follow it.
-/// - After an error, `none`: the bytes do not begin with such an encoding, unless the cause is `Memory`.
-///
-/// ```text
-/// ensures found { IfOk result
-///     (λ rest. Decodes (just version u32_format)
-///         (padded_of G.grammar) bytes.now tt rest.now) }
-/// ensures none { IfErr result
-///     (λ e. e.cause ≢ Memory → Rejects (just version u32_format)
-///         (padded_of G.grammar) bytes.now) }
-/// ensures no_memory { IfErr result (λ e. e.cause ≢ Memory) }
-/// ```
-///
-/// Definitions: [`Decodes`](crate::definitions::base::decoding::Decodes), [`just`](crate::definitions::base::formats::just), [`version`](crate::definitions::custom::linking::version), [`u32_format`](crate::definitions::base::formats::u32), [`padded_of`](crate::definitions::base::numbers::padded_of), [`Rejects`](crate::definitions::base::decoding::Rejects). [How to read clauses](crate::definitions).
 pub(crate) fn after_version<'a, A: Allocator + Copy, G: Grammar>(
     bytes: &'a [u8],
     alloc: A,
@@ -346,24 +314,6 @@ pub fn read_links<'a, A: Allocator + Copy + 'a, G: Grammar>(
 }
 
 /// Appends the subsection of this id, whose content is the vector of the items.
-///
-/// # Proved
-///
-/// - After `Ok`, `ok`: the sink gains the encoding that is minimal in the `grammars` of the type.
-/// - `front`: The new bytes begin with the old ones.
-/// - `too_long`: a value that has an encoding never gives `TooLong`.
-///
-/// ```text
-/// ensures ok { OnOk result
-///     (AppendsMinimal T.grammars (prefixed (id ∷ []) (size_prefixed (vec T.format)))
-///         (map T.view items.now.items) sink.old.items sink.new.items) }
-/// ensures front { IsFrontOf sink.old.items sink.new.items }
-/// ensures too_long { HasEncoding T.grammars
-///     (prefixed (id ∷ []) (size_prefixed (vec T.format))) (map T.view items.now.items)
-///     → result ≢ Err TooLong }
-/// ```
-///
-/// Definitions: [`AppendsMinimal`](crate::definitions::base::minimal::AppendsMinimal), [`prefixed`](crate::definitions::base::formats::prefixed), [`size_prefixed`](crate::definitions::base::formats::size_prefixed), [`vec`](crate::definitions::base::formats::vec), [`IsFrontOf`](crate::definitions::base::minimal::IsFrontOf), [`HasEncoding`](crate::definitions::base::minimal::HasEncoding). [How to read clauses](crate::definitions).
 pub(crate) fn append_vector<T: Shorten, A: Allocator, B: Sink>(
     id: u8,
     items: &Vec<T, A>,
@@ -377,24 +327,6 @@ pub(crate) fn append_vector<T: Shorten, A: Allocator, B: Sink>(
 }
 
 /// Appends the subsection of this id and this content.
-///
-/// # Proved
-///
-/// - After `Ok`, `ok`: the sink gains the encoding that is minimal in both grammars.
-/// - `front`: The new bytes begin with the old ones.
-/// - `too_long`: a value that has an encoding never gives `TooLong`.
-///
-/// ```text
-/// ensures ok { OnOk result
-///     (AppendsMinimal both_grammars
-///         (prefixed (id ∷ []) (size_prefixed any_bytes)) content.now sink.old.items
-///         sink.new.items) }
-/// ensures front { IsFrontOf sink.old.items sink.new.items }
-/// ensures too_long { HasEncoding both_grammars
-///     (prefixed (id ∷ []) (size_prefixed any_bytes)) content.now → result ≢ Err TooLong }
-/// ```
-///
-/// Definitions: [`AppendsMinimal`](crate::definitions::base::minimal::AppendsMinimal), [`both_grammars`](crate::definitions::base::minimal::Grammars), [`prefixed`](crate::definitions::base::formats::prefixed), [`size_prefixed`](crate::definitions::base::formats::size_prefixed), [`any_bytes`](crate::definitions::base::formats::any_bytes), [`IsFrontOf`](crate::definitions::base::minimal::IsFrontOf), [`HasEncoding`](crate::definitions::base::minimal::HasEncoding). [How to read clauses](crate::definitions).
 pub(crate) fn append_other<B: Sink>(
     id: u8,
     content: &[u8],
@@ -405,24 +337,6 @@ pub(crate) fn append_other<B: Sink>(
 }
 
 /// Appends the subsection of an architecture.
-///
-/// # Proved
-///
-/// - After `Ok`, `ok`: the sink gains the encoding that is minimal in both grammars.
-/// - `front`: The new bytes begin with the old ones.
-/// - `too_long`: a value that has an encoding never gives `TooLong`.
-///
-/// ```text
-/// ensures ok { OnOk result
-///     (AppendsMinimal both_grammars
-///         (prefixed (9 ∷ []) (size_prefixed name_format)) name.now sink.old.items
-///         sink.new.items) }
-/// ensures front { IsFrontOf sink.old.items sink.new.items }
-/// ensures too_long { HasEncoding both_grammars
-///     (prefixed (9 ∷ []) (size_prefixed name_format)) name.now → result ≢ Err TooLong }
-/// ```
-///
-/// Definitions: [`AppendsMinimal`](crate::definitions::base::minimal::AppendsMinimal), [`both_grammars`](crate::definitions::base::minimal::Grammars), [`prefixed`](crate::definitions::base::formats::prefixed), [`size_prefixed`](crate::definitions::base::formats::size_prefixed), [`name_format`](crate::definitions::base::formats::name), [`IsFrontOf`](crate::definitions::base::minimal::IsFrontOf), [`HasEncoding`](crate::definitions::base::minimal::HasEncoding). [How to read clauses](crate::definitions).
 fn append_target<B: Sink>(name: &str, sink: &mut B) -> Result<()> {
     9u8.encode(sink)?;
     SizePrefixed(name).write_minimal(sink)
@@ -450,23 +364,6 @@ impl<'a, A: Allocator> Shorten for LinkItem<'a, A> {
 
 /// Writes the bytes that [`append_links`] appends. After an error, part of them may follow the old
 /// bytes.
-///
-/// # Proved
-///
-/// - After `Ok`, `ok`: the sink gains the encoding that is minimal in both grammars.
-/// - `front`: The new bytes begin with the old ones.
-/// - `too_long`: a value that has an encoding never gives `TooLong`.
-///
-/// ```text
-/// ensures ok { OnOk result
-///     (AppendsMinimal both_grammars linking_payload
-///         (map link_view items.now) sink.old.items sink.new.items) }
-/// ensures front { IsFrontOf sink.old.items sink.new.items }
-/// ensures too_long { HasEncoding both_grammars linking_payload (map link_view items.now)
-///     → result ≢ Err TooLong }
-/// ```
-///
-/// Definitions: [`AppendsMinimal`](crate::definitions::base::minimal::AppendsMinimal), [`both_grammars`](crate::definitions::base::minimal::Grammars), [`linking_payload`](crate::definitions::custom::linking::linking_payload), [`link_view`](crate::definitions::custom::linking::link_view), [`IsFrontOf`](crate::definitions::base::minimal::IsFrontOf), [`HasEncoding`](crate::definitions::base::minimal::HasEncoding). [How to read clauses](crate::definitions).
 fn write_links<A: Allocator, B: Sink>(
     items: &[LinkItem<'_, A>],
     sink: &mut B,

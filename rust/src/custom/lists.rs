@@ -113,27 +113,6 @@ impl<K: ListKind, A: Allocator> CountedList<K, A> {
     }
 
     /// Adds the encoding of the record as an entry.
-    ///
-    /// # Asks
-    ///
-    /// [What happens otherwise](crate::fallible#what-is-asked).
-    ///
-    /// ```text
-    /// requires { T.encodable given.now
-    ///     → IsEncodingOf K.member_encoding K.is_member (T.encoding given.now) }
-    /// ```
-    ///
-    /// Definitions: [`IsEncodingOf`](crate::definitions::custom::lists::IsEncodingOf). [How to read clauses](crate::definitions).
-    ///
-    /// # Proved
-    ///
-    /// The builder gains one entry with this encoding, or the call returns an error and changes nothing. A full builder, with 2^32 - 1 entries, returns `TooLong`.
-    ///
-    /// ```text
-    /// ensures { Adds (T.encoding given.now) (T.encodable given.now) self.old self.new result }
-    /// ```
-    ///
-    /// Definitions: [`Adds`](crate::definitions::base::calls::Adds). [How to read clauses](crate::definitions).
     pub(crate) fn add_record<T: Encode>(&mut self, given: &T) -> Result<()> {
         self.pieces.add_encoded(given)?;
         Ok(())

@@ -5,22 +5,6 @@ use crate::alloc::Allocator;
 use crate::base::{DecodeError, Effect, Grammar, Layout, ReadFault, Readable, Walk};
 
 /// Decodes the byte `mark` and the value after it, and returns the value with the remaining bytes.
-///
-/// # Proved
-///
-/// After `Ok`: `found`, the bytes begin with an encoding of the value, and the returned bytes follow it. After an error: `none`, the bytes do not begin with such an encoding, unless the cause is `Memory`.
-///
-/// ```text
-/// ensures found { IfOk result
-///     (λ x. Decodes (prefixed (mark ∷ []) T.format) (padded_of G.grammar) bytes.now
-///         (T.view x.0) x.1.now) }
-/// ensures none { IfErr result
-///     (λ e. e.cause ≢ Memory → Rejects (prefixed (mark ∷ []) T.format)
-///         (padded_of G.grammar) bytes.now) }
-/// ensures no_memory { IfErr result (λ e. e.cause ≡ Memory → T.may_allocate) }
-/// ```
-///
-/// Definitions: [`Decodes`](crate::definitions::base::decoding::Decodes), [`prefixed`](crate::definitions::base::formats::prefixed), [`padded_of`](crate::definitions::base::numbers::padded_of), [`Rejects`](crate::definitions::base::decoding::Rejects). [How to read clauses](crate::definitions).
 pub(crate) fn read_marked<'a, T: Readable<'a, A, G>, A: Allocator + Copy, G: Grammar>(
     mark: u8,
     bytes: &'a [u8],
@@ -35,23 +19,6 @@ pub(crate) fn read_marked<'a, T: Readable<'a, A, G>, A: Allocator + Copy, G: Gra
 }
 
 /// Walks over the byte `mark` and the value after it.
-///
-/// # Proved
-///
-/// After `Ok`: `found`, the bytes begin with an encoding, the effect takes the minimal one, and the returned bytes follow it. After an error: `none`, the bytes do not begin with such an encoding, unless the cause is `Memory`; `no_memory`, the cause is `Memory` only with an effect whose calls may fail. In any case: `front`, the effect keeps what it took before.
-///
-/// ```text
-/// ensures found { IfOk result
-///     (λ rest. Walks E.seen G.grammar
-///         (prefixed (mark ∷ []) T.format) bytes.now rest.now effect.old effect.new) }
-/// ensures none { IfErr result
-///     (λ e. e.cause ≢ Memory → Rejects (prefixed (mark ∷ []) T.format)
-///         (padded_of G.grammar) bytes.now) }
-/// ensures no_memory { IfErr result (λ e. e.cause ≡ Memory → E.may_fail) }
-/// ensures front { Keeps E.seen effect.old effect.new }
-/// ```
-///
-/// Definitions: [`Walks`](crate::definitions::base::walks::Walks), [`prefixed`](crate::definitions::base::formats::prefixed), [`Rejects`](crate::definitions::base::decoding::Rejects), [`padded_of`](crate::definitions::base::numbers::padded_of), [`Keeps`](crate::definitions::base::walks::Keeps). [How to read clauses](crate::definitions).
 pub(crate) fn walk_marked<'a, T: Walk<G>, A: Allocator + Copy, G: Grammar, E: Effect>(
     mark: u8,
     bytes: &'a [u8],

@@ -8,23 +8,6 @@ use crate::alloc::Allocator;
 use crate::base::{DecodeError, Effect, Grammar, Readable, SizePrefixed, Walk, walk_to_end};
 
 /// Walks over the size-prefixed content of a subsection of this kind.
-///
-/// # Proved
-///
-/// After `Ok`: `found`, the bytes begin with an encoding, the effect takes the minimal one, and the returned bytes follow it. After an error: `none`, the bytes do not begin with such an encoding, unless the cause is `Memory`; `no_memory`, the cause is `Memory` only with an effect whose calls may fail. In any case: `front`, the effect keeps what it took before.
-///
-/// ```text
-/// ensures found { IfOk result
-///     (λ rest. Walks E.seen G.grammar
-///         (after_id (kind_as kind) id) bytes.now rest.now effect.old effect.new) }
-/// ensures none { IfErr result
-///     (λ e. e.cause ≢ Memory → Rejects (after_id (kind_as kind) id)
-///         (padded_of G.grammar) bytes.now) }
-/// ensures no_memory { IfErr result (λ e. e.cause ≡ Memory → E.may_fail) }
-/// ensures front { Keeps E.seen effect.old effect.new }
-/// ```
-///
-/// Definitions: [`Walks`](crate::definitions::base::walks::Walks), [`after_id`](crate::definitions::custom::names::after_id), [`kind_as`](crate::definitions::custom::names::kind_as), [`Rejects`](crate::definitions::base::decoding::Rejects), [`padded_of`](crate::definitions::base::numbers::padded_of), [`Keeps`](crate::definitions::base::walks::Keeps). [How to read clauses](crate::definitions).
 fn walk_after_id<'a, A: Allocator + Copy, G: Grammar, E: Effect>(
     kind: NameKind,
     id: u8,

@@ -277,34 +277,12 @@ impl CustomKind for NameItems {
 
 impl<A: Allocator> NameSection<A> {
     /// Adds a subsection with a name map.
-    ///
-    /// # Proved
-    ///
-    /// The builder gains one entry with this encoding, or the call returns an error and changes nothing. A full builder, with 2^32 - 1 entries, returns `TooLong`.
-    ///
-    /// ```text
-    /// ensures { Adds (subsection_encoding id (list_encoding names.now))
-    ///     (HasEncodableSize (list_encoding names.now) × ⊤) self.old self.new result }
-    /// ```
-    ///
-    /// Definitions: [`Adds`](crate::definitions::base::calls::Adds), [`subsection_encoding`](crate::definitions::custom::customs::subsection_encoding), [`list_encoding`](crate::definitions::custom::lists::list_encoding), [`HasEncodableSize`](crate::definitions::base::encodings::HasEncodableSize). [How to read clauses](crate::definitions).
     fn map<B: Allocator>(&mut self, id: u8, names: &NameMap<B>) -> Result<()> {
         let content = &Entries(names);
         self.add_record(&Subsection { id, content })
     }
 
     /// Adds a subsection with an indirect name map.
-    ///
-    /// # Proved
-    ///
-    /// The builder gains one entry with this encoding, or the call returns an error and changes nothing. A full builder, with 2^32 - 1 entries, returns `TooLong`.
-    ///
-    /// ```text
-    /// ensures { Adds (subsection_encoding id (list_encoding names.now))
-    ///     (HasEncodableSize (list_encoding names.now) × ⊤) self.old self.new result }
-    /// ```
-    ///
-    /// Definitions: [`Adds`](crate::definitions::base::calls::Adds), [`subsection_encoding`](crate::definitions::custom::customs::subsection_encoding), [`list_encoding`](crate::definitions::custom::lists::list_encoding), [`HasEncodableSize`](crate::definitions::base::encodings::HasEncodableSize). [How to read clauses](crate::definitions).
     fn indirect_map<B: Allocator>(&mut self, id: u8, names: &IndirectNameMap<B>) -> Result<()> {
         let content = &Entries(names);
         self.add_record(&Subsection { id, content })
@@ -786,14 +764,6 @@ pub(crate) enum NameKind {
 }
 
 /// Returns the content of a subsection of this id.
-///
-/// # Proved
-///
-/// ```text
-/// ensures { kind_as result ≡ kind_of_id id }
-/// ```
-///
-/// Definitions: [`kind_as`](crate::definitions::custom::names::kind_as), [`kind_of_id`](crate::definitions::custom::names::name_kind_of). [How to read clauses](crate::definitions).
 pub(crate) fn name_kind_of(id: u8) -> NameKind {
     match id {
         0 => NameKind::Module,
@@ -804,20 +774,6 @@ pub(crate) fn name_kind_of(id: u8) -> NameKind {
 }
 
 /// Decodes the content of a subsection of this kind and id. `rest` are the bytes after the content.
-///
-/// # Proved
-///
-/// After `Ok`: `found`, the bytes as a whole encode the value. After an error: `none`, the bytes as a whole are no such encoding, unless the cause is `Memory`.
-///
-/// ```text
-/// ensures found { IfOk result
-///     (λ x. inside (kind_as kind) id (padded_of G.grammar) bytes.now (name_item_view x)) }
-/// ensures none { IfErr result
-///     (λ e. e.cause ≢ Memory → RejectsWhole (inside (kind_as kind) id)
-///         (padded_of G.grammar) bytes.now) }
-/// ```
-///
-/// Definitions: [`inside`](crate::definitions::custom::names::inside), [`kind_as`](crate::definitions::custom::names::kind_as), [`padded_of`](crate::definitions::base::numbers::padded_of), [`name_item_view`](crate::definitions::custom::names::name_item_view), [`RejectsWhole`](crate::definitions::base::continuing::RejectsWhole). [How to read clauses](crate::definitions).
 fn fill_subsection<'a, A: Allocator + Copy + 'a, G: Grammar>(
     kind: NameKind,
     id: u8,
@@ -917,14 +873,6 @@ pub fn read_names<'a, A: Allocator + Copy + 'a, G: Grammar>(
 
 impl<'a, A: Allocator> NameItem<'a, A> {
     /// Returns the id of the subsection.
-    ///
-    /// # Proved
-    ///
-    /// ```text
-    /// ensures { result ≡ id_of (name_item_view self.now) }
-    /// ```
-    ///
-    /// Definitions: [`id_of`](crate::definitions::custom::names::id_of), [`name_item_view`](crate::definitions::custom::names::name_item_view). [How to read clauses](crate::definitions).
     fn id(&self) -> u8 {
         match self {
             NameItem::Module(_) => 0,
@@ -935,25 +883,6 @@ impl<'a, A: Allocator> NameItem<'a, A> {
     }
 
     /// Appends the content of the subsection, without its size prefix.
-    ///
-    /// # Proved
-    ///
-    /// - After `Ok`, `ok`: the sink gains the encoding that is minimal in both grammars.
-    /// - `front`: The new bytes begin with the old ones.
-    /// - `too_long`: a value that has an encoding never gives `TooLong`.
-    ///
-    /// ```text
-    /// ensures ok { OnOk result
-    ///     (AppendsMinimal both_grammars
-    ///         (inside (held_by (name_item_view self.now)) (id_of (name_item_view self.now)))
-    ///         (name_item_view self.now) sink.old.items sink.new.items) }
-    /// ensures front { IsFrontOf sink.old.items sink.new.items }
-    /// ensures too_long { HasEncoding both_grammars
-    ///     (inside (held_by (name_item_view self.now)) (id_of (name_item_view self.now)))
-    ///     (name_item_view self.now) → result ≢ Err TooLong }
-    /// ```
-    ///
-    /// Definitions: [`AppendsMinimal`](crate::definitions::base::minimal::AppendsMinimal), [`both_grammars`](crate::definitions::base::minimal::Grammars), [`inside`](crate::definitions::custom::names::inside), [`held_by`](crate::definitions::custom::names::held_by), [`name_item_view`](crate::definitions::custom::names::name_item_view), [`id_of`](crate::definitions::custom::names::id_of), [`IsFrontOf`](crate::definitions::base::minimal::IsFrontOf), [`HasEncoding`](crate::definitions::base::minimal::HasEncoding). [How to read clauses](crate::definitions).
     fn append_content<B: Sink>(&self, sink: &mut B) -> Result<()> {
         match self {
             NameItem::Module(name) => name.write_minimal(sink),
@@ -985,23 +914,6 @@ impl<'a, A: Allocator> Shorten for NameItem<'a, A> {
 
 /// Writes the bytes that [`append_names`] appends. After an error, part of them may follow the old
 /// bytes.
-///
-/// # Proved
-///
-/// - After `Ok`, `ok`: the sink gains the encoding that is minimal in both grammars.
-/// - `front`: The new bytes begin with the old ones.
-/// - `too_long`: a value that has an encoding never gives `TooLong`.
-///
-/// ```text
-/// ensures ok { OnOk result
-///     (AppendsMinimal both_grammars name_payload
-///         (map name_item_view items.now) sink.old.items sink.new.items) }
-/// ensures front { IsFrontOf sink.old.items sink.new.items }
-/// ensures too_long { HasEncoding both_grammars name_payload (map name_item_view items.now)
-///     → result ≢ Err TooLong }
-/// ```
-///
-/// Definitions: [`AppendsMinimal`](crate::definitions::base::minimal::AppendsMinimal), [`both_grammars`](crate::definitions::base::minimal::Grammars), [`name_payload`](crate::definitions::custom::names::name_payload), [`name_item_view`](crate::definitions::custom::names::name_item_view), [`IsFrontOf`](crate::definitions::base::minimal::IsFrontOf), [`HasEncoding`](crate::definitions::base::minimal::HasEncoding). [How to read clauses](crate::definitions).
 fn write_names<A: Allocator, B: Sink>(
     items: &[NameItem<'_, A>],
     sink: &mut B,

@@ -58,18 +58,6 @@ impl ListKind for ObjectSymbolMembers {
 
 impl<A: Allocator> ObjectSymbols<A> {
     /// Adds a symbol with an index.
-    ///
-    /// # Proved
-    ///
-    /// The builder gains one entry with this encoding, or the call returns an error and changes nothing. A full builder, with 2^32 - 1 entries, returns `TooLong`.
-    ///
-    /// ```text
-    /// ensures { Adds (indexed_encoding kind flags index
-    ///         (optional_encoding (λ n. size_prefixed_encoding n.now) name.entry))
-    ///     (IfSome name.entry (λ n. HasEncodableSize n.now)) self.old self.new result }
-    /// ```
-    ///
-    /// Definitions: [`Adds`](crate::definitions::base::calls::Adds), [`indexed_encoding`](crate::definitions::custom::symbols::indexed_encoding), [`optional_encoding`](crate::definitions::base::encodings::optional_encoding), [`size_prefixed_encoding`](crate::definitions::base::encodings::size_prefixed_encoding), [`HasEncodableSize`](crate::definitions::base::encodings::HasEncodableSize). [How to read clauses](crate::definitions).
     fn indexed(
         &mut self,
         kind: SymbolKind,

@@ -685,23 +685,6 @@ pub fn read_relocations<'a, A: Allocator + Copy, G: Grammar>(
 
 /// Writes the bytes that [`append_relocations`] appends. After an error, part of them may follow
 /// the old bytes.
-///
-/// # Proved
-///
-/// - After `Ok`, `ok`: the sink gains the encoding that is minimal in both grammars.
-/// - `front`: The new bytes begin with the old ones.
-/// - `too_long`: a value that has an encoding never gives `TooLong`.
-///
-/// ```text
-/// ensures ok { OnOk result
-///     (AppendsMinimal both_grammars relocations_payload
-///         (name.now, (section, relocations.now.items)) sink.old.items sink.new.items) }
-/// ensures front { IsFrontOf sink.old.items sink.new.items }
-/// ensures too_long { HasEncoding both_grammars relocations_payload
-///     (name.now, (section, relocations.now.items)) → result ≢ Err TooLong }
-/// ```
-///
-/// Definitions: [`AppendsMinimal`](crate::definitions::base::minimal::AppendsMinimal), [`both_grammars`](crate::definitions::base::minimal::Grammars), [`relocations_payload`](crate::definitions::custom::relocations::relocations_payload), [`IsFrontOf`](crate::definitions::base::minimal::IsFrontOf), [`HasEncoding`](crate::definitions::base::minimal::HasEncoding). [How to read clauses](crate::definitions).
 fn write_relocations<A: Allocator, B: Sink>(
     name: &str,
     section: u32,

@@ -60,18 +60,6 @@ impl Content for RawContent<'_> {
 }
 
 /// Appends the content with its size prefix.
-///
-/// # Proved
-///
-/// The call appends the encoding, or returns an error and leaves the bytes as they were. If the value fits, the call never returns `TooLong`, and it succeeds within the spare capacity.
-///
-/// ```text
-/// ensures { Appends (size_prefixed_encoding (T.encoding content.now))
-///     (HasEncodableSize (T.encoding content.now) × T.encodable content.now) sink.old
-///     sink.new result }
-/// ```
-///
-/// Definitions: [`Appends`](crate::definitions::base::calls::Appends), [`size_prefixed_encoding`](crate::definitions::base::encodings::size_prefixed_encoding), [`HasEncodableSize`](crate::definitions::base::encodings::HasEncodableSize). [How to read clauses](crate::definitions).
 fn encode_content<T: Content, A: Sink>(sink: &mut A, content: &T) -> Result<()> {
     let start = sink.len();
     begin_size_prefixed(sink, content.size())?;
@@ -84,22 +72,6 @@ fn encode_content<T: Content, A: Sink>(sink: &mut A, content: &T) -> Result<()> 
 
 /// Reserves spare capacity for the id, the size prefix and the content of a subsection, in one
 /// request.
-///
-/// # Proved
-///
-/// In any case: `memory`, no error is `TooLong`; `spare`, the call succeeds if the size fits 32 bits and the bytes fit the spare capacity; `capacity`, the capacity does not shrink.
-///
-/// ```text
-/// ensures same { sink.new.items ≡ sink.old.items }
-/// ensures memory { result ≢ Err TooLong }
-/// ensures spare { size ≤ longest
-///     → vec_len sink.old + (1 + (length (unsigned_encoding size) + size))
-///         ≤ vec_capacity sink.old
-///     → IsOk result }
-/// ensures capacity { vec_capacity sink.old ≤ vec_capacity sink.new }
-/// ```
-///
-/// Definitions: [`longest`](crate::definitions::base::encodings::longest), [`unsigned_encoding`](crate::definitions::base::numbers::unsigned_encoding). [How to read clauses](crate::definitions).
 fn reserve_subsection<A: Sink>(sink: &mut A, size: usize) -> Result<()> {
     if let Ok(short) = u32::try_from(size) {
         sink.reserve(size.saturating_add(encoding_size(short)).saturating_add(1))?;

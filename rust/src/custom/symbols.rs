@@ -141,14 +141,6 @@ impl Encode for SymbolKind {
 }
 
 /// Proves that a name, if there is one, is UTF-8. The function does nothing.
-///
-/// # Proved
-///
-/// ```text
-/// ensures { IfSome name.entry (λ n. IsUtf8 n.now) }
-/// ```
-///
-/// [How to read clauses](crate::definitions).
 #[inline]
 pub(crate) fn given_name(name: Option<&str>) {
     if let Some(name) = name {
@@ -158,14 +150,6 @@ pub(crate) fn given_name(name: Option<&str>) {
 
 /// Proves that the numbers of a definition, if there is one, are in range. The function does
 /// nothing.
-///
-/// # Proved
-///
-/// ```text
-/// ensures { IfSome definition IsDefinition }
-/// ```
-///
-/// Definitions: [`IsDefinition`](crate::definitions::custom::symbols::IsDefinition). [How to read clauses](crate::definitions).
 #[inline]
 pub(crate) fn given_definition(definition: Option<DataSymbolDefinition>) {
     if let Some(given) = definition {
@@ -208,28 +192,6 @@ const _: () = assert!(<SymbolTable>::WASM_SYM_NO_STRIP == 0x80);
 
 impl<A: Allocator> SymbolTable<A> {
     /// Adds a symbol with an index, of a kind that the builders' grammar has.
-    ///
-    /// # Asks
-    ///
-    /// [What happens otherwise](crate::fallible#what-is-asked).
-    ///
-    /// ```text
-    /// requires { IsBuiltKind kind }
-    /// ```
-    ///
-    /// Definitions: [`IsBuiltKind`](crate::definitions::custom::symbols::IsBuiltKind). [How to read clauses](crate::definitions).
-    ///
-    /// # Proved
-    ///
-    /// The builder gains one entry with this encoding, or the call returns an error and changes nothing. A full builder, with 2^32 - 1 entries, returns `TooLong`.
-    ///
-    /// ```text
-    /// ensures { Adds (indexed_encoding kind flags index
-    ///         (optional_encoding (λ n. size_prefixed_encoding n.now) name.entry))
-    ///     (IfSome name.entry (λ n. HasEncodableSize n.now)) self.old self.new result }
-    /// ```
-    ///
-    /// Definitions: [`Adds`](crate::definitions::base::calls::Adds), [`indexed_encoding`](crate::definitions::custom::symbols::indexed_encoding), [`optional_encoding`](crate::definitions::base::encodings::optional_encoding), [`size_prefixed_encoding`](crate::definitions::base::encodings::size_prefixed_encoding), [`HasEncodableSize`](crate::definitions::base::encodings::HasEncodableSize). [How to read clauses](crate::definitions).
     fn indexed(
         &mut self,
         kind: SymbolKind,
@@ -434,14 +396,6 @@ pub enum Symbol<'a> {
 }
 
 /// Returns `true` if the flags say that the encoding of a symbol with an index has a name.
-///
-/// # Proved
-///
-/// ```text
-/// ensures { result ≡ flags_name flags }
-/// ```
-///
-/// Definitions: [`flags_name`](crate::definitions::custom::symbols::has_name). [How to read clauses](crate::definitions).
 fn has_name(flags: u32) -> bool {
     let undefined = flags / SymbolTable::WASM_SYM_UNDEFINED % 2 == 1;
     let explicit = flags / SymbolTable::WASM_SYM_EXPLICIT_NAME % 2 == 1;
@@ -449,36 +403,12 @@ fn has_name(flags: u32) -> bool {
 }
 
 /// Returns `true` if the flags say that the encoding of a data symbol has a definition.
-///
-/// # Proved
-///
-/// ```text
-/// ensures { result ≡ flags_definition flags }
-/// ```
-///
-/// Definitions: [`flags_definition`](crate::definitions::custom::symbols::has_definition). [How to read clauses](crate::definitions).
 fn has_definition(flags: u32) -> bool {
     let undefined = flags / SymbolTable::WASM_SYM_UNDEFINED % 2 == 1;
     !undefined
 }
 
 /// Decodes a symbol with an index, after the byte of its kind.
-///
-/// # Proved
-///
-/// After `Ok`: `found`, the bytes begin with an encoding of the value, and the returned bytes follow it. After an error: `none`, the bytes do not begin with such an encoding, unless the cause is `Memory`.
-///
-/// ```text
-/// ensures found { IfOk result
-///     (λ x. Decodes (indexed_symbol kind) (padded_of G.grammar) bytes.now
-///         (symbol_view x.0) x.1.now) }
-/// ensures none { IfErr result
-///     (λ e. e.cause ≢ Memory → Rejects (indexed_symbol kind)
-///         (padded_of G.grammar) bytes.now) }
-/// ensures no_memory { IfErr result (λ e. e.cause ≢ Memory) }
-/// ```
-///
-/// Definitions: [`Decodes`](crate::definitions::base::decoding::Decodes), [`indexed_symbol`](crate::definitions::custom::symbols::indexed_symbol), [`padded_of`](crate::definitions::base::numbers::padded_of), [`symbol_view`](crate::definitions::custom::symbols::symbol_view), [`Rejects`](crate::definitions::base::decoding::Rejects). [How to read clauses](crate::definitions).
 fn read_indexed<'a, A: Allocator + Copy, G: Grammar>(
     kind: SymbolKind,
     bytes: &'a [u8],
@@ -531,22 +461,6 @@ impl<'a, A: Allocator + Copy, G: Grammar> Readable<'a, A, G> for DataSymbolDefin
 }
 
 /// Decodes a definition if the flag is set, and returns `None` otherwise.
-///
-/// # Proved
-///
-/// After `Ok`: `found`, the bytes begin with an encoding of the value, and the returned bytes follow it. After an error: `none`, the bytes do not begin with such an encoding, unless the cause is `Memory`.
-///
-/// ```text
-/// ensures found { IfOk result
-///     (λ x. Decodes (optional given definition_format)
-///         (padded_of G.grammar) bytes.now x.0 x.1.now) }
-/// ensures none { IfErr result
-///     (λ e. e.cause ≢ Memory → Rejects (optional given definition_format)
-///         (padded_of G.grammar) bytes.now) }
-/// ensures no_memory { IfErr result (λ e. e.cause ≢ Memory) }
-/// ```
-///
-/// Definitions: [`Decodes`](crate::definitions::base::decoding::Decodes), [`optional`](crate::definitions::base::formats::optional), [`definition_format`](crate::definitions::custom::symbols::definition), [`padded_of`](crate::definitions::base::numbers::padded_of), [`Rejects`](crate::definitions::base::decoding::Rejects). [How to read clauses](crate::definitions).
 fn read_definition<'a, A: Allocator + Copy, G: Grammar>(
     given: bool,
     bytes: &'a [u8],
@@ -561,21 +475,6 @@ fn read_definition<'a, A: Allocator + Copy, G: Grammar>(
 }
 
 /// Decodes a data symbol, after the byte of its kind.
-///
-/// # Proved
-///
-/// After `Ok`: `found`, the bytes begin with an encoding of the value, and the returned bytes follow it. After an error: `none`, the bytes do not begin with such an encoding, unless the cause is `Memory`.
-///
-/// ```text
-/// ensures found { IfOk result
-///     (λ x. Decodes data_symbol (padded_of G.grammar) bytes.now (symbol_view x.0) x.1.now)
-///     }
-/// ensures none { IfErr result
-///     (λ e. e.cause ≢ Memory → Rejects data_symbol (padded_of G.grammar) bytes.now) }
-/// ensures no_memory { IfErr result (λ e. e.cause ≢ Memory) }
-/// ```
-///
-/// Definitions: [`Decodes`](crate::definitions::base::decoding::Decodes), [`data_symbol`](crate::definitions::custom::symbols::data_symbol), [`padded_of`](crate::definitions::base::numbers::padded_of), [`symbol_view`](crate::definitions::custom::symbols::symbol_view), [`Rejects`](crate::definitions::base::decoding::Rejects). [How to read clauses](crate::definitions).
 fn read_data<'a, A: Allocator + Copy, G: Grammar>(
     bytes: &'a [u8],
     alloc: A,
@@ -594,21 +493,6 @@ fn read_data<'a, A: Allocator + Copy, G: Grammar>(
 }
 
 /// Decodes a section symbol, after the byte of its kind.
-///
-/// # Proved
-///
-/// After `Ok`: `found`, the bytes begin with an encoding of the value, and the returned bytes follow it. After an error: `none`, the bytes do not begin with such an encoding, unless the cause is `Memory`.
-///
-/// ```text
-/// ensures found { IfOk result
-///     (λ x. Decodes section_symbol (padded_of G.grammar) bytes.now
-///         (symbol_view x.0) x.1.now) }
-/// ensures none { IfErr result
-///     (λ e. e.cause ≢ Memory → Rejects section_symbol (padded_of G.grammar) bytes.now) }
-/// ensures no_memory { IfErr result (λ e. e.cause ≢ Memory) }
-/// ```
-///
-/// Definitions: [`Decodes`](crate::definitions::base::decoding::Decodes), [`section_symbol`](crate::definitions::custom::symbols::section_symbol), [`padded_of`](crate::definitions::base::numbers::padded_of), [`symbol_view`](crate::definitions::custom::symbols::symbol_view), [`Rejects`](crate::definitions::base::decoding::Rejects). [How to read clauses](crate::definitions).
 fn read_section<'a, A: Allocator + Copy, G: Grammar>(
     bytes: &'a [u8],
     alloc: A,
@@ -683,23 +567,6 @@ impl<'a, A: Allocator + Copy, G: Grammar> Readable<'a, A, G> for Symbol<'a> {
 }
 
 /// Appends the name if the flags say that the encoding has one.
-///
-/// # Proved
-///
-/// - After `Ok`, `ok`: the sink gains the encoding that is minimal in both grammars.
-/// - `front`: The new bytes begin with the old ones.
-/// - `too_long`: a value that has an encoding never gives `TooLong`.
-///
-/// ```text
-/// ensures ok { OnOk result
-///     (AppendsMinimal both_grammars (optional (flags_name flags) name_format)
-///         (option_map (λ n. n.now) name.entry) sink.old.items sink.new.items) }
-/// ensures front { IsFrontOf sink.old.items sink.new.items }
-/// ensures too_long { HasEncoding both_grammars (optional (flags_name flags) name_format)
-///     (option_map (λ n. n.now) name.entry) → result ≢ Err TooLong }
-/// ```
-///
-/// Definitions: [`AppendsMinimal`](crate::definitions::base::minimal::AppendsMinimal), [`both_grammars`](crate::definitions::base::minimal::Grammars), [`optional`](crate::definitions::base::formats::optional), [`flags_name`](crate::definitions::custom::symbols::has_name), [`name_format`](crate::definitions::base::formats::name), [`IsFrontOf`](crate::definitions::base::minimal::IsFrontOf), [`HasEncoding`](crate::definitions::base::minimal::HasEncoding). [How to read clauses](crate::definitions).
 fn append_name<B: Sink>(flags: u32, name: Option<&str>, sink: &mut B) -> Result<()> {
     match name {
         Some(name) => name.write_minimal(sink),
@@ -708,26 +575,6 @@ fn append_name<B: Sink>(flags: u32, name: Option<&str>, sink: &mut B) -> Result<
 }
 
 /// Appends a symbol with an index, whose kind is a byte.
-///
-/// # Proved
-///
-/// - After `Ok`, `ok`: the sink gains the encoding that is minimal in both grammars.
-/// - `front`: The new bytes begin with the old ones.
-/// - `too_long`: a value that has an encoding never gives `TooLong`.
-///
-/// ```text
-/// ensures ok { OnOk result
-///     (AppendsMinimal both_grammars (prefixed (kind_code kind ∷ []) (indexed_symbol kind))
-///         (indexed kind flags index (option_map (λ n. n.now) name.entry)) sink.old.items
-///         sink.new.items) }
-/// ensures front { IsFrontOf sink.old.items sink.new.items }
-/// ensures too_long { HasEncoding both_grammars
-///     (prefixed (kind_code kind ∷ []) (indexed_symbol kind))
-///     (indexed kind flags index (option_map (λ n. n.now) name.entry))
-///     → result ≢ Err TooLong }
-/// ```
-///
-/// Definitions: [`AppendsMinimal`](crate::definitions::base::minimal::AppendsMinimal), [`both_grammars`](crate::definitions::base::minimal::Grammars), [`prefixed`](crate::definitions::base::formats::prefixed), [`kind_code`](crate::definitions::custom::symbols::kind_code), [`indexed_symbol`](crate::definitions::custom::symbols::indexed_symbol), [`indexed`](crate::definitions::custom::symbols::Symbol), [`IsFrontOf`](crate::definitions::base::minimal::IsFrontOf), [`HasEncoding`](crate::definitions::base::minimal::HasEncoding). [How to read clauses](crate::definitions).
 fn append_indexed<B: Sink>(
     kind: SymbolKind,
     flags: u32,
@@ -742,25 +589,6 @@ fn append_indexed<B: Sink>(
 }
 
 /// Appends the definition if the flags say that the encoding has one.
-///
-/// # Proved
-///
-/// - After `Ok`, `ok`: the sink gains the encoding that is minimal in both grammars.
-/// - `front`: The new bytes begin with the old ones.
-/// - `too_long`: a value that has an encoding never gives `TooLong`.
-///
-/// ```text
-/// ensures ok { OnOk result
-///     (AppendsMinimal both_grammars
-///         (optional (flags_definition flags) definition_format) definition sink.old.items
-///         sink.new.items) }
-/// ensures front { IsFrontOf sink.old.items sink.new.items }
-/// ensures too_long { HasEncoding both_grammars
-///     (optional (flags_definition flags) definition_format) definition
-///     → result ≢ Err TooLong }
-/// ```
-///
-/// Definitions: [`AppendsMinimal`](crate::definitions::base::minimal::AppendsMinimal), [`both_grammars`](crate::definitions::base::minimal::Grammars), [`optional`](crate::definitions::base::formats::optional), [`flags_definition`](crate::definitions::custom::symbols::has_definition), [`definition_format`](crate::definitions::custom::symbols::definition), [`IsFrontOf`](crate::definitions::base::minimal::IsFrontOf), [`HasEncoding`](crate::definitions::base::minimal::HasEncoding). [How to read clauses](crate::definitions).
 fn append_definition<B: Sink>(
     flags: u32,
     definition: Option<DataSymbolDefinition>,
@@ -773,23 +601,6 @@ fn append_definition<B: Sink>(
 }
 
 /// Appends a data symbol, whose kind is 01.
-///
-/// # Proved
-///
-/// - After `Ok`, `ok`: the sink gains the encoding that is minimal in both grammars.
-/// - `front`: The new bytes begin with the old ones.
-/// - `too_long`: a value that has an encoding never gives `TooLong`.
-///
-/// ```text
-/// ensures ok { OnOk result
-///     (AppendsMinimal both_grammars (prefixed (0x01 ∷ []) data_symbol)
-///         (of_data flags name.now definition) sink.old.items sink.new.items) }
-/// ensures front { IsFrontOf sink.old.items sink.new.items }
-/// ensures too_long { HasEncoding both_grammars (prefixed (0x01 ∷ []) data_symbol)
-///     (of_data flags name.now definition) → result ≢ Err TooLong }
-/// ```
-///
-/// Definitions: [`AppendsMinimal`](crate::definitions::base::minimal::AppendsMinimal), [`both_grammars`](crate::definitions::base::minimal::Grammars), [`prefixed`](crate::definitions::base::formats::prefixed), [`data_symbol`](crate::definitions::custom::symbols::data_symbol), [`of_data`](crate::definitions::custom::symbols::Symbol), [`IsFrontOf`](crate::definitions::base::minimal::IsFrontOf), [`HasEncoding`](crate::definitions::base::minimal::HasEncoding). [How to read clauses](crate::definitions).
 fn append_data<B: Sink>(
     flags: u32,
     name: &str,
@@ -803,22 +614,6 @@ fn append_data<B: Sink>(
 }
 
 /// Appends a section symbol, whose kind is 03.
-///
-/// # Proved
-///
-/// - After `Ok`, `ok`: the sink gains the encoding that is minimal in both grammars.
-/// - `front`: The new bytes begin with the old ones.
-/// - `too_long`: no error is `TooLong`.
-///
-/// ```text
-/// ensures ok { OnOk result
-///     (AppendsMinimal both_grammars (prefixed (0x03 ∷ []) section_symbol)
-///         (of_section flags section) sink.old.items sink.new.items) }
-/// ensures front { IsFrontOf sink.old.items sink.new.items }
-/// ensures too_long { result ≢ Err TooLong }
-/// ```
-///
-/// Definitions: [`AppendsMinimal`](crate::definitions::base::minimal::AppendsMinimal), [`both_grammars`](crate::definitions::base::minimal::Grammars), [`prefixed`](crate::definitions::base::formats::prefixed), [`section_symbol`](crate::definitions::custom::symbols::section_symbol), [`of_section`](crate::definitions::custom::symbols::Symbol), [`IsFrontOf`](crate::definitions::base::minimal::IsFrontOf). [How to read clauses](crate::definitions).
 fn append_section<B: Sink>(flags: u32, section: u32, sink: &mut B) -> Result<()> {
     0x03u8.encode(sink)?;
     flags.write_minimal(sink)?;

@@ -146,14 +146,6 @@ impl Default for MemArgTarget {
 
 impl MemArgTarget {
     /// Returns the index in the encoding, or `None` for memory 0, which has none.
-    ///
-    /// # Proved
-    ///
-    /// ```text
-    /// ensures { result ≡ index_of self }
-    /// ```
-    ///
-    /// Definitions: [`index_of`](crate::definitions::immediates::immediates::index_of). [How to read clauses](crate::definitions).
     #[inline]
     fn index(self) -> Option<u32> {
         match self {
@@ -204,14 +196,6 @@ impl Encode for MemArgOrdering {
 
 impl MemArg {
     /// Returns the flags: the alignment, and a bit for each optional field that follows.
-    ///
-    /// # Proved
-    ///
-    /// ```text
-    /// ensures { result ≡ mem_flags self }
-    /// ```
-    ///
-    /// Definitions: [`mem_flags`](crate::definitions::immediates::immediates::mem_flags). [How to read clauses](crate::definitions).
     #[inline]
     fn flags(self) -> u32 {
         let ordering = if self.ordering.is_some() { 0x10 } else { 0 };
@@ -224,16 +208,6 @@ impl MemArg {
     }
 
     /// Appends all fields for which the flags have a bit.
-    ///
-    /// # Proved
-    ///
-    /// The call appends the encoding, or returns an error and leaves the bytes as they were. If the value fits, the call never returns `TooLong`, and it succeeds within the spare capacity.
-    ///
-    /// ```text
-    /// ensures { Appends (mem_arg_encoding self.now) ⊤ sink.old sink.new result }
-    /// ```
-    ///
-    /// Definitions: [`Appends`](crate::definitions::base::calls::Appends), [`mem_arg_encoding`](crate::definitions::immediates::immediates::mem_arg_encoding). [How to read clauses](crate::definitions).
     #[inline(never)]
     fn encode_all<A: Sink>(&self, sink: &mut A) -> Result<()> {
         let flags = self.flags();
@@ -269,17 +243,6 @@ impl Encode for MemArg {
 
 /// Appends flags and an offset. Most have one byte each, and are written after one test of the
 /// spare capacity.
-///
-/// # Proved
-///
-/// The call appends the encoding, or returns an error and leaves the bytes as they were. If the value fits, the call never returns `TooLong`, and it succeeds within the spare capacity.
-///
-/// ```text
-/// ensures { Appends (unsigned_encoding flags ++ unsigned_encoding offset) ⊤ sink.old
-///     sink.new result }
-/// ```
-///
-/// Definitions: [`Appends`](crate::definitions::base::calls::Appends), [`unsigned_encoding`](crate::definitions::base::numbers::unsigned_encoding). [How to read clauses](crate::definitions).
 #[inline]
 fn encode_plain<A: Sink>(flags: u32, offset: u64, sink: &mut A) -> Result<()> {
     if flags < 0x80 && offset < 0x80 && sink.capacity() - sink.len() >= 2 {
@@ -290,27 +253,6 @@ fn encode_plain<A: Sink>(flags: u32, offset: u64, sink: &mut A) -> Result<()> {
 }
 
 /// Appends two numbers of one byte each into spare capacity of the sink, which holds them.
-///
-/// # Asks
-///
-/// [What happens otherwise](crate::fallible#what-is-asked).
-///
-/// ```text
-/// requires small { first < 0x80 × second < 0x80 }
-/// requires spare { vec_len sink.old + 2 ≤ vec_capacity sink.old }
-/// ```
-///
-/// [How to read clauses](crate::definitions).
-///
-/// # Proved
-///
-/// ```text
-/// ensures items { sink.new.items
-///     ≡ sink.old.items ++ (unsigned_encoding first ++ unsigned_encoding second) }
-/// ensures capacity { vec_capacity sink.new ≡ vec_capacity sink.old }
-/// ```
-///
-/// Definitions: [`unsigned_encoding`](crate::definitions::base::numbers::unsigned_encoding). [How to read clauses](crate::definitions).
 #[inline]
 fn put_two_bytes<A: Sink>(first: u8, second: u8, sink: &mut A) {
     sink.push_both_reserved([first, second]);
@@ -381,22 +323,6 @@ impl<'a, A: Allocator + Copy, G: Grammar> Readable<'a, A, G> for MemArgOrdering 
 
 /// Decodes the index of an array type or of a memory, as the flags select. Memory 0 has an index
 /// in the standard's grammar alone.
-///
-/// # Proved
-///
-/// After `Ok`: `found`, the bytes begin with an encoding of the value, and the returned bytes follow it. After an error: `none`, the bytes do not begin with such an encoding, unless the cause is `Memory`.
-///
-/// ```text
-/// ensures found { IfOk result
-///     (λ x. Decodes (target_of G.grammar array other)
-///         (padded_of G.grammar) bytes.now x.0 x.1.now) }
-/// ensures none { IfErr result
-///     (λ e. e.cause ≢ Memory → Rejects (target_of G.grammar array other)
-///         (padded_of G.grammar) bytes.now) }
-/// ensures no_memory { IfErr result (λ e. e.cause ≢ Memory) }
-/// ```
-///
-/// Definitions: [`Decodes`](crate::definitions::base::decoding::Decodes), [`target_of`](crate::definitions::immediates::immediate_formats::target_of), [`padded_of`](crate::definitions::base::numbers::padded_of), [`Rejects`](crate::definitions::base::decoding::Rejects). [How to read clauses](crate::definitions).
 fn read_target<'a, A: Allocator + Copy, G: Grammar>(
     array: bool,
     other: bool,
@@ -421,20 +347,6 @@ fn read_target<'a, A: Allocator + Copy, G: Grammar>(
 }
 
 /// Decodes a memory argument with any flags. Out of line, since most have memory 0 and no ordering.
-///
-/// # Proved
-///
-/// After `Ok`: `found`, the bytes begin with an encoding of the value, and the returned bytes follow it. After an error: `none`, the bytes do not begin with such an encoding, unless the cause is `Memory`.
-///
-/// ```text
-/// ensures found { IfOk result
-///     (λ x. Decodes mem_arg (padded_of G.grammar) bytes.now x.0 x.1.now) }
-/// ensures none { IfErr result
-///     (λ e. e.cause ≢ Memory → Rejects mem_arg (padded_of G.grammar) bytes.now) }
-/// ensures no_memory { IfErr result (λ e. e.cause ≢ Memory) }
-/// ```
-///
-/// Definitions: [`Decodes`](crate::definitions::base::decoding::Decodes), [`mem_arg`](crate::definitions::immediates::immediate_formats::mem_arg), [`padded_of`](crate::definitions::base::numbers::padded_of), [`Rejects`](crate::definitions::base::decoding::Rejects). [How to read clauses](crate::definitions).
 #[inline(never)]
 fn read_any_memory<'a, A: Allocator + Copy, G: Grammar>(
     bytes: &'a [u8],

@@ -73,22 +73,6 @@ pub enum Arg<A: Allocator = Global> {
 }
 
 /// Decodes an unsigned number of 32 bits.
-///
-/// # Proved
-///
-/// After `Ok`: `found`, the bytes begin with an encoding of the value, and the returned bytes follow it. After an error: `none`, the bytes do not begin with such an encoding, unless the cause is `Memory`.
-///
-/// ```text
-/// ensures found { IfOk result
-///     (λ x. Decodes (part parts.Unsigned) (padded_of G.grammar) bytes.now
-///         (argument_view x.0) x.1.now) }
-/// ensures none { IfErr result
-///     (λ e. e.cause ≢ Memory → Rejects (part parts.Unsigned)
-///         (padded_of G.grammar) bytes.now) }
-/// ensures no_memory { IfErr result (λ e. e.cause ≢ Memory) }
-/// ```
-///
-/// Definitions: [`Decodes`](crate::definitions::base::decoding::Decodes), [`part`](crate::definitions::insn::plain::part), [`padded_of`](crate::definitions::base::numbers::padded_of), [`argument_view`](crate::definitions::insn::views::argument_view), [`Rejects`](crate::definitions::base::decoding::Rejects). [How to read clauses](crate::definitions).
 #[inline(always)]
 fn read_unsigned<'a, A: Allocator + Copy, G: Grammar>(
     bytes: &'a [u8],
@@ -99,22 +83,6 @@ fn read_unsigned<'a, A: Allocator + Copy, G: Grammar>(
 }
 
 /// Decodes a signed number of 32 bits.
-///
-/// # Proved
-///
-/// After `Ok`: `found`, the bytes begin with an encoding of the value, and the returned bytes follow it. After an error: `none`, the bytes do not begin with such an encoding, unless the cause is `Memory`.
-///
-/// ```text
-/// ensures found { IfOk result
-///     (λ x. Decodes (part parts.Signed32) (padded_of G.grammar) bytes.now
-///         (argument_view x.0) x.1.now) }
-/// ensures none { IfErr result
-///     (λ e. e.cause ≢ Memory → Rejects (part parts.Signed32)
-///         (padded_of G.grammar) bytes.now) }
-/// ensures no_memory { IfErr result (λ e. e.cause ≢ Memory) }
-/// ```
-///
-/// Definitions: [`Decodes`](crate::definitions::base::decoding::Decodes), [`part`](crate::definitions::insn::plain::part), [`padded_of`](crate::definitions::base::numbers::padded_of), [`argument_view`](crate::definitions::insn::views::argument_view), [`Rejects`](crate::definitions::base::decoding::Rejects). [How to read clauses](crate::definitions).
 #[inline(always)]
 fn read_signed32<'a, A: Allocator + Copy, G: Grammar>(
     bytes: &'a [u8],
@@ -125,22 +93,6 @@ fn read_signed32<'a, A: Allocator + Copy, G: Grammar>(
 }
 
 /// Decodes a signed number of 64 bits.
-///
-/// # Proved
-///
-/// After `Ok`: `found`, the bytes begin with an encoding of the value, and the returned bytes follow it. After an error: `none`, the bytes do not begin with such an encoding, unless the cause is `Memory`.
-///
-/// ```text
-/// ensures found { IfOk result
-///     (λ x. Decodes (part parts.Signed64) (padded_of G.grammar) bytes.now
-///         (argument_view x.0) x.1.now) }
-/// ensures none { IfErr result
-///     (λ e. e.cause ≢ Memory → Rejects (part parts.Signed64)
-///         (padded_of G.grammar) bytes.now) }
-/// ensures no_memory { IfErr result (λ e. e.cause ≢ Memory) }
-/// ```
-///
-/// Definitions: [`Decodes`](crate::definitions::base::decoding::Decodes), [`part`](crate::definitions::insn::plain::part), [`padded_of`](crate::definitions::base::numbers::padded_of), [`argument_view`](crate::definitions::insn::views::argument_view), [`Rejects`](crate::definitions::base::decoding::Rejects). [How to read clauses](crate::definitions).
 #[inline(always)]
 fn read_signed64<'a, A: Allocator + Copy, G: Grammar>(
     bytes: &'a [u8],
@@ -151,22 +103,6 @@ fn read_signed64<'a, A: Allocator + Copy, G: Grammar>(
 }
 
 /// Decodes a float of 32 bits.
-///
-/// # Proved
-///
-/// After `Ok`: `found`, the bytes begin with an encoding of the value, and the returned bytes follow it. After an error: `none`, the bytes do not begin with such an encoding, unless the cause is `Memory`.
-///
-/// ```text
-/// ensures found { IfOk result
-///     (λ x. Decodes (part parts.Float32) (padded_of G.grammar) bytes.now
-///         (argument_view x.0) x.1.now) }
-/// ensures none { IfErr result
-///     (λ e. e.cause ≢ Memory → Rejects (part parts.Float32)
-///         (padded_of G.grammar) bytes.now) }
-/// ensures no_memory { IfErr result (λ e. e.cause ≢ Memory) }
-/// ```
-///
-/// Definitions: [`Decodes`](crate::definitions::base::decoding::Decodes), [`part`](crate::definitions::insn::plain::part), [`padded_of`](crate::definitions::base::numbers::padded_of), [`argument_view`](crate::definitions::insn::views::argument_view), [`Rejects`](crate::definitions::base::decoding::Rejects). [How to read clauses](crate::definitions).
 #[inline(never)]
 fn read_float32<'a, A: Allocator + Copy, G: Grammar>(
     bytes: &'a [u8],
@@ -177,22 +113,6 @@ fn read_float32<'a, A: Allocator + Copy, G: Grammar>(
 }
 
 /// Decodes a float of 64 bits.
-///
-/// # Proved
-///
-/// After `Ok`: `found`, the bytes begin with an encoding of the value, and the returned bytes follow it. After an error: `none`, the bytes do not begin with such an encoding, unless the cause is `Memory`.
-///
-/// ```text
-/// ensures found { IfOk result
-///     (λ x. Decodes (part parts.Float64) (padded_of G.grammar) bytes.now
-///         (argument_view x.0) x.1.now) }
-/// ensures none { IfErr result
-///     (λ e. e.cause ≢ Memory → Rejects (part parts.Float64)
-///         (padded_of G.grammar) bytes.now) }
-/// ensures no_memory { IfErr result (λ e. e.cause ≢ Memory) }
-/// ```
-///
-/// Definitions: [`Decodes`](crate::definitions::base::decoding::Decodes), [`part`](crate::definitions::insn::plain::part), [`padded_of`](crate::definitions::base::numbers::padded_of), [`argument_view`](crate::definitions::insn::views::argument_view), [`Rejects`](crate::definitions::base::decoding::Rejects). [How to read clauses](crate::definitions).
 #[inline(never)]
 fn read_float64<'a, A: Allocator + Copy, G: Grammar>(
     bytes: &'a [u8],
@@ -203,22 +123,6 @@ fn read_float64<'a, A: Allocator + Copy, G: Grammar>(
 }
 
 /// Decodes a vector of 128 bits.
-///
-/// # Proved
-///
-/// After `Ok`: `found`, the bytes begin with an encoding of the value, and the returned bytes follow it. After an error: `none`, the bytes do not begin with such an encoding, unless the cause is `Memory`.
-///
-/// ```text
-/// ensures found { IfOk result
-///     (λ x. Decodes (part parts.Vector) (padded_of G.grammar) bytes.now
-///         (argument_view x.0) x.1.now) }
-/// ensures none { IfErr result
-///     (λ e. e.cause ≢ Memory → Rejects (part parts.Vector)
-///         (padded_of G.grammar) bytes.now) }
-/// ensures no_memory { IfErr result (λ e. e.cause ≢ Memory) }
-/// ```
-///
-/// Definitions: [`Decodes`](crate::definitions::base::decoding::Decodes), [`part`](crate::definitions::insn::plain::part), [`padded_of`](crate::definitions::base::numbers::padded_of), [`argument_view`](crate::definitions::insn::views::argument_view), [`Rejects`](crate::definitions::base::decoding::Rejects). [How to read clauses](crate::definitions).
 #[inline(never)]
 fn read_vector<'a, A: Allocator + Copy, G: Grammar>(
     bytes: &'a [u8],
@@ -229,22 +133,6 @@ fn read_vector<'a, A: Allocator + Copy, G: Grammar>(
 }
 
 /// Decodes a memory argument.
-///
-/// # Proved
-///
-/// After `Ok`: `found`, the bytes begin with an encoding of the value, and the returned bytes follow it. After an error: `none`, the bytes do not begin with such an encoding, unless the cause is `Memory`.
-///
-/// ```text
-/// ensures found { IfOk result
-///     (λ x. Decodes (part parts.Memory) (padded_of G.grammar) bytes.now
-///         (argument_view x.0) x.1.now) }
-/// ensures none { IfErr result
-///     (λ e. e.cause ≢ Memory → Rejects (part parts.Memory)
-///         (padded_of G.grammar) bytes.now) }
-/// ensures no_memory { IfErr result (λ e. e.cause ≢ Memory) }
-/// ```
-///
-/// Definitions: [`Decodes`](crate::definitions::base::decoding::Decodes), [`part`](crate::definitions::insn::plain::part), [`padded_of`](crate::definitions::base::numbers::padded_of), [`argument_view`](crate::definitions::insn::views::argument_view), [`Rejects`](crate::definitions::base::decoding::Rejects). [How to read clauses](crate::definitions).
 #[inline(always)]
 fn read_memory<'a, A: Allocator + Copy, G: Grammar>(
     bytes: &'a [u8],
@@ -255,22 +143,6 @@ fn read_memory<'a, A: Allocator + Copy, G: Grammar>(
 }
 
 /// Decodes a lane.
-///
-/// # Proved
-///
-/// After `Ok`: `found`, the bytes begin with an encoding of the value, and the returned bytes follow it. After an error: `none`, the bytes do not begin with such an encoding, unless the cause is `Memory`.
-///
-/// ```text
-/// ensures found { IfOk result
-///     (λ x. Decodes (part parts.Lane) (padded_of G.grammar) bytes.now
-///         (argument_view x.0) x.1.now) }
-/// ensures none { IfErr result
-///     (λ e. e.cause ≢ Memory → Rejects (part parts.Lane) (padded_of G.grammar) bytes.now)
-///     }
-/// ensures no_memory { IfErr result (λ e. e.cause ≢ Memory) }
-/// ```
-///
-/// Definitions: [`Decodes`](crate::definitions::base::decoding::Decodes), [`part`](crate::definitions::insn::plain::part), [`padded_of`](crate::definitions::base::numbers::padded_of), [`argument_view`](crate::definitions::insn::views::argument_view), [`Rejects`](crate::definitions::base::decoding::Rejects). [How to read clauses](crate::definitions).
 fn read_lane<'a, A: Allocator + Copy, G: Grammar>(
     bytes: &'a [u8],
     alloc: A,
@@ -280,22 +152,6 @@ fn read_lane<'a, A: Allocator + Copy, G: Grammar>(
 }
 
 /// Decodes sixteen lanes.
-///
-/// # Proved
-///
-/// After `Ok`: `found`, the bytes begin with an encoding of the value, and the returned bytes follow it. After an error: `none`, the bytes do not begin with such an encoding, unless the cause is `Memory`.
-///
-/// ```text
-/// ensures found { IfOk result
-///     (λ x. Decodes (part parts.Lanes) (padded_of G.grammar) bytes.now
-///         (argument_view x.0) x.1.now) }
-/// ensures none { IfErr result
-///     (λ e. e.cause ≢ Memory → Rejects (part parts.Lanes) (padded_of G.grammar) bytes.now)
-///     }
-/// ensures no_memory { IfErr result (λ e. e.cause ≢ Memory) }
-/// ```
-///
-/// Definitions: [`Decodes`](crate::definitions::base::decoding::Decodes), [`part`](crate::definitions::insn::plain::part), [`padded_of`](crate::definitions::base::numbers::padded_of), [`argument_view`](crate::definitions::insn::views::argument_view), [`Rejects`](crate::definitions::base::decoding::Rejects). [How to read clauses](crate::definitions).
 #[inline(never)]
 fn read_lanes<'a, A: Allocator + Copy, G: Grammar>(
     bytes: &'a [u8],
@@ -306,22 +162,6 @@ fn read_lanes<'a, A: Allocator + Copy, G: Grammar>(
 }
 
 /// Decodes a block type.
-///
-/// # Proved
-///
-/// After `Ok`: `found`, the bytes begin with an encoding of the value, and the returned bytes follow it. After an error: `none`, the bytes do not begin with such an encoding, unless the cause is `Memory`.
-///
-/// ```text
-/// ensures found { IfOk result
-///     (λ x. Decodes (part parts.Block) (padded_of G.grammar) bytes.now
-///         (argument_view x.0) x.1.now) }
-/// ensures none { IfErr result
-///     (λ e. e.cause ≢ Memory → Rejects (part parts.Block) (padded_of G.grammar) bytes.now)
-///     }
-/// ensures no_memory { IfErr result (λ e. e.cause ≢ Memory) }
-/// ```
-///
-/// Definitions: [`Decodes`](crate::definitions::base::decoding::Decodes), [`part`](crate::definitions::insn::plain::part), [`padded_of`](crate::definitions::base::numbers::padded_of), [`argument_view`](crate::definitions::insn::views::argument_view), [`Rejects`](crate::definitions::base::decoding::Rejects). [How to read clauses](crate::definitions).
 #[inline(always)]
 fn read_block<'a, A: Allocator + Copy, G: Grammar>(
     bytes: &'a [u8],
@@ -332,22 +172,6 @@ fn read_block<'a, A: Allocator + Copy, G: Grammar>(
 }
 
 /// Decodes a heap type.
-///
-/// # Proved
-///
-/// After `Ok`: `found`, the bytes begin with an encoding of the value, and the returned bytes follow it. After an error: `none`, the bytes do not begin with such an encoding, unless the cause is `Memory`.
-///
-/// ```text
-/// ensures found { IfOk result
-///     (λ x. Decodes (part parts.Heap) (padded_of G.grammar) bytes.now
-///         (argument_view x.0) x.1.now) }
-/// ensures none { IfErr result
-///     (λ e. e.cause ≢ Memory → Rejects (part parts.Heap) (padded_of G.grammar) bytes.now)
-///     }
-/// ensures no_memory { IfErr result (λ e. e.cause ≢ Memory) }
-/// ```
-///
-/// Definitions: [`Decodes`](crate::definitions::base::decoding::Decodes), [`part`](crate::definitions::insn::plain::part), [`padded_of`](crate::definitions::base::numbers::padded_of), [`argument_view`](crate::definitions::insn::views::argument_view), [`Rejects`](crate::definitions::base::decoding::Rejects). [How to read clauses](crate::definitions).
 #[inline(never)]
 fn read_heap<'a, A: Allocator + Copy, G: Grammar>(
     bytes: &'a [u8],
@@ -358,22 +182,6 @@ fn read_heap<'a, A: Allocator + Copy, G: Grammar>(
 }
 
 /// Decodes an ordering.
-///
-/// # Proved
-///
-/// After `Ok`: `found`, the bytes begin with an encoding of the value, and the returned bytes follow it. After an error: `none`, the bytes do not begin with such an encoding, unless the cause is `Memory`.
-///
-/// ```text
-/// ensures found { IfOk result
-///     (λ x. Decodes (part parts.Ordering) (padded_of G.grammar) bytes.now
-///         (argument_view x.0) x.1.now) }
-/// ensures none { IfErr result
-///     (λ e. e.cause ≢ Memory → Rejects (part parts.Ordering)
-///         (padded_of G.grammar) bytes.now) }
-/// ensures no_memory { IfErr result (λ e. e.cause ≢ Memory) }
-/// ```
-///
-/// Definitions: [`Decodes`](crate::definitions::base::decoding::Decodes), [`part`](crate::definitions::insn::plain::part), [`padded_of`](crate::definitions::base::numbers::padded_of), [`argument_view`](crate::definitions::insn::views::argument_view), [`Rejects`](crate::definitions::base::decoding::Rejects). [How to read clauses](crate::definitions).
 #[inline(never)]
 fn read_ordering<'a, A: Allocator + Copy, G: Grammar>(
     bytes: &'a [u8],
@@ -384,21 +192,6 @@ fn read_ordering<'a, A: Allocator + Copy, G: Grammar>(
 }
 
 /// Decodes a vector of labels.
-///
-/// # Proved
-///
-/// After `Ok`: `found`, the bytes begin with an encoding of the value, and the returned bytes follow it. After an error: `none`, the bytes do not begin with such an encoding, unless the cause is `Memory`.
-///
-/// ```text
-/// ensures found { IfOk result
-///     (λ x. Decodes (part parts.Labels) (padded_of G.grammar) bytes.now
-///         (argument_view x.0) x.1.now) }
-/// ensures none { IfErr result
-///     (λ e. e.cause ≢ Memory → Rejects (part parts.Labels)
-///         (padded_of G.grammar) bytes.now) }
-/// ```
-///
-/// Definitions: [`Decodes`](crate::definitions::base::decoding::Decodes), [`part`](crate::definitions::insn::plain::part), [`padded_of`](crate::definitions::base::numbers::padded_of), [`argument_view`](crate::definitions::insn::views::argument_view), [`Rejects`](crate::definitions::base::decoding::Rejects). [How to read clauses](crate::definitions).
 #[inline(never)]
 fn read_labels<'a, A: Allocator + Copy, G: Grammar>(
     bytes: &'a [u8],
@@ -409,21 +202,6 @@ fn read_labels<'a, A: Allocator + Copy, G: Grammar>(
 }
 
 /// Decodes a vector of catch clauses.
-///
-/// # Proved
-///
-/// After `Ok`: `found`, the bytes begin with an encoding of the value, and the returned bytes follow it. After an error: `none`, the bytes do not begin with such an encoding, unless the cause is `Memory`.
-///
-/// ```text
-/// ensures found { IfOk result
-///     (λ x. Decodes (part parts.Catches) (padded_of G.grammar) bytes.now
-///         (argument_view x.0) x.1.now) }
-/// ensures none { IfErr result
-///     (λ e. e.cause ≢ Memory → Rejects (part parts.Catches)
-///         (padded_of G.grammar) bytes.now) }
-/// ```
-///
-/// Definitions: [`Decodes`](crate::definitions::base::decoding::Decodes), [`part`](crate::definitions::insn::plain::part), [`padded_of`](crate::definitions::base::numbers::padded_of), [`argument_view`](crate::definitions::insn::views::argument_view), [`Rejects`](crate::definitions::base::decoding::Rejects). [How to read clauses](crate::definitions).
 #[inline(never)]
 fn read_catches<'a, A: Allocator + Copy, G: Grammar>(
     bytes: &'a [u8],
@@ -434,21 +212,6 @@ fn read_catches<'a, A: Allocator + Copy, G: Grammar>(
 }
 
 /// Decodes a vector of value types.
-///
-/// # Proved
-///
-/// After `Ok`: `found`, the bytes begin with an encoding of the value, and the returned bytes follow it. After an error: `none`, the bytes do not begin with such an encoding, unless the cause is `Memory`.
-///
-/// ```text
-/// ensures found { IfOk result
-///     (λ x. Decodes (part parts.Types) (padded_of G.grammar) bytes.now
-///         (argument_view x.0) x.1.now) }
-/// ensures none { IfErr result
-///     (λ e. e.cause ≢ Memory → Rejects (part parts.Types) (padded_of G.grammar) bytes.now)
-///     }
-/// ```
-///
-/// Definitions: [`Decodes`](crate::definitions::base::decoding::Decodes), [`part`](crate::definitions::insn::plain::part), [`padded_of`](crate::definitions::base::numbers::padded_of), [`argument_view`](crate::definitions::insn::views::argument_view), [`Rejects`](crate::definitions::base::decoding::Rejects). [How to read clauses](crate::definitions).
 #[inline(never)]
 fn read_types<'a, A: Allocator + Copy, G: Grammar>(
     bytes: &'a [u8],
@@ -459,21 +222,6 @@ fn read_types<'a, A: Allocator + Copy, G: Grammar>(
 }
 
 /// Decodes a vector of handle clauses.
-///
-/// # Proved
-///
-/// After `Ok`: `found`, the bytes begin with an encoding of the value, and the returned bytes follow it. After an error: `none`, the bytes do not begin with such an encoding, unless the cause is `Memory`.
-///
-/// ```text
-/// ensures found { IfOk result
-///     (λ x. Decodes (part parts.Handles) (padded_of G.grammar) bytes.now
-///         (argument_view x.0) x.1.now) }
-/// ensures none { IfErr result
-///     (λ e. e.cause ≢ Memory → Rejects (part parts.Handles)
-///         (padded_of G.grammar) bytes.now) }
-/// ```
-///
-/// Definitions: [`Decodes`](crate::definitions::base::decoding::Decodes), [`part`](crate::definitions::insn::plain::part), [`padded_of`](crate::definitions::base::numbers::padded_of), [`argument_view`](crate::definitions::insn::views::argument_view), [`Rejects`](crate::definitions::base::decoding::Rejects). [How to read clauses](crate::definitions).
 #[inline(never)]
 fn read_handles<'a, A: Allocator + Copy, G: Grammar>(
     bytes: &'a [u8],
@@ -484,22 +232,6 @@ fn read_handles<'a, A: Allocator + Copy, G: Grammar>(
 }
 
 /// Decodes the flags of a cast.
-///
-/// # Proved
-///
-/// After `Ok`: `found`, the bytes begin with an encoding of the value, and the returned bytes follow it. After an error: `none`, the bytes do not begin with such an encoding, unless the cause is `Memory`.
-///
-/// ```text
-/// ensures found { IfOk result
-///     (λ x. Decodes (part parts.Flag) (padded_of G.grammar) bytes.now
-///         (argument_view x.0) x.1.now) }
-/// ensures none { IfErr result
-///     (λ e. e.cause ≢ Memory → Rejects (part parts.Flag) (padded_of G.grammar) bytes.now)
-///     }
-/// ensures no_memory { IfErr result (λ e. e.cause ≢ Memory) }
-/// ```
-///
-/// Definitions: [`Decodes`](crate::definitions::base::decoding::Decodes), [`part`](crate::definitions::insn::plain::part), [`padded_of`](crate::definitions::base::numbers::padded_of), [`argument_view`](crate::definitions::insn::views::argument_view), [`Rejects`](crate::definitions::base::decoding::Rejects). [How to read clauses](crate::definitions).
 fn read_flag<'a, A: Allocator + Copy, G: Grammar>(
     bytes: &'a [u8],
     alloc: A,
@@ -514,21 +246,6 @@ fn read_flag<'a, A: Allocator + Copy, G: Grammar>(
 
 /// Decodes one argument. Rare and long arms are not inlined: with all of them inline, the compiler
 /// moves the result of each arm through all of them.
-///
-/// # Proved
-///
-/// After `Ok`: `found`, the bytes begin with an encoding of the value, and the returned bytes follow it. After an error: `none`, the bytes do not begin with such an encoding, unless the cause is `Memory`.
-///
-/// ```text
-/// ensures found { IfOk result
-///     (λ x. Decodes (part wanted) (padded_of G.grammar) bytes.now
-///         (argument_view x.0) x.1.now) }
-/// ensures none { IfErr result
-///     (λ e. e.cause ≢ Memory → Rejects (part wanted) (padded_of G.grammar) bytes.now) }
-/// ensures no_memory { IfErr result (λ e. e.cause ≡ Memory → IsList wanted) }
-/// ```
-///
-/// Definitions: [`Decodes`](crate::definitions::base::decoding::Decodes), [`part`](crate::definitions::insn::plain::part), [`padded_of`](crate::definitions::base::numbers::padded_of), [`argument_view`](crate::definitions::insn::views::argument_view), [`Rejects`](crate::definitions::base::decoding::Rejects), [`IsList`](crate::definitions::insn::parts::IsList). [How to read clauses](crate::definitions).
 pub(crate) fn read_part<'a, A: Allocator + Copy, G: Grammar>(
     wanted: Part,
     bytes: &'a [u8],
@@ -557,32 +274,6 @@ pub(crate) fn read_part<'a, A: Allocator + Copy, G: Grammar>(
 
 /// Decodes one argument for each of `wanted`, appends it to `args`, and returns the remaining
 /// bytes.
-///
-/// # Asks
-///
-/// [What happens otherwise](crate::fallible#what-is-asked).
-///
-/// ```text
-/// requires { args.old.items ≡ [] }
-/// ```
-///
-/// [How to read clauses](crate::definitions).
-///
-/// # Proved
-///
-/// - After `Ok`, `found`: The bytes begin with such an encoding, and the remaining bytes follow it.
-/// - After an error, `none`: the bytes do not begin with such an encoding, unless the cause is `Memory`.
-///
-/// ```text
-/// ensures found { IfOk result
-///     (λ rest. Decodes (arguments wanted.now) (padded_of G.grammar) bytes.now
-///         (map argument_view args.new.items) rest.now) }
-/// ensures none { IfErr result
-///     (λ e. e.cause ≢ Memory → Rejects (arguments wanted.now)
-///         (padded_of G.grammar) bytes.now) }
-/// ```
-///
-/// Definitions: [`Decodes`](crate::definitions::base::decoding::Decodes), [`arguments`](crate::definitions::insn::plain::arguments), [`padded_of`](crate::definitions::base::numbers::padded_of), [`argument_view`](crate::definitions::insn::views::argument_view), [`Rejects`](crate::definitions::base::decoding::Rejects). [How to read clauses](crate::definitions).
 fn read_parts<'a, A: Allocator + Copy, G: Grammar>(
     wanted: &[Part],
     bytes: &'a [u8],
@@ -600,21 +291,6 @@ fn read_parts<'a, A: Allocator + Copy, G: Grammar>(
 
 /// Decodes the arguments of any shape, into a list of exactly their number. Out of line, for rare
 /// shapes.
-///
-/// # Proved
-///
-/// After `Ok`: `found`, the bytes begin with an encoding of the value, and the returned bytes follow it. After an error: `none`, the bytes do not begin with such an encoding, unless the cause is `Memory`.
-///
-/// ```text
-/// ensures found { IfOk result
-///     (λ x. Decodes (arguments (parts_of shape)) (padded_of G.grammar) bytes.now
-///         (map argument_view x.0.items) x.1.now) }
-/// ensures none { IfErr result
-///     (λ e. e.cause ≢ Memory → Rejects (arguments (parts_of shape))
-///         (padded_of G.grammar) bytes.now) }
-/// ```
-///
-/// Definitions: [`Decodes`](crate::definitions::base::decoding::Decodes), [`arguments`](crate::definitions::insn::plain::arguments), [`parts_of`](crate::definitions::insn::parts::parts_of), [`padded_of`](crate::definitions::base::numbers::padded_of), [`argument_view`](crate::definitions::insn::views::argument_view), [`Rejects`](crate::definitions::base::decoding::Rejects). [How to read clauses](crate::definitions).
 #[inline(never)]
 pub(crate) fn read_any<'a, A: Allocator + Copy, G: Grammar>(
     shape: Shape,
@@ -628,17 +304,6 @@ pub(crate) fn read_any<'a, A: Allocator + Copy, G: Grammar>(
 }
 
 /// Returns the list of one argument.
-///
-/// # Proved
-///
-/// After an error: `refused`, the cause is `Memory`.
-///
-/// ```text
-/// ensures listed { IfOk result (λ args. args.items ≡ arg ∷ []) }
-/// ensures refused { IfErr result (λ e. e.cause ≡ Memory) }
-/// ```
-///
-/// [How to read clauses](crate::definitions).
 #[inline(always)]
 pub(crate) fn list_one<A: Allocator + Copy>(
     alloc: A,
@@ -682,20 +347,6 @@ impl<A: Allocator> Encode for Arg<A> {
 }
 
 /// Appends the minimal encodings of the arguments.
-///
-/// # Proved
-///
-/// `front`: The new bytes begin with the old ones.
-///
-/// ```text
-/// ensures ok { OnOk result
-///     (sink.new.items ≡ sink.old.items
-///         ++ flat_map (λ a. argument_encoding (argument_view a)) args.now) }
-/// ensures front { IsFrontOf sink.old.items sink.new.items }
-/// ensures too_long { AreWellFormed (map argument_view args.now) → result ≢ Err TooLong }
-/// ```
-///
-/// Definitions: [`argument_encoding`](crate::definitions::insn::arguments::argument_encoding), [`argument_view`](crate::definitions::insn::views::argument_view), [`IsFrontOf`](crate::definitions::base::minimal::IsFrontOf), [`AreWellFormed`](crate::definitions::insn::plain::AreWellFormed). [How to read clauses](crate::definitions).
 pub(crate) fn append_arguments<A: Allocator, B: Sink>(
     args: &[Arg<A>],
     sink: &mut B,

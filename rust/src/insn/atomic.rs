@@ -678,17 +678,6 @@ impl Atomic {
     }
 
     /// Appends the immediates.
-    ///
-    /// # Proved
-    ///
-    /// The call appends the encoding, or returns an error and leaves the bytes as they were. If the value fits, the call never returns `TooLong`, and it succeeds within the spare capacity.
-    ///
-    /// ```text
-    /// ensures { Appends (arguments_encoding (atomic_row self).arguments)
-    ///     (arguments_encodable (atomic_row self).arguments) sink.old sink.new result }
-    /// ```
-    ///
-    /// Definitions: [`Appends`](crate::definitions::base::calls::Appends), [`arguments_encoding`](crate::definitions::insn::arguments::arguments_encoding), [`atomic_row`](crate::definitions::insn::atomic::atomic_row), [`arguments_encodable`](crate::definitions::insn::arguments::arguments_encodable). [How to read clauses](crate::definitions).
     pub(crate) fn encode_arguments<A: Sink>(self, sink: &mut A) -> Result<()> {
         match self {
             Atomic::MemoryAtomicNotify(a)

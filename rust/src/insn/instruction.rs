@@ -496,14 +496,6 @@ pub enum Instruction<'a, A: Allocator = Global> {
 }
 
 /// Returns the flags of a cast: bit 0 for a nullable first type, bit 1 for a nullable second type.
-///
-/// # Proved
-///
-/// ```text
-/// ensures { result ≡ cast_flag_of from to }
-/// ```
-///
-/// Definitions: [`cast_flag_of`](crate::definitions::insn::instructions::cast_flag_of). [How to read clauses](crate::definitions).
 fn cast_flag(from: RefType, to: RefType) -> u8 {
     u8::from(from.nullable) + 2 * u8::from(to.nullable)
 }
@@ -512,35 +504,12 @@ fn cast_flag(from: RefType, to: RefType) -> u8 {
 // stack space for their immediates.
 
 /// Appends the labels of a branch table, and the default label.
-///
-/// # Proved
-///
-/// The call appends the encoding, or returns an error and leaves the bytes as they were. If the value fits, the call never returns `TooLong`, and it succeeds within the spare capacity.
-///
-/// ```text
-/// ensures { Appends (vec_encoding unsigned_encoding labels.now
-///         ++ unsigned_encoding default)
-///     (IsEncodableVec (λ _. ⊤) labels.now × ⊤) sink.old sink.new result }
-/// ```
-///
-/// Definitions: [`Appends`](crate::definitions::base::calls::Appends), [`vec_encoding`](crate::definitions::base::encodings::vec_encoding), [`unsigned_encoding`](crate::definitions::base::numbers::unsigned_encoding), [`IsEncodableVec`](crate::definitions::base::encodings::IsEncodableVec). [How to read clauses](crate::definitions).
 #[inline(never)]
 fn encode_labels<A: Sink>(labels: &[u32], default: u32, sink: &mut A) -> Result<()> {
     (labels, default).encode(sink)
 }
 
 /// Appends the type of a block, and its catch clauses.
-///
-/// # Proved
-///
-/// The call appends the encoding, or returns an error and leaves the bytes as they were. If the value fits, the call never returns `TooLong`, and it succeeds within the spare capacity.
-///
-/// ```text
-/// ensures { Appends (block_encoding block_type ++ vec_encoding catch_encoding catches.now)
-///     (⊤ × IsEncodableVec (λ _. ⊤) catches.now) sink.old sink.new result }
-/// ```
-///
-/// Definitions: [`Appends`](crate::definitions::base::calls::Appends), [`block_encoding`](crate::definitions::immediates::immediates::block_encoding), [`vec_encoding`](crate::definitions::base::encodings::vec_encoding), [`catch_encoding`](crate::definitions::immediates::immediates::catch_encoding), [`IsEncodableVec`](crate::definitions::base::encodings::IsEncodableVec). [How to read clauses](crate::definitions).
 #[inline(never)]
 fn encode_try_table<A: Sink>(
     block_type: BlockType,
@@ -551,35 +520,12 @@ fn encode_try_table<A: Sink>(
 }
 
 /// Appends the index of a type, and handle clauses.
-///
-/// # Proved
-///
-/// The call appends the encoding, or returns an error and leaves the bytes as they were. If the value fits, the call never returns `TooLong`, and it succeeds within the spare capacity.
-///
-/// ```text
-/// ensures { Appends (unsigned_encoding index ++ vec_encoding handle_encoding handles.now)
-///     (⊤ × IsEncodableVec (λ _. ⊤) handles.now) sink.old sink.new result }
-/// ```
-///
-/// Definitions: [`Appends`](crate::definitions::base::calls::Appends), [`unsigned_encoding`](crate::definitions::base::numbers::unsigned_encoding), [`vec_encoding`](crate::definitions::base::encodings::vec_encoding), [`handle_encoding`](crate::definitions::immediates::immediates::handle_encoding), [`IsEncodableVec`](crate::definitions::base::encodings::IsEncodableVec). [How to read clauses](crate::definitions).
 #[inline(never)]
 fn encode_resume<A: Sink>(index: u32, handles: &[Handle], sink: &mut A) -> Result<()> {
     (index, handles).encode(sink)
 }
 
 /// Appends the indices of a type and of a tag, and handle clauses.
-///
-/// # Proved
-///
-/// The call appends the encoding, or returns an error and leaves the bytes as they were. If the value fits, the call never returns `TooLong`, and it succeeds within the spare capacity.
-///
-/// ```text
-/// ensures { Appends (unsigned_encoding index
-///         ++ (unsigned_encoding tag ++ vec_encoding handle_encoding handles.now))
-///     (⊤ × ⊤ × IsEncodableVec (λ _. ⊤) handles.now) sink.old sink.new result }
-/// ```
-///
-/// Definitions: [`Appends`](crate::definitions::base::calls::Appends), [`unsigned_encoding`](crate::definitions::base::numbers::unsigned_encoding), [`vec_encoding`](crate::definitions::base::encodings::vec_encoding), [`handle_encoding`](crate::definitions::immediates::immediates::handle_encoding), [`IsEncodableVec`](crate::definitions::base::encodings::IsEncodableVec). [How to read clauses](crate::definitions).
 #[inline(never)]
 fn encode_resume_throw<A: Sink>(
     index: u32,
@@ -591,19 +537,6 @@ fn encode_resume_throw<A: Sink>(
 }
 
 /// Appends the flags, the label, and the two heap types of a cast.
-///
-/// # Proved
-///
-/// The call appends the encoding, or returns an error and leaves the bytes as they were. If the value fits, the call never returns `TooLong`, and it succeeds within the spare capacity.
-///
-/// ```text
-/// ensures { Appends (cast_flag_of from to ∷ []
-///         ++ (unsigned_encoding label
-///             ++ (heap_encoding from.heap_type ++ heap_encoding to.heap_type)))
-///     (⊤ × ⊤ × (⊤ × ⊤)) sink.old sink.new result }
-/// ```
-///
-/// Definitions: [`Appends`](crate::definitions::base::calls::Appends), [`cast_flag_of`](crate::definitions::insn::instructions::cast_flag_of), [`unsigned_encoding`](crate::definitions::base::numbers::unsigned_encoding), [`heap_encoding`](crate::definitions::base::types::heap_encoding). [How to read clauses](crate::definitions).
 #[inline(never)]
 fn encode_cast<A: Sink>(
     label: u32,
@@ -758,17 +691,6 @@ impl<'a, A: Allocator> Instruction<'a, A> {
     }
 
     /// Appends the immediates.
-    ///
-    /// # Proved
-    ///
-    /// The call appends the encoding, or returns an error and leaves the bytes as they were. If the value fits, the call never returns `TooLong`, and it succeeds within the spare capacity.
-    ///
-    /// ```text
-    /// ensures { Appends (arguments_encoding (row_of self.now).arguments)
-    ///     (arguments_encodable (row_of self.now).arguments) sink.old sink.new result }
-    /// ```
-    ///
-    /// Definitions: [`Appends`](crate::definitions::base::calls::Appends), [`arguments_encoding`](crate::definitions::insn::arguments::arguments_encoding), [`row_of`](crate::definitions::insn::instructions::row_of), [`arguments_encodable`](crate::definitions::insn::arguments::arguments_encodable). [How to read clauses](crate::definitions).
     fn encode_arguments<B: Sink>(&self, sink: &mut B) -> Result<()> {
         match self {
             Instruction::Block(a)
@@ -1051,17 +973,6 @@ impl<'a, A: Allocator + Copy> Instruction<'a, A> {
 
     /// Returns a copy of an instruction that accesses variables, table elements or memory; or of a
     /// later group.
-    ///
-    /// # Proved
-    ///
-    /// After `Ok`: `ok`, the result has the same content. In any case: `err`, no error is `TooLong`.
-    ///
-    /// ```text
-    /// ensures ok { IfOk result (λ i. row_of i ≡ row_of self.now) }
-    /// ensures err { result ≢ Err Refused.TooLong }
-    /// ```
-    ///
-    /// Definitions: [`row_of`](crate::definitions::insn::instructions::row_of). [How to read clauses](crate::definitions).
     fn clone_access(&self) -> Result<Self> {
         Ok(match self {
             Instruction::LocalGet(a) => Instruction::LocalGet(*a),
@@ -1102,17 +1013,6 @@ impl<'a, A: Allocator + Copy> Instruction<'a, A> {
 
     /// Returns a copy of a constant, or of an instruction on references or continuations; or of a
     /// later group.
-    ///
-    /// # Proved
-    ///
-    /// After `Ok`: `ok`, the result has the same content. In any case: `err`, no error is `TooLong`.
-    ///
-    /// ```text
-    /// ensures ok { IfOk result (λ i. row_of i ≡ row_of self.now) }
-    /// ensures err { result ≢ Err Refused.TooLong }
-    /// ```
-    ///
-    /// Definitions: [`row_of`](crate::definitions::insn::instructions::row_of). [How to read clauses](crate::definitions).
     fn clone_reference(&self) -> Result<Self> {
         Ok(match self {
             Instruction::I32Const(a) => Instruction::I32Const(*a),
@@ -1170,17 +1070,6 @@ impl<'a, A: Allocator + Copy> Instruction<'a, A> {
     }
 
     /// Returns a copy of an instruction on structs or arrays, or of a cast; or of a later group.
-    ///
-    /// # Proved
-    ///
-    /// After `Ok`: `ok`, the result has the same content. In any case: `err`, no error is `TooLong`.
-    ///
-    /// ```text
-    /// ensures ok { IfOk result (λ i. row_of i ≡ row_of self.now) }
-    /// ensures err { result ≢ Err Refused.TooLong }
-    /// ```
-    ///
-    /// Definitions: [`row_of`](crate::definitions::insn::instructions::row_of). [How to read clauses](crate::definitions).
     fn clone_aggregate(&self) -> Result<Self> {
         Ok(match self {
             Instruction::StructNew(a) => Instruction::StructNew(*a),
@@ -1313,17 +1202,6 @@ impl<'a, A: Allocator + Copy> Instruction<'a, A> {
 
     /// Returns a copy of an instruction on whole segments, tables or memories, or of a case of a
     /// nested enum.
-    ///
-    /// # Proved
-    ///
-    /// After `Ok`: `ok`, the result has the same content. In any case: `err`, no error is `TooLong`.
-    ///
-    /// ```text
-    /// ensures ok { IfOk result (λ i. row_of i ≡ row_of self.now) }
-    /// ensures err { result ≢ Err Refused.TooLong }
-    /// ```
-    ///
-    /// Definitions: [`row_of`](crate::definitions::insn::instructions::row_of). [How to read clauses](crate::definitions).
     fn clone_bulk(&self) -> Result<Self> {
         Ok(match self {
             Instruction::MemoryInit { data_index, mem } => Instruction::MemoryInit {

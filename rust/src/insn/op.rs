@@ -118,20 +118,6 @@ impl Encode for Op {
 }
 
 /// Decodes the opcode at the front, and returns it with the remaining bytes.
-///
-/// # Proved
-///
-/// After `Ok`: `found`, the bytes begin with an encoding of the value, and the returned bytes follow it. After an error: `none`, the bytes do not begin with such an encoding, unless the cause is `Memory`.
-///
-/// ```text
-/// ensures found { IfOk result
-///     (λ x. Decodes opcode (padded_of G.grammar) bytes.now x.0 x.1.now) }
-/// ensures none { IfErr result
-///     (λ e. e.cause ≢ Memory → Rejects opcode (padded_of G.grammar) bytes.now) }
-/// ensures no_memory { IfErr result (λ e. e.cause ≢ Memory) }
-/// ```
-///
-/// Definitions: [`Decodes`](crate::definitions::base::decoding::Decodes), [`opcode`](crate::definitions::insn::plain::opcode), [`padded_of`](crate::definitions::base::numbers::padded_of), [`Rejects`](crate::definitions::base::decoding::Rejects). [How to read clauses](crate::definitions).
 #[inline]
 pub(crate) fn read_op<'a, A: Allocator + Copy, G: Grammar>(
     bytes: &'a [u8],

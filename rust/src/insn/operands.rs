@@ -92,14 +92,6 @@ impl<'a> Operands<'a> {
 }
 
 /// Returns whether operands of this shape have a case of their own in [`Operands`].
-///
-/// # Proved
-///
-/// ```text
-/// ensures { result ≡ has_case shape }
-/// ```
-///
-/// Definitions: [`has_case`](crate::definitions::insn::operands::has_case). [How to read clauses](crate::definitions).
 fn has_own_case(shape: Shape) -> bool {
     matches!(
         shape,
@@ -108,20 +100,6 @@ fn has_own_case(shape: Shape) -> bool {
 }
 
 /// Decodes the operands of a shape without a case of its own, which occupy all of the bytes.
-///
-/// # Proved
-///
-/// ```text
-/// ensures shape { IfOk result (λ _. has_case shape ≡ false) }
-/// ensures found { IfOk result
-///     (λ args. arguments (parts_of shape) standard bytes.now
-///         (map argument_view args.items)) }
-/// ensures none { IfErr result
-///     (λ e. e.cause ≢ Memory → (has_case shape ≡ true)
-///         ⊎ RejectsWhole (arguments (parts_of shape)) standard bytes.now) }
-/// ```
-///
-/// Definitions: [`has_case`](crate::definitions::insn::operands::has_case), [`arguments`](crate::definitions::insn::plain::arguments), [`parts_of`](crate::definitions::insn::parts::parts_of), [`standard`](crate::definitions::base::numbers::Mode), [`argument_view`](crate::definitions::insn::views::argument_view), [`RejectsWhole`](crate::definitions::base::continuing::RejectsWhole). [How to read clauses](crate::definitions).
 #[inline(never)]
 fn decode_encoded<A: Allocator + Copy>(
     shape: Shape,
@@ -140,15 +118,6 @@ fn decode_encoded<A: Allocator + Copy>(
 }
 
 /// Returns the first byte and the others, if the first byte is below 128: it is a number by itself.
-///
-/// # Proved
-///
-/// ```text
-/// ensures first { IfSome result (λ x. bytes.now ≡ x.0 ∷ x.1.now) }
-/// ensures small { IfSome result (λ x. x.0 < 0x80) }
-/// ```
-///
-/// [How to read clauses](crate::definitions).
 #[inline(always)]
 fn one_byte(bytes: &[u8]) -> Option<(u8, &[u8])> {
     let [byte, rest @ ..] = bytes else {
@@ -162,24 +131,6 @@ fn one_byte(bytes: &[u8]) -> Option<(u8, &[u8])> {
 }
 
 /// Returns the number that one byte encodes in two's complement.
-///
-/// # Asks
-///
-/// [What happens otherwise](crate::fallible#what-is-asked).
-///
-/// ```text
-/// requires { byte < 0x80 }
-/// ```
-///
-/// [How to read clauses](crate::definitions).
-///
-/// # Proved
-///
-/// ```text
-/// ensures { result ≡ signed_of byte 0x80 byte }
-/// ```
-///
-/// Definitions: [`signed_of`](crate::definitions::base::groups::signed_of). [How to read clauses](crate::definitions).
 #[inline(always)]
 fn signed_byte(byte: u8) -> i16 {
     if byte < 0x40 {
@@ -191,15 +142,6 @@ fn signed_byte(byte: u8) -> i16 {
 
 /// Decodes the operands of the most frequent shapes if each of them has one byte. `None` says
 /// nothing about the bytes.
-///
-/// # Proved
-///
-/// ```text
-/// ensures { IfSome result (λ x. DecodesOperands (parts_of shape)
-///         (padded_of G.grammar) bytes.now x.0 x.1.now) }
-/// ```
-///
-/// Definitions: [`DecodesOperands`](crate::definitions::insn::operands::DecodesOperands), [`parts_of`](crate::definitions::insn::parts::parts_of), [`padded_of`](crate::definitions::base::numbers::padded_of). [How to read clauses](crate::definitions).
 #[inline(always)]
 fn read_short_operands<'a, G: Grammar>(
     shape: Shape,
@@ -246,15 +188,6 @@ fn read_short_operands<'a, G: Grammar>(
 
 /// Decodes the instruction at the front if it has a one-byte opcode of the most frequent shapes,
 /// and each of its operands has one byte. `None` says nothing about the bytes.
-///
-/// # Proved
-///
-/// ```text
-/// ensures { IfSome result (λ x. DecodesOperation (instruction table)
-///         (padded_of G.grammar) bytes.now x.0 x.1 x.2.now) }
-/// ```
-///
-/// Definitions: [`DecodesOperation`](crate::definitions::insn::operands::DecodesOperation), [`instruction`](crate::definitions::insn::plain::instruction), [`table`](crate::definitions::insn::table::table), [`padded_of`](crate::definitions::base::numbers::padded_of). [How to read clauses](crate::definitions).
 #[inline(always)]
 pub(crate) fn read_short<'a, G: Grammar>(bytes: &'a [u8]) -> Option<(Op, Operands<'a>, &'a [u8])> {
     let [byte, rest @ ..] = bytes else {
@@ -270,33 +203,6 @@ pub(crate) fn read_short<'a, G: Grammar>(bytes: &'a [u8]) -> Option<(Op, Operand
 
 /// Decodes the operands of a shape without a case of its own: they are skipped, and their bytes
 /// kept.
-///
-/// # Asks
-///
-/// [What happens otherwise](crate::fallible#what-is-asked).
-///
-/// ```text
-/// requires { has_case shape ≡ false }
-/// ```
-///
-/// Definitions: [`has_case`](crate::definitions::insn::operands::has_case). [How to read clauses](crate::definitions).
-///
-/// # Proved
-///
-/// - After `Ok`, `found`: Immediates of these types decode from the front of the bytes, and the operands are these.
-/// - After an error, `none`: the bytes do not begin with such an encoding, unless the cause is `Memory`.
-///
-/// ```text
-/// ensures found { IfOk result
-///     (λ x. DecodesOperands (parts_of shape) (padded_of G.grammar) bytes.now x.0 x.1.now)
-///     }
-/// ensures none { IfErr result
-///     (λ e. e.cause ≢ Memory → Rejects (arguments (parts_of shape))
-///         (padded_of G.grammar) bytes.now) }
-/// ensures no_memory { IfErr result (λ e. e.cause ≢ Memory) }
-/// ```
-///
-/// Definitions: [`DecodesOperands`](crate::definitions::insn::operands::DecodesOperands), [`parts_of`](crate::definitions::insn::parts::parts_of), [`padded_of`](crate::definitions::base::numbers::padded_of), [`Rejects`](crate::definitions::base::decoding::Rejects), [`arguments`](crate::definitions::insn::plain::arguments). [How to read clauses](crate::definitions).
 #[inline(never)]
 fn read_encoded<'a, A: Allocator + Copy, G: Grammar>(
     shape: Shape,
@@ -309,23 +215,6 @@ fn read_encoded<'a, A: Allocator + Copy, G: Grammar>(
 }
 
 /// Decodes the operands of an opcode of this shape, and returns them with the remaining bytes.
-///
-/// # Proved
-///
-/// - After `Ok`, `found`: Immediates of these types decode from the front of the bytes, and the operands are these.
-/// - After an error, `none`: the bytes do not begin with such an encoding, unless the cause is `Memory`.
-///
-/// ```text
-/// ensures found { IfOk result
-///     (λ x. DecodesOperands (parts_of shape) (padded_of G.grammar) bytes.now x.0 x.1.now)
-///     }
-/// ensures none { IfErr result
-///     (λ e. e.cause ≢ Memory → Rejects (arguments (parts_of shape))
-///         (padded_of G.grammar) bytes.now) }
-/// ensures no_memory { IfErr result (λ e. e.cause ≢ Memory) }
-/// ```
-///
-/// Definitions: [`DecodesOperands`](crate::definitions::insn::operands::DecodesOperands), [`parts_of`](crate::definitions::insn::parts::parts_of), [`padded_of`](crate::definitions::base::numbers::padded_of), [`Rejects`](crate::definitions::base::decoding::Rejects), [`arguments`](crate::definitions::insn::plain::arguments). [How to read clauses](crate::definitions).
 fn read_operands<'a, A: Allocator + Copy, G: Grammar>(
     shape: Shape,
     bytes: &'a [u8],
@@ -358,23 +247,6 @@ fn read_operands<'a, A: Allocator + Copy, G: Grammar>(
 }
 
 /// Decodes any instruction at the front. Out of line, for rare shapes and long numbers.
-///
-/// # Proved
-///
-/// - After `Ok`, `found`: An instruction with this opcode and these operands decodes from the front of the bytes.
-/// - After an error, `none`: the bytes do not begin with such an encoding, unless the cause is `Memory`.
-///
-/// ```text
-/// ensures found { IfOk result
-///     (λ x. DecodesOperation (instruction table)
-///         (padded_of G.grammar) bytes.now x.0 x.1 x.2.now) }
-/// ensures none { IfErr result
-///     (λ e. e.cause ≢ Memory → Rejects (instruction table)
-///         (padded_of G.grammar) bytes.now) }
-/// ensures no_memory { IfErr result (λ e. e.cause ≢ Memory) }
-/// ```
-///
-/// Definitions: [`DecodesOperation`](crate::definitions::insn::operands::DecodesOperation), [`instruction`](crate::definitions::insn::plain::instruction), [`table`](crate::definitions::insn::table::table), [`padded_of`](crate::definitions::base::numbers::padded_of), [`Rejects`](crate::definitions::base::decoding::Rejects). [How to read clauses](crate::definitions).
 #[inline(never)]
 pub(crate) fn read_long<'a, A: Allocator + Copy, G: Grammar>(
     bytes: &'a [u8],

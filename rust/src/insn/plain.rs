@@ -59,22 +59,6 @@ impl<'a, A: Allocator + Copy, G: Grammar> Readable<'a, A, G> for Plain<A> {
 }
 
 /// Decodes any instruction at the front. Out of line, for rare shapes and long numbers.
-///
-/// # Proved
-///
-/// - After `Ok`, `found`: The bytes begin with such an encoding, and the remaining bytes follow it.
-/// - After an error, `none`: the bytes do not begin with such an encoding, unless the cause is `Memory`.
-///
-/// ```text
-/// ensures found { IfOk result
-///     (λ x. Decodes (instruction table) (padded_of G.grammar) bytes.now
-///         (record { op = x.0; arguments = map argument_view x.1.items }) x.2.now) }
-/// ensures none { IfErr result
-///     (λ e. e.cause ≢ Memory → Rejects (instruction table)
-///         (padded_of G.grammar) bytes.now) }
-/// ```
-///
-/// Definitions: [`Decodes`](crate::definitions::base::decoding::Decodes), [`instruction`](crate::definitions::insn::plain::instruction), [`table`](crate::definitions::insn::table::table), [`padded_of`](crate::definitions::base::numbers::padded_of), [`argument_view`](crate::definitions::insn::views::argument_view), [`Rejects`](crate::definitions::base::decoding::Rejects). [How to read clauses](crate::definitions).
 #[inline(never)]
 fn read_long_plain<'a, A: Allocator + Copy, G: Grammar>(
     bytes: &'a [u8],
@@ -87,25 +71,6 @@ fn read_long_plain<'a, A: Allocator + Copy, G: Grammar>(
 
 /// Appends the minimal encoding of an instruction. After an error, part of it may follow the old
 /// bytes of the sink.
-///
-/// # Proved
-///
-/// - After `Ok`, `ok`: the sink gains the encoding that is minimal in the builders' grammar.
-/// - `front`: The new bytes begin with the old ones.
-/// - `too_long`: a value that has an encoding never gives `TooLong`.
-///
-/// ```text
-/// ensures ok { OnOk result
-///     (AppendsMinimal builders_alone (instruction table)
-///         (record { op = op; arguments = map argument_view args.now }) sink.old.items
-///         sink.new.items) }
-/// ensures front { IsFrontOf sink.old.items sink.new.items }
-/// ensures too_long { HasEncoding builders_alone (instruction table)
-///     (record { op = op; arguments = map argument_view args.now })
-///     → result ≢ Err TooLong }
-/// ```
-///
-/// Definitions: [`AppendsMinimal`](crate::definitions::base::minimal::AppendsMinimal), [`builders_alone`](crate::definitions::base::minimal::Grammars), [`instruction`](crate::definitions::insn::plain::instruction), [`table`](crate::definitions::insn::table::table), [`argument_view`](crate::definitions::insn::views::argument_view), [`IsFrontOf`](crate::definitions::base::minimal::IsFrontOf), [`HasEncoding`](crate::definitions::base::minimal::HasEncoding). [How to read clauses](crate::definitions).
 fn append_instruction<A: Allocator, B: Sink>(
     op: Op,
     args: &[Arg<A>],

@@ -405,14 +405,6 @@ impl Ranged for Atomic {
 }
 
 /// Proves the property of each item of a list.
-///
-/// # Proved
-///
-/// ```text
-/// ensures { All T.in_range items.now }
-/// ```
-///
-/// [How to read clauses](crate::definitions).
 fn each_ranged<T: Ranged>(items: &[T]) {
     for item in items {
         item.clone().ranged();
@@ -420,33 +412,12 @@ fn each_ranged<T: Ranged>(items: &[T]) {
 }
 
 /// Proves that the immediates of a cast are in range.
-///
-/// # Proved
-///
-/// Each immediate is well-formed.
-///
-/// ```text
-/// ensures { AreWellFormed (flag (cast_flag_of from to) ∷ unsigned label
-///         ∷ heap from.heap_type ∷ heap to.heap_type ∷ []) }
-/// ```
-///
-/// Definitions: [`AreWellFormed`](crate::definitions::insn::plain::AreWellFormed), [`flag`](crate::definitions::insn::arguments::Argument), [`cast_flag_of`](crate::definitions::insn::instructions::cast_flag_of), [`unsigned`](crate::definitions::insn::arguments::Argument), [`heap`](crate::definitions::insn::arguments::Argument). [How to read clauses](crate::definitions).
 fn cast_ranged(label: u32, from: RefType, to: RefType) {
     from.heap_type.ranged();
     to.heap_type.ranged();
 }
 
 /// Proves that the immediates of an instruction are in range, if its alignments are.
-///
-/// # Proved
-///
-/// If its alignments are below 16 and its lists fit, the instruction is well-formed.
-///
-/// ```text
-/// ensures { IsWellFormedWhereAligned instruction.now }
-/// ```
-///
-/// Definitions: [`IsWellFormedWhereAligned`](crate::definitions::insn::instructions::IsWellFormedWhereAligned). [How to read clauses](crate::definitions).
 pub(crate) fn arguments_ranged<A: Allocator>(instruction: &Instruction<'_, A>) {
     match instruction {
         Instruction::Block(a) | Instruction::Loop(a) | Instruction::If(a) | Instruction::Try(a) =>

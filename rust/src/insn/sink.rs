@@ -185,20 +185,6 @@ impl<'a, B: Buffer> InstructionSink<'a, B> {
     }
 
     /// Appends one encoded instruction. All appending methods but `br_table` call it.
-    ///
-    /// # Proved
-    ///
-    /// - `same_reference`: the sink writes to the buffer that it wrote to.
-    /// - `writes`: The sink gains the encoding, or the call returns an error and leaves the bytes as they were. If the value fits, the call never returns `TooLong`, and it succeeds within the spare capacity.
-    ///
-    /// ```text
-    /// ensures same_reference { self.new.sink.ghost_name ≡ self.old.sink.ghost_name }
-    /// ensures writes { Writes (E.encoding value.now) (E.encodable value.now)
-    ///     (B.has_spare_capacity self.old.sink.now (length (E.encoding value.now)))
-    ///     (B.written self.old.sink.now) (B.written self.new.sink.now) result }
-    /// ```
-    ///
-    /// Definitions: [`Writes`](crate::definitions::insn::sink::Writes). [How to read clauses](crate::definitions).
     fn emit<E: Encode>(&mut self, value: &E) -> Result<()> {
         self.sink.append(value)
     }

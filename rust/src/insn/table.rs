@@ -114,14 +114,6 @@ static AFTER_FE: [Run; 8] = [
 ];
 
 /// Returns the shape of the opcode with this number, or `None` if no run contains it.
-///
-/// # Proved
-///
-/// ```text
-/// ensures { result ≡ shape_in runs.now number }
-/// ```
-///
-/// Definitions: [`shape_in`](crate::definitions::insn::table::shape_in). [How to read clauses](crate::definitions).
 #[inline(never)]
 fn find_shape(runs: &[Run], number: u32) -> Option<Shape> {
     runs.iter()
@@ -130,14 +122,6 @@ fn find_shape(runs: &[Run], number: u32) -> Option<Shape> {
 }
 
 /// Returns the shape of the one-byte opcode, or `None` if there is no such opcode.
-///
-/// # Proved
-///
-/// ```text
-/// ensures { result ≡ shape_of table (Byte byte) }
-/// ```
-///
-/// Definitions: [`shape_of`](crate::definitions::insn::plain::shape_of), [`table`](crate::definitions::insn::table::table). [How to read clauses](crate::definitions).
 #[inline]
 pub(crate) fn byte_shape(byte: u8) -> Option<Shape> {
     ONE_BYTE[usize::from(byte)]

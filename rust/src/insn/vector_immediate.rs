@@ -7,14 +7,6 @@ use crate::base::{Encode, Result};
 use crate::immediates::{Lane, MemArg};
 
 /// Returns the bytes of a vector, little-endian.
-///
-/// # Proved
-///
-/// ```text
-/// ensures { result ≡ vector_encoding value }
-/// ```
-///
-/// Definitions: [`vector_encoding`](crate::definitions::immediates::immediates::vector_encoding). [How to read clauses](crate::definitions).
 pub(crate) fn vector_bytes(value: i128) -> [u8; 16] {
     value.to_le_bytes()
 }
@@ -229,18 +221,6 @@ impl VectorImmediate {
     }
 
     /// Appends the immediates.
-    ///
-    /// # Proved
-    ///
-    /// The call appends the encoding, or returns an error and leaves the bytes as they were. If the value fits, the call never returns `TooLong`, and it succeeds within the spare capacity.
-    ///
-    /// ```text
-    /// ensures { Appends (arguments_encoding (vector_immediate_row self).arguments)
-    ///     (arguments_encodable (vector_immediate_row self).arguments) sink.old sink.new result
-    ///     }
-    /// ```
-    ///
-    /// Definitions: [`Appends`](crate::definitions::base::calls::Appends), [`arguments_encoding`](crate::definitions::insn::arguments::arguments_encoding), [`vector_immediate_row`](crate::definitions::insn::vector_immediate::vector_immediate_row), [`arguments_encodable`](crate::definitions::insn::arguments::arguments_encodable). [How to read clauses](crate::definitions).
     pub(crate) fn encode_arguments<A: Sink>(self, sink: &mut A) -> Result<()> {
         match self {
             VectorImmediate::V128Load(a)

@@ -13,33 +13,6 @@ use crate::immediates::{BlockType, Catch, Handle, MemArg};
 
 /// Walks over an argument that has the same encodings in both grammars: it is decoded, and encoded
 /// again. Out of line, for rare arguments.
-///
-/// # Asks
-///
-/// [What happens otherwise](crate::fallible#what-is-asked).
-///
-/// ```text
-/// requires no_block { wanted ≢ parts.Block }
-/// requires no_list { IsList wanted → ⊥ }
-/// ```
-///
-/// Definitions: [`IsList`](crate::definitions::insn::parts::IsList). [How to read clauses](crate::definitions).
-///
-/// # Proved
-///
-/// After `Ok`: `found`, the bytes begin with an encoding, the effect takes the minimal one, and the returned bytes follow it. After an error: `none`, the bytes do not begin with such an encoding, unless the cause is `Memory`; `no_memory`, the cause is `Memory` only with an effect whose calls may fail. In any case: `front`, the effect keeps what it took before.
-///
-/// ```text
-/// ensures found { IfOk result
-///     (λ rest. Walks E.seen G.grammar
-///         (part wanted) bytes.now rest.now effect.old effect.new) }
-/// ensures none { IfErr result
-///     (λ e. e.cause ≢ Memory → Rejects (part wanted) (padded_of G.grammar) bytes.now) }
-/// ensures no_memory { IfErr result (λ e. e.cause ≡ Memory → E.may_fail) }
-/// ensures front { Keeps E.seen effect.old effect.new }
-/// ```
-///
-/// Definitions: [`Walks`](crate::definitions::base::walks::Walks), [`part`](crate::definitions::insn::plain::part), [`Rejects`](crate::definitions::base::decoding::Rejects), [`padded_of`](crate::definitions::base::numbers::padded_of), [`Keeps`](crate::definitions::base::walks::Keeps). [How to read clauses](crate::definitions).
 #[inline(never)]
 fn walk_rare<'a, A: Allocator + Copy, G: Grammar, E: Effect>(
     wanted: Part,
@@ -53,22 +26,6 @@ fn walk_rare<'a, A: Allocator + Copy, G: Grammar, E: Effect>(
 }
 
 /// Walks over one argument. Lists are walked over member by member.
-///
-/// # Proved
-///
-/// After `Ok`: `found`, the bytes begin with an encoding, the effect takes the minimal one, and the returned bytes follow it. After an error: `none`, the bytes do not begin with such an encoding, unless the cause is `Memory`; `no_memory`, the cause is `Memory` only with an effect whose calls may fail. In any case: `front`, the effect keeps what it took before.
-///
-/// ```text
-/// ensures found { IfOk result
-///     (λ rest. Walks E.seen G.grammar
-///         (part wanted) bytes.now rest.now effect.old effect.new) }
-/// ensures none { IfErr result
-///     (λ e. e.cause ≢ Memory → Rejects (part wanted) (padded_of G.grammar) bytes.now) }
-/// ensures no_memory { IfErr result (λ e. e.cause ≡ Memory → E.may_fail) }
-/// ensures front { Keeps E.seen effect.old effect.new }
-/// ```
-///
-/// Definitions: [`Walks`](crate::definitions::base::walks::Walks), [`part`](crate::definitions::insn::plain::part), [`Rejects`](crate::definitions::base::decoding::Rejects), [`padded_of`](crate::definitions::base::numbers::padded_of), [`Keeps`](crate::definitions::base::walks::Keeps). [How to read clauses](crate::definitions).
 fn walk_part<'a, A: Allocator + Copy, G: Grammar, E: Effect>(
     wanted: Part,
     bytes: &'a [u8],
@@ -87,23 +44,6 @@ fn walk_part<'a, A: Allocator + Copy, G: Grammar, E: Effect>(
 }
 
 /// Walks over one argument for each of `wanted`.
-///
-/// # Proved
-///
-/// After `Ok`: `found`, the bytes begin with an encoding, the effect takes the minimal one, and the returned bytes follow it. After an error: `none`, the bytes do not begin with such an encoding, unless the cause is `Memory`; `no_memory`, the cause is `Memory` only with an effect whose calls may fail. In any case: `front`, the effect keeps what it took before.
-///
-/// ```text
-/// ensures found { IfOk result
-///     (λ rest. Walks E.seen G.grammar
-///         (arguments wanted.now) bytes.now rest.now effect.old effect.new) }
-/// ensures none { IfErr result
-///     (λ e. e.cause ≢ Memory → Rejects (arguments wanted.now)
-///         (padded_of G.grammar) bytes.now) }
-/// ensures no_memory { IfErr result (λ e. e.cause ≡ Memory → E.may_fail) }
-/// ensures front { Keeps E.seen effect.old effect.new }
-/// ```
-///
-/// Definitions: [`Walks`](crate::definitions::base::walks::Walks), [`arguments`](crate::definitions::insn::plain::arguments), [`Rejects`](crate::definitions::base::decoding::Rejects), [`padded_of`](crate::definitions::base::numbers::padded_of), [`Keeps`](crate::definitions::base::walks::Keeps). [How to read clauses](crate::definitions).
 fn walk_parts<'a, A: Allocator + Copy, G: Grammar, E: Effect>(
     wanted: &[Part],
     bytes: &'a [u8],
@@ -118,23 +58,6 @@ fn walk_parts<'a, A: Allocator + Copy, G: Grammar, E: Effect>(
 }
 
 /// Walks over the arguments of any shape. Out of line, for rare shapes.
-///
-/// # Proved
-///
-/// After `Ok`: `found`, the bytes begin with an encoding, the effect takes the minimal one, and the returned bytes follow it. After an error: `none`, the bytes do not begin with such an encoding, unless the cause is `Memory`; `no_memory`, the cause is `Memory` only with an effect whose calls may fail. In any case: `front`, the effect keeps what it took before.
-///
-/// ```text
-/// ensures found { IfOk result
-///     (λ rest. Walks E.seen G.grammar
-///         (arguments (parts_of shape)) bytes.now rest.now effect.old effect.new) }
-/// ensures none { IfErr result
-///     (λ e. e.cause ≢ Memory → Rejects (arguments (parts_of shape))
-///         (padded_of G.grammar) bytes.now) }
-/// ensures no_memory { IfErr result (λ e. e.cause ≡ Memory → E.may_fail) }
-/// ensures front { Keeps E.seen effect.old effect.new }
-/// ```
-///
-/// Definitions: [`Walks`](crate::definitions::base::walks::Walks), [`arguments`](crate::definitions::insn::plain::arguments), [`parts_of`](crate::definitions::insn::parts::parts_of), [`Rejects`](crate::definitions::base::decoding::Rejects), [`padded_of`](crate::definitions::base::numbers::padded_of), [`Keeps`](crate::definitions::base::walks::Keeps). [How to read clauses](crate::definitions).
 #[inline(never)]
 pub(crate) fn walk_any<'a, A: Allocator + Copy, G: Grammar, E: Effect>(
     shape: Shape,
@@ -146,23 +69,6 @@ pub(crate) fn walk_any<'a, A: Allocator + Copy, G: Grammar, E: Effect>(
 }
 
 /// Walks over the arguments of an opcode of this shape. Common shapes have a case of their own.
-///
-/// # Proved
-///
-/// After `Ok`: `found`, the bytes begin with an encoding, the effect takes the minimal one, and the returned bytes follow it. After an error: `none`, the bytes do not begin with such an encoding, unless the cause is `Memory`; `no_memory`, the cause is `Memory` only with an effect whose calls may fail. In any case: `front`, the effect keeps what it took before.
-///
-/// ```text
-/// ensures found { IfOk result
-///     (λ rest. Walks E.seen G.grammar
-///         (arguments (parts_of shape)) bytes.now rest.now effect.old effect.new) }
-/// ensures none { IfErr result
-///     (λ e. e.cause ≢ Memory → Rejects (arguments (parts_of shape))
-///         (padded_of G.grammar) bytes.now) }
-/// ensures no_memory { IfErr result (λ e. e.cause ≡ Memory → E.may_fail) }
-/// ensures front { Keeps E.seen effect.old effect.new }
-/// ```
-///
-/// Definitions: [`Walks`](crate::definitions::base::walks::Walks), [`arguments`](crate::definitions::insn::plain::arguments), [`parts_of`](crate::definitions::insn::parts::parts_of), [`Rejects`](crate::definitions::base::decoding::Rejects), [`padded_of`](crate::definitions::base::numbers::padded_of), [`Keeps`](crate::definitions::base::walks::Keeps). [How to read clauses](crate::definitions).
 #[inline(always)]
 fn walk_arguments<'a, A: Allocator + Copy, G: Grammar, E: Effect>(
     shape: Shape,
@@ -182,23 +88,6 @@ fn walk_arguments<'a, A: Allocator + Copy, G: Grammar, E: Effect>(
 }
 
 /// Walks over an instruction whose encoding the effect takes.
-///
-/// # Proved
-///
-/// After `Ok`: `found`, the bytes begin with an encoding, the effect takes the minimal one, and the returned bytes follow it. After an error: `none`, the bytes do not begin with such an encoding, unless the cause is `Memory`; `no_memory`, the cause is `Memory` only with an effect whose calls may fail. In any case: `front`, the effect keeps what it took before.
-///
-/// ```text
-/// ensures found { IfOk result
-///     (λ rest. Walks E.seen G.grammar
-///         (instruction table) bytes.now rest.now effect.old effect.new) }
-/// ensures none { IfErr result
-///     (λ e. e.cause ≢ Memory → Rejects (instruction table)
-///         (padded_of G.grammar) bytes.now) }
-/// ensures no_memory { IfErr result (λ e. e.cause ≡ Memory → E.may_fail) }
-/// ensures front { Keeps E.seen effect.old effect.new }
-/// ```
-///
-/// Definitions: [`Walks`](crate::definitions::base::walks::Walks), [`instruction`](crate::definitions::insn::plain::instruction), [`table`](crate::definitions::insn::table::table), [`Rejects`](crate::definitions::base::decoding::Rejects), [`padded_of`](crate::definitions::base::numbers::padded_of), [`Keeps`](crate::definitions::base::walks::Keeps). [How to read clauses](crate::definitions).
 #[inline(always)]
 fn walk_written<'a, A: Allocator + Copy, G: Grammar, E: Effect>(
     bytes: &'a [u8],

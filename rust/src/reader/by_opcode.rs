@@ -64,15 +64,6 @@ static NUMERIC: [Option<Numeric>; 197] = [
 ];
 
 /// Returns the instruction of `Numeric` with this opcode.
-///
-/// # Proved
-///
-/// ```text
-/// ensures some { IfSome result (λ i. numeric_number i ≡ byte) }
-/// ensures other { IfNone result (get_or NUMERIC byte None ≡ None) }
-/// ```
-///
-/// Definitions: [`numeric_number`](crate::definitions::insn::numeric::numeric_number). [How to read clauses](crate::definitions).
 fn numeric_at(byte: u8) -> Option<Numeric> {
     let index = usize::from(byte);
     if index < NUMERIC.len() {
@@ -95,16 +86,6 @@ static AGGREGATE: [Option<Aggregate>; 31] = [
 ];
 
 /// Returns the instruction of `Aggregate` with this number.
-///
-/// # Proved
-///
-/// ```text
-/// ensures some { IfSome result (λ i. aggregate_number i ≡ number) }
-/// ensures other { IfNone result
-///     (shape_of table (Prefixed 0xFB number) ≢ Some shapes.Nothing) }
-/// ```
-///
-/// Definitions: [`aggregate_number`](crate::definitions::insn::aggregate::aggregate_number), [`shape_of`](crate::definitions::insn::plain::shape_of), [`table`](crate::definitions::insn::table::table). [How to read clauses](crate::definitions).
 fn aggregate_at(number: u32) -> Option<Aggregate> {
     let index = number as usize;
     if index < AGGREGATE.len() {
@@ -125,16 +106,6 @@ static PREFIXED_NUMERIC: [Option<PrefixedNumeric>; 23] = [
 ];
 
 /// Returns the instruction of `PrefixedNumeric` with this number.
-///
-/// # Proved
-///
-/// ```text
-/// ensures some { IfSome result (λ i. prefixed_numeric_number i ≡ number) }
-/// ensures other { IfNone result
-///     (shape_of table (Prefixed 0xFC number) ≢ Some shapes.Nothing) }
-/// ```
-///
-/// Definitions: [`prefixed_numeric_number`](crate::definitions::insn::prefixed_numeric::prefixed_numeric_number), [`shape_of`](crate::definitions::insn::plain::shape_of), [`table`](crate::definitions::insn::table::table). [How to read clauses](crate::definitions).
 fn prefixed_numeric_at(number: u32) -> Option<PrefixedNumeric> {
     let index = number as usize;
     if index < PREFIXED_NUMERIC.len() {
@@ -218,16 +189,6 @@ static VECTOR: [Option<Vector>; 276] = [
 ];
 
 /// Returns the instruction of `Vector` with this number.
-///
-/// # Proved
-///
-/// ```text
-/// ensures some { IfSome result (λ i. vector_number i ≡ number) }
-/// ensures other { IfNone result
-///     (shape_of table (Prefixed 0xFD number) ≢ Some shapes.Nothing) }
-/// ```
-///
-/// Definitions: [`vector_number`](crate::definitions::insn::vector::vector_number), [`shape_of`](crate::definitions::insn::plain::shape_of), [`table`](crate::definitions::insn::table::table). [How to read clauses](crate::definitions).
 fn vector_at(number: u32) -> Option<Vector> {
     let index = number as usize;
     if index < VECTOR.len() {
@@ -238,16 +199,6 @@ fn vector_at(number: u32) -> Option<Vector> {
 }
 
 /// Returns the instruction with this opcode of one byte and no immediates.
-///
-/// # Proved
-///
-/// ```text
-/// ensures some { IfSome result
-///     (λ i. row_of i ≡ record { op = Byte byte; arguments = [] }) }
-/// ensures other { IfNone result (shape_of table (Byte byte) ≢ Some shapes.Nothing) }
-/// ```
-///
-/// Definitions: [`row_of`](crate::definitions::insn::instructions::row_of), [`shape_of`](crate::definitions::insn::plain::shape_of), [`table`](crate::definitions::insn::table::table). [How to read clauses](crate::definitions).
 fn byte_with_nothing<'a, A: Allocator>(byte: u8) -> Option<Instruction<'a, A>> {
     Some(match byte {
         0x00 => Instruction::Unreachable,
@@ -267,17 +218,6 @@ fn byte_with_nothing<'a, A: Allocator>(byte: u8) -> Option<Instruction<'a, A>> {
 }
 
 /// Returns the instruction with this opcode after the prefix FE and no immediates.
-///
-/// # Proved
-///
-/// ```text
-/// ensures some { IfSome result
-///     (λ i. row_of i ≡ record { op = Prefixed 0xFE number; arguments = [] }) }
-/// ensures other { IfNone result
-///     (shape_of table (Prefixed 0xFE number) ≢ Some shapes.Nothing) }
-/// ```
-///
-/// Definitions: [`row_of`](crate::definitions::insn::instructions::row_of), [`shape_of`](crate::definitions::insn::plain::shape_of), [`table`](crate::definitions::insn::table::table). [How to read clauses](crate::definitions).
 fn fe_with_nothing<'a, A: Allocator>(number: u32) -> Option<Instruction<'a, A>> {
     Some(match number {
         0x04 => Instruction::Atomic(Atomic::Pause),
@@ -287,15 +227,6 @@ fn fe_with_nothing<'a, A: Allocator>(number: u32) -> Option<Instruction<'a, A>> 
 }
 
 /// Returns the instruction with this opcode and no immediates.
-///
-/// # Proved
-///
-/// ```text
-/// ensures some { IfSome result (λ i. row_of i ≡ record { op = op; arguments = [] }) }
-/// ensures other { IfNone result (shape_of table op ≢ Some shapes.Nothing) }
-/// ```
-///
-/// Definitions: [`row_of`](crate::definitions::insn::instructions::row_of), [`shape_of`](crate::definitions::insn::plain::shape_of), [`table`](crate::definitions::insn::table::table). [How to read clauses](crate::definitions).
 fn with_nothing<'a, A: Allocator>(op: Op) -> Option<Instruction<'a, A>> {
     match op {
         Op::Byte(n) => byte_with_nothing(n),
@@ -308,16 +239,6 @@ fn with_nothing<'a, A: Allocator>(op: Op) -> Option<Instruction<'a, A>> {
 }
 
 /// Returns the instruction with this opcode of one byte and a number.
-///
-/// # Proved
-///
-/// ```text
-/// ensures some { IfSome result
-///     (λ i. row_of i ≡ record { op = Byte byte; arguments = unsigned a ∷ [] }) }
-/// ensures other { IfNone result (shape_of table (Byte byte) ≢ Some shapes.U) }
-/// ```
-///
-/// Definitions: [`row_of`](crate::definitions::insn::instructions::row_of), [`unsigned`](crate::definitions::insn::arguments::Argument), [`shape_of`](crate::definitions::insn::plain::shape_of), [`table`](crate::definitions::insn::table::table). [How to read clauses](crate::definitions).
 fn byte_with_number<'a, A: Allocator>(byte: u8, a: u32) -> Option<Instruction<'a, A>> {
     Some(match byte {
         0x07 => Instruction::Catch(a),
@@ -349,17 +270,6 @@ fn byte_with_number<'a, A: Allocator>(byte: u8, a: u32) -> Option<Instruction<'a
 }
 
 /// Returns the instruction with this opcode after the prefix FB and a number.
-///
-/// # Proved
-///
-/// ```text
-/// ensures some { IfSome result
-///     (λ i. row_of i ≡ record { op = Prefixed 0xFB number; arguments = unsigned a ∷ [] })
-///     }
-/// ensures other { IfNone result (shape_of table (Prefixed 0xFB number) ≢ Some shapes.U) }
-/// ```
-///
-/// Definitions: [`row_of`](crate::definitions::insn::instructions::row_of), [`unsigned`](crate::definitions::insn::arguments::Argument), [`shape_of`](crate::definitions::insn::plain::shape_of), [`table`](crate::definitions::insn::table::table). [How to read clauses](crate::definitions).
 fn fb_with_number<'a, A: Allocator>(number: u32, a: u32) -> Option<Instruction<'a, A>> {
     Some(match number {
         0 => Instruction::StructNew(a),
@@ -379,17 +289,6 @@ fn fb_with_number<'a, A: Allocator>(number: u32, a: u32) -> Option<Instruction<'
 }
 
 /// Returns the instruction with this opcode after the prefix FC and a number.
-///
-/// # Proved
-///
-/// ```text
-/// ensures some { IfSome result
-///     (λ i. row_of i ≡ record { op = Prefixed 0xFC number; arguments = unsigned a ∷ [] })
-///     }
-/// ensures other { IfNone result (shape_of table (Prefixed 0xFC number) ≢ Some shapes.U) }
-/// ```
-///
-/// Definitions: [`row_of`](crate::definitions::insn::instructions::row_of), [`unsigned`](crate::definitions::insn::arguments::Argument), [`shape_of`](crate::definitions::insn::plain::shape_of), [`table`](crate::definitions::insn::table::table). [How to read clauses](crate::definitions).
 fn fc_with_number<'a, A: Allocator>(number: u32, a: u32) -> Option<Instruction<'a, A>> {
     Some(match number {
         9 => Instruction::DataDrop(a),
@@ -404,16 +303,6 @@ fn fc_with_number<'a, A: Allocator>(number: u32, a: u32) -> Option<Instruction<'
 }
 
 /// Returns the instruction with this opcode and a number.
-///
-/// # Proved
-///
-/// ```text
-/// ensures some { IfSome result
-///     (λ i. row_of i ≡ record { op = op; arguments = unsigned a ∷ [] }) }
-/// ensures other { IfNone result (shape_of table op ≢ Some shapes.U) }
-/// ```
-///
-/// Definitions: [`row_of`](crate::definitions::insn::instructions::row_of), [`unsigned`](crate::definitions::insn::arguments::Argument), [`shape_of`](crate::definitions::insn::plain::shape_of), [`table`](crate::definitions::insn::table::table). [How to read clauses](crate::definitions).
 fn with_number<'a, A: Allocator>(op: Op, a: u32) -> Option<Instruction<'a, A>> {
     match op {
         Op::Byte(n) => byte_with_number(n, a),
@@ -424,17 +313,6 @@ fn with_number<'a, A: Allocator>(op: Op, a: u32) -> Option<Instruction<'a, A>> {
 }
 
 /// Returns the instruction with this opcode of one byte and two numbers.
-///
-/// # Proved
-///
-/// ```text
-/// ensures some { IfSome result
-///     (λ i. row_of i ≡ record { op = Byte byte;
-///             arguments = unsigned a ∷ unsigned b ∷ [] }) }
-/// ensures other { IfNone result (shape_of table (Byte byte) ≢ Some shapes.Uu) }
-/// ```
-///
-/// Definitions: [`row_of`](crate::definitions::insn::instructions::row_of), [`unsigned`](crate::definitions::insn::arguments::Argument), [`shape_of`](crate::definitions::insn::plain::shape_of), [`table`](crate::definitions::insn::table::table). [How to read clauses](crate::definitions).
 fn byte_with_numbers<'a, A: Allocator>(byte: u8, a: u32, b: u32) -> Option<Instruction<'a, A>> {
     Some(match byte {
         0x11 => Instruction::CallIndirect {
@@ -458,17 +336,6 @@ fn byte_with_numbers<'a, A: Allocator>(byte: u8, a: u32, b: u32) -> Option<Instr
 }
 
 /// Returns the instruction with this opcode after the prefix FB and two numbers.
-///
-/// # Proved
-///
-/// ```text
-/// ensures some { IfSome result
-///     (λ i. row_of i ≡ record { op = Prefixed 0xFB number;
-///             arguments = unsigned a ∷ unsigned b ∷ [] }) }
-/// ensures other { IfNone result (shape_of table (Prefixed 0xFB number) ≢ Some shapes.Uu) }
-/// ```
-///
-/// Definitions: [`row_of`](crate::definitions::insn::instructions::row_of), [`unsigned`](crate::definitions::insn::arguments::Argument), [`shape_of`](crate::definitions::insn::plain::shape_of), [`table`](crate::definitions::insn::table::table). [How to read clauses](crate::definitions).
 fn fb_with_numbers<'a, A: Allocator>(number: u32, a: u32, b: u32) -> Option<Instruction<'a, A>> {
     Some(match number {
         2 => Instruction::StructGet {
@@ -516,17 +383,6 @@ fn fb_with_numbers<'a, A: Allocator>(number: u32, a: u32, b: u32) -> Option<Inst
 }
 
 /// Returns the instruction with this opcode after the prefix FC and two numbers.
-///
-/// # Proved
-///
-/// ```text
-/// ensures some { IfSome result
-///     (λ i. row_of i ≡ record { op = Prefixed 0xFC number;
-///             arguments = unsigned a ∷ unsigned b ∷ [] }) }
-/// ensures other { IfNone result (shape_of table (Prefixed 0xFC number) ≢ Some shapes.Uu) }
-/// ```
-///
-/// Definitions: [`row_of`](crate::definitions::insn::instructions::row_of), [`unsigned`](crate::definitions::insn::arguments::Argument), [`shape_of`](crate::definitions::insn::plain::shape_of), [`table`](crate::definitions::insn::table::table). [How to read clauses](crate::definitions).
 fn fc_with_numbers<'a, A: Allocator>(number: u32, a: u32, b: u32) -> Option<Instruction<'a, A>> {
     Some(match number {
         8 => Instruction::MemoryInit {
@@ -550,16 +406,6 @@ fn fc_with_numbers<'a, A: Allocator>(number: u32, a: u32, b: u32) -> Option<Inst
 }
 
 /// Returns the instruction with this opcode and two numbers.
-///
-/// # Proved
-///
-/// ```text
-/// ensures some { IfSome result
-///     (λ i. row_of i ≡ record { op = op; arguments = unsigned a ∷ unsigned b ∷ [] }) }
-/// ensures other { IfNone result (shape_of table op ≢ Some shapes.Uu) }
-/// ```
-///
-/// Definitions: [`row_of`](crate::definitions::insn::instructions::row_of), [`unsigned`](crate::definitions::insn::arguments::Argument), [`shape_of`](crate::definitions::insn::plain::shape_of), [`table`](crate::definitions::insn::table::table). [How to read clauses](crate::definitions).
 fn with_numbers<'a, A: Allocator>(op: Op, a: u32, b: u32) -> Option<Instruction<'a, A>> {
     match op {
         Op::Byte(n) => byte_with_numbers(n, a, b),
@@ -570,16 +416,6 @@ fn with_numbers<'a, A: Allocator>(op: Op, a: u32, b: u32) -> Option<Instruction<
 }
 
 /// Returns the instruction with this opcode of one byte and a memory argument.
-///
-/// # Proved
-///
-/// ```text
-/// ensures some { IfSome result
-///     (λ i. row_of i ≡ record { op = Byte byte; arguments = memory a ∷ [] }) }
-/// ensures other { IfNone result (shape_of table (Byte byte) ≢ Some shapes.M) }
-/// ```
-///
-/// Definitions: [`row_of`](crate::definitions::insn::instructions::row_of), [`memory`](crate::definitions::insn::arguments::Argument), [`shape_of`](crate::definitions::insn::plain::shape_of), [`table`](crate::definitions::insn::table::table). [How to read clauses](crate::definitions).
 fn byte_with_memory<'a, A: Allocator>(byte: u8, a: MemArg) -> Option<Instruction<'a, A>> {
     Some(match byte {
         0x28 => Instruction::I32Load(a),
@@ -610,16 +446,6 @@ fn byte_with_memory<'a, A: Allocator>(byte: u8, a: MemArg) -> Option<Instruction
 }
 
 /// Returns the instruction with this opcode after the prefix FD and a memory argument.
-///
-/// # Proved
-///
-/// ```text
-/// ensures some { IfSome result
-///     (λ i. row_of i ≡ record { op = Prefixed 0xFD number; arguments = memory a ∷ [] }) }
-/// ensures other { IfNone result (shape_of table (Prefixed 0xFD number) ≢ Some shapes.M) }
-/// ```
-///
-/// Definitions: [`row_of`](crate::definitions::insn::instructions::row_of), [`memory`](crate::definitions::insn::arguments::Argument), [`shape_of`](crate::definitions::insn::plain::shape_of), [`table`](crate::definitions::insn::table::table). [How to read clauses](crate::definitions).
 fn fd_with_memory<'a, A: Allocator>(number: u32, a: MemArg) -> Option<Instruction<'a, A>> {
     Some(match number {
         0 => Instruction::VectorImmediate(VectorImmediate::V128Load(a)),
@@ -641,16 +467,6 @@ fn fd_with_memory<'a, A: Allocator>(number: u32, a: MemArg) -> Option<Instructio
 }
 
 /// Returns the instruction with this opcode after the prefix FE and a memory argument.
-///
-/// # Proved
-///
-/// ```text
-/// ensures some { IfSome result
-///     (λ i. row_of i ≡ record { op = Prefixed 0xFE number; arguments = memory a ∷ [] }) }
-/// ensures other { IfNone result (shape_of table (Prefixed 0xFE number) ≢ Some shapes.M) }
-/// ```
-///
-/// Definitions: [`row_of`](crate::definitions::insn::instructions::row_of), [`memory`](crate::definitions::insn::arguments::Argument), [`shape_of`](crate::definitions::insn::plain::shape_of), [`table`](crate::definitions::insn::table::table). [How to read clauses](crate::definitions).
 fn fe_with_memory<'a, A: Allocator>(number: u32, a: MemArg) -> Option<Instruction<'a, A>> {
     Some(match number {
         0x00 => Instruction::Atomic(Atomic::MemoryAtomicNotify(a)),
@@ -724,16 +540,6 @@ fn fe_with_memory<'a, A: Allocator>(number: u32, a: MemArg) -> Option<Instructio
 }
 
 /// Returns the instruction with this opcode and a memory argument.
-///
-/// # Proved
-///
-/// ```text
-/// ensures some { IfSome result
-///     (λ i. row_of i ≡ record { op = op; arguments = memory a ∷ [] }) }
-/// ensures other { IfNone result (shape_of table op ≢ Some shapes.M) }
-/// ```
-///
-/// Definitions: [`row_of`](crate::definitions::insn::instructions::row_of), [`memory`](crate::definitions::insn::arguments::Argument), [`shape_of`](crate::definitions::insn::plain::shape_of), [`table`](crate::definitions::insn::table::table). [How to read clauses](crate::definitions).
 fn with_memory<'a, A: Allocator>(op: Op, a: MemArg) -> Option<Instruction<'a, A>> {
     match op {
         Op::Byte(n) => byte_with_memory(n, a),
@@ -744,16 +550,6 @@ fn with_memory<'a, A: Allocator>(op: Op, a: MemArg) -> Option<Instruction<'a, A>
 }
 
 /// Returns the instruction with this opcode and a memory argument and a lane.
-///
-/// # Proved
-///
-/// ```text
-/// ensures some { IfSome result
-///     (λ i. row_of i ≡ record { op = op; arguments = memory a ∷ lane b ∷ [] }) }
-/// ensures other { IfNone result (shape_of table op ≢ Some shapes.Ml) }
-/// ```
-///
-/// Definitions: [`row_of`](crate::definitions::insn::instructions::row_of), [`memory`](crate::definitions::insn::arguments::Argument), [`lane`](crate::definitions::insn::arguments::Argument), [`shape_of`](crate::definitions::insn::plain::shape_of), [`table`](crate::definitions::insn::table::table). [How to read clauses](crate::definitions).
 fn with_memory_lane<'a, A: Allocator>(op: Op, a: MemArg, b: Lane) -> Option<Instruction<'a, A>> {
     Some(match op {
         Op::Prefixed(0xFD, 84) => Instruction::VectorImmediate(VectorImmediate::V128Load8Lane {
@@ -793,16 +589,6 @@ fn with_memory_lane<'a, A: Allocator>(op: Op, a: MemArg, b: Lane) -> Option<Inst
 }
 
 /// Returns the instruction with this opcode after the prefix FD and a lane.
-///
-/// # Proved
-///
-/// ```text
-/// ensures some { IfSome result
-///     (λ i. row_of i ≡ record { op = Prefixed 0xFD number; arguments = lane a ∷ [] }) }
-/// ensures other { IfNone result (shape_of table (Prefixed 0xFD number) ≢ Some shapes.L) }
-/// ```
-///
-/// Definitions: [`row_of`](crate::definitions::insn::instructions::row_of), [`lane`](crate::definitions::insn::arguments::Argument), [`shape_of`](crate::definitions::insn::plain::shape_of), [`table`](crate::definitions::insn::table::table). [How to read clauses](crate::definitions).
 fn fd_with_lane<'a, A: Allocator>(number: u32, a: Lane) -> Option<Instruction<'a, A>> {
     Some(match number {
         21 => Instruction::VectorImmediate(VectorImmediate::I8x16ExtractLaneS(a)),
@@ -824,16 +610,6 @@ fn fd_with_lane<'a, A: Allocator>(number: u32, a: Lane) -> Option<Instruction<'a
 }
 
 /// Returns the instruction with this opcode and a lane.
-///
-/// # Proved
-///
-/// ```text
-/// ensures some { IfSome result
-///     (λ i. row_of i ≡ record { op = op; arguments = lane a ∷ [] }) }
-/// ensures other { IfNone result (shape_of table op ≢ Some shapes.L) }
-/// ```
-///
-/// Definitions: [`row_of`](crate::definitions::insn::instructions::row_of), [`lane`](crate::definitions::insn::arguments::Argument), [`shape_of`](crate::definitions::insn::plain::shape_of), [`table`](crate::definitions::insn::table::table). [How to read clauses](crate::definitions).
 fn with_lane<'a, A: Allocator>(op: Op, a: Lane) -> Option<Instruction<'a, A>> {
     match op {
         Op::Prefixed(0xFD, n) => fd_with_lane(n, a),
@@ -842,16 +618,6 @@ fn with_lane<'a, A: Allocator>(op: Op, a: Lane) -> Option<Instruction<'a, A>> {
 }
 
 /// Returns the instruction with this opcode and a block type.
-///
-/// # Proved
-///
-/// ```text
-/// ensures some { IfSome result
-///     (λ i. row_of i ≡ record { op = op; arguments = block a ∷ [] }) }
-/// ensures other { IfNone result (shape_of table op ≢ Some shapes.B) }
-/// ```
-///
-/// Definitions: [`row_of`](crate::definitions::insn::instructions::row_of), [`block`](crate::definitions::insn::arguments::Argument), [`shape_of`](crate::definitions::insn::plain::shape_of), [`table`](crate::definitions::insn::table::table). [How to read clauses](crate::definitions).
 fn with_block<'a, A: Allocator>(op: Op, a: BlockType) -> Option<Instruction<'a, A>> {
     Some(match op {
         Op::Byte(0x02) => Instruction::Block(a),
@@ -863,16 +629,6 @@ fn with_block<'a, A: Allocator>(op: Op, a: BlockType) -> Option<Instruction<'a, 
 }
 
 /// Returns the instruction with this opcode of one byte and a heap type.
-///
-/// # Proved
-///
-/// ```text
-/// ensures some { IfSome result
-///     (λ i. row_of i ≡ record { op = Byte byte; arguments = heap a ∷ [] }) }
-/// ensures other { IfNone result (shape_of table (Byte byte) ≢ Some shapes.H) }
-/// ```
-///
-/// Definitions: [`row_of`](crate::definitions::insn::instructions::row_of), [`heap`](crate::definitions::insn::arguments::Argument), [`shape_of`](crate::definitions::insn::plain::shape_of), [`table`](crate::definitions::insn::table::table). [How to read clauses](crate::definitions).
 fn byte_with_heap<'a, A: Allocator>(byte: u8, a: HeapType) -> Option<Instruction<'a, A>> {
     Some(match byte {
         0xD0 => Instruction::RefNull(a),
@@ -881,16 +637,6 @@ fn byte_with_heap<'a, A: Allocator>(byte: u8, a: HeapType) -> Option<Instruction
 }
 
 /// Returns the instruction with this opcode after the prefix FB and a heap type.
-///
-/// # Proved
-///
-/// ```text
-/// ensures some { IfSome result
-///     (λ i. row_of i ≡ record { op = Prefixed 0xFB number; arguments = heap a ∷ [] }) }
-/// ensures other { IfNone result (shape_of table (Prefixed 0xFB number) ≢ Some shapes.H) }
-/// ```
-///
-/// Definitions: [`row_of`](crate::definitions::insn::instructions::row_of), [`heap`](crate::definitions::insn::arguments::Argument), [`shape_of`](crate::definitions::insn::plain::shape_of), [`table`](crate::definitions::insn::table::table). [How to read clauses](crate::definitions).
 fn fb_with_heap<'a, A: Allocator>(number: u32, a: HeapType) -> Option<Instruction<'a, A>> {
     Some(match number {
         20 => Instruction::RefTestNonNull(a),
@@ -904,16 +650,6 @@ fn fb_with_heap<'a, A: Allocator>(number: u32, a: HeapType) -> Option<Instructio
 }
 
 /// Returns the instruction with this opcode and a heap type.
-///
-/// # Proved
-///
-/// ```text
-/// ensures some { IfSome result
-///     (λ i. row_of i ≡ record { op = op; arguments = heap a ∷ [] }) }
-/// ensures other { IfNone result (shape_of table op ≢ Some shapes.H) }
-/// ```
-///
-/// Definitions: [`row_of`](crate::definitions::insn::instructions::row_of), [`heap`](crate::definitions::insn::arguments::Argument), [`shape_of`](crate::definitions::insn::plain::shape_of), [`table`](crate::definitions::insn::table::table). [How to read clauses](crate::definitions).
 fn with_heap<'a, A: Allocator>(op: Op, a: HeapType) -> Option<Instruction<'a, A>> {
     match op {
         Op::Byte(n) => byte_with_heap(n, a),
@@ -923,16 +659,6 @@ fn with_heap<'a, A: Allocator>(op: Op, a: HeapType) -> Option<Instruction<'a, A>
 }
 
 /// Returns the instruction with this opcode and an ordering.
-///
-/// # Proved
-///
-/// ```text
-/// ensures some { IfSome result
-///     (λ i. row_of i ≡ record { op = op; arguments = ordering a ∷ [] }) }
-/// ensures other { IfNone result (shape_of table op ≢ Some shapes.O) }
-/// ```
-///
-/// Definitions: [`row_of`](crate::definitions::insn::instructions::row_of), [`ordering`](crate::definitions::insn::arguments::Argument), [`shape_of`](crate::definitions::insn::plain::shape_of), [`table`](crate::definitions::insn::table::table). [How to read clauses](crate::definitions).
 fn with_ordering<'a, A: Allocator>(op: Op, a: Ordering) -> Option<Instruction<'a, A>> {
     Some(match op {
         Op::Prefixed(0xFE, 0x03) => Instruction::Atomic(Atomic::AtomicFence(a)),
@@ -941,17 +667,6 @@ fn with_ordering<'a, A: Allocator>(op: Op, a: Ordering) -> Option<Instruction<'a
 }
 
 /// Returns the instruction with this opcode after the prefix FE and an ordering and a number.
-///
-/// # Proved
-///
-/// ```text
-/// ensures some { IfSome result
-///     (λ i. row_of i ≡ record { op = Prefixed 0xFE number;
-///             arguments = ordering a ∷ unsigned b ∷ [] }) }
-/// ensures other { IfNone result (shape_of table (Prefixed 0xFE number) ≢ Some shapes.Ou) }
-/// ```
-///
-/// Definitions: [`row_of`](crate::definitions::insn::instructions::row_of), [`ordering`](crate::definitions::insn::arguments::Argument), [`unsigned`](crate::definitions::insn::arguments::Argument), [`shape_of`](crate::definitions::insn::plain::shape_of), [`table`](crate::definitions::insn::table::table). [How to read clauses](crate::definitions).
 fn fe_with_ordering_number<'a, A: Allocator>(
     number: u32,
     a: Ordering,
@@ -1059,16 +774,6 @@ fn fe_with_ordering_number<'a, A: Allocator>(
 }
 
 /// Returns the instruction with this opcode and an ordering and a number.
-///
-/// # Proved
-///
-/// ```text
-/// ensures some { IfSome result
-///     (λ i. row_of i ≡ record { op = op; arguments = ordering a ∷ unsigned b ∷ [] }) }
-/// ensures other { IfNone result (shape_of table op ≢ Some shapes.Ou) }
-/// ```
-///
-/// Definitions: [`row_of`](crate::definitions::insn::instructions::row_of), [`ordering`](crate::definitions::insn::arguments::Argument), [`unsigned`](crate::definitions::insn::arguments::Argument), [`shape_of`](crate::definitions::insn::plain::shape_of), [`table`](crate::definitions::insn::table::table). [How to read clauses](crate::definitions).
 fn with_ordering_number<'a, A: Allocator>(op: Op, a: Ordering, b: u32) -> Option<Instruction<'a, A>> {
     match op {
         Op::Prefixed(0xFE, n) => fe_with_ordering_number(n, a, b),
@@ -1077,18 +782,6 @@ fn with_ordering_number<'a, A: Allocator>(op: Op, a: Ordering, b: u32) -> Option
 }
 
 /// Returns the instruction with this opcode after the prefix FE and an ordering and two numbers.
-///
-/// # Proved
-///
-/// ```text
-/// ensures some { IfSome result
-///     (λ i. row_of i ≡ record { op = Prefixed 0xFE number;
-///             arguments = ordering a ∷ unsigned b ∷ unsigned c ∷ [] }) }
-/// ensures other { IfNone result
-///     (shape_of table (Prefixed 0xFE number) ≢ Some shapes.Ouu) }
-/// ```
-///
-/// Definitions: [`row_of`](crate::definitions::insn::instructions::row_of), [`ordering`](crate::definitions::insn::arguments::Argument), [`unsigned`](crate::definitions::insn::arguments::Argument), [`shape_of`](crate::definitions::insn::plain::shape_of), [`table`](crate::definitions::insn::table::table). [How to read clauses](crate::definitions).
 fn fe_with_ordering_numbers<'a, A: Allocator>(
     number: u32,
     a: Ordering,
@@ -1156,17 +849,6 @@ fn fe_with_ordering_numbers<'a, A: Allocator>(
 }
 
 /// Returns the instruction with this opcode and an ordering and two numbers.
-///
-/// # Proved
-///
-/// ```text
-/// ensures some { IfSome result
-///     (λ i. row_of i ≡ record { op = op;
-///             arguments = ordering a ∷ unsigned b ∷ unsigned c ∷ [] }) }
-/// ensures other { IfNone result (shape_of table op ≢ Some shapes.Ouu) }
-/// ```
-///
-/// Definitions: [`row_of`](crate::definitions::insn::instructions::row_of), [`ordering`](crate::definitions::insn::arguments::Argument), [`unsigned`](crate::definitions::insn::arguments::Argument), [`shape_of`](crate::definitions::insn::plain::shape_of), [`table`](crate::definitions::insn::table::table). [How to read clauses](crate::definitions).
 fn with_ordering_numbers<'a, A: Allocator>(
     op: Op,
     a: Ordering,
@@ -1180,16 +862,6 @@ fn with_ordering_numbers<'a, A: Allocator>(
 }
 
 /// Returns the instruction with this opcode and a signed number of 32 bits.
-///
-/// # Proved
-///
-/// ```text
-/// ensures some { IfSome result
-///     (λ i. row_of i ≡ record { op = op; arguments = signed32 a ∷ [] }) }
-/// ensures other { IfNone result (shape_of table op ≢ Some shapes.C32) }
-/// ```
-///
-/// Definitions: [`row_of`](crate::definitions::insn::instructions::row_of), [`signed32`](crate::definitions::insn::arguments::Argument), [`shape_of`](crate::definitions::insn::plain::shape_of), [`table`](crate::definitions::insn::table::table). [How to read clauses](crate::definitions).
 fn with_signed32<'a, A: Allocator>(op: Op, a: i32) -> Option<Instruction<'a, A>> {
     Some(match op {
         Op::Byte(0x41) => Instruction::I32Const(a),
@@ -1198,16 +870,6 @@ fn with_signed32<'a, A: Allocator>(op: Op, a: i32) -> Option<Instruction<'a, A>>
 }
 
 /// Returns the instruction with this opcode and a signed number of 64 bits.
-///
-/// # Proved
-///
-/// ```text
-/// ensures some { IfSome result
-///     (λ i. row_of i ≡ record { op = op; arguments = signed64 a ∷ [] }) }
-/// ensures other { IfNone result (shape_of table op ≢ Some shapes.C64) }
-/// ```
-///
-/// Definitions: [`row_of`](crate::definitions::insn::instructions::row_of), [`signed64`](crate::definitions::insn::arguments::Argument), [`shape_of`](crate::definitions::insn::plain::shape_of), [`table`](crate::definitions::insn::table::table). [How to read clauses](crate::definitions).
 fn with_signed64<'a, A: Allocator>(op: Op, a: i64) -> Option<Instruction<'a, A>> {
     Some(match op {
         Op::Byte(0x42) => Instruction::I64Const(a),
@@ -1216,16 +878,6 @@ fn with_signed64<'a, A: Allocator>(op: Op, a: i64) -> Option<Instruction<'a, A>>
 }
 
 /// Returns the instruction with this opcode and a float of 32 bits.
-///
-/// # Proved
-///
-/// ```text
-/// ensures some { IfSome result
-///     (λ i. row_of i ≡ record { op = op; arguments = float32 a ∷ [] }) }
-/// ensures other { IfNone result (shape_of table op ≢ Some shapes.F32) }
-/// ```
-///
-/// Definitions: [`row_of`](crate::definitions::insn::instructions::row_of), [`float32`](crate::definitions::insn::arguments::Argument), [`shape_of`](crate::definitions::insn::plain::shape_of), [`table`](crate::definitions::insn::table::table). [How to read clauses](crate::definitions).
 fn with_float32<'a, A: Allocator>(op: Op, a: Ieee32) -> Option<Instruction<'a, A>> {
     Some(match op {
         Op::Byte(0x43) => Instruction::F32Const(a),
@@ -1234,16 +886,6 @@ fn with_float32<'a, A: Allocator>(op: Op, a: Ieee32) -> Option<Instruction<'a, A
 }
 
 /// Returns the instruction with this opcode and a float of 64 bits.
-///
-/// # Proved
-///
-/// ```text
-/// ensures some { IfSome result
-///     (λ i. row_of i ≡ record { op = op; arguments = float64 a ∷ [] }) }
-/// ensures other { IfNone result (shape_of table op ≢ Some shapes.F64) }
-/// ```
-///
-/// Definitions: [`row_of`](crate::definitions::insn::instructions::row_of), [`float64`](crate::definitions::insn::arguments::Argument), [`shape_of`](crate::definitions::insn::plain::shape_of), [`table`](crate::definitions::insn::table::table). [How to read clauses](crate::definitions).
 fn with_float64<'a, A: Allocator>(op: Op, a: Ieee64) -> Option<Instruction<'a, A>> {
     Some(match op {
         Op::Byte(0x44) => Instruction::F64Const(a),
@@ -1252,16 +894,6 @@ fn with_float64<'a, A: Allocator>(op: Op, a: Ieee64) -> Option<Instruction<'a, A
 }
 
 /// Returns the instruction with this opcode and a vector of 128 bits.
-///
-/// # Proved
-///
-/// ```text
-/// ensures some { IfSome result
-///     (λ i. row_of i ≡ record { op = op; arguments = vector a ∷ [] }) }
-/// ensures other { IfNone result (shape_of table op ≢ Some shapes.V) }
-/// ```
-///
-/// Definitions: [`row_of`](crate::definitions::insn::instructions::row_of), [`vector`](crate::definitions::insn::arguments::Argument), [`shape_of`](crate::definitions::insn::plain::shape_of), [`table`](crate::definitions::insn::table::table). [How to read clauses](crate::definitions).
 fn with_vector<'a, A: Allocator>(op: Op, a: i128) -> Option<Instruction<'a, A>> {
     Some(match op {
         Op::Prefixed(0xFD, 12) => Instruction::VectorImmediate(VectorImmediate::V128Const(a)),
@@ -1270,16 +902,6 @@ fn with_vector<'a, A: Allocator>(op: Op, a: i128) -> Option<Instruction<'a, A>> 
 }
 
 /// Returns the instruction with this opcode and sixteen lanes.
-///
-/// # Proved
-///
-/// ```text
-/// ensures some { IfSome result
-///     (λ i. row_of i ≡ record { op = op; arguments = lanes a ∷ [] }) }
-/// ensures other { IfNone result (shape_of table op ≢ Some shapes.Ls) }
-/// ```
-///
-/// Definitions: [`row_of`](crate::definitions::insn::instructions::row_of), [`lanes`](crate::definitions::insn::arguments::Argument), [`shape_of`](crate::definitions::insn::plain::shape_of), [`table`](crate::definitions::insn::table::table). [How to read clauses](crate::definitions).
 fn with_lanes<'a, A: Allocator>(op: Op, a: [Lane; 16]) -> Option<Instruction<'a, A>> {
     Some(match op {
         Op::Prefixed(0xFD, 13) => Instruction::VectorImmediate(VectorImmediate::I8x16Shuffle(a)),
@@ -1288,16 +910,6 @@ fn with_lanes<'a, A: Allocator>(op: Op, a: [Lane; 16]) -> Option<Instruction<'a,
 }
 
 /// Returns the instruction with this opcode and labels and a default label.
-///
-/// # Proved
-///
-/// ```text
-/// ensures some { IfSome result
-///     (λ i. row_of i ≡ record { op = op; arguments = labels a.now ∷ unsigned b ∷ [] }) }
-/// ensures other { IfNone result (shape_of table op ≢ Some shapes.Bt) }
-/// ```
-///
-/// Definitions: [`row_of`](crate::definitions::insn::instructions::row_of), [`labels`](crate::definitions::insn::arguments::Argument), [`unsigned`](crate::definitions::insn::arguments::Argument), [`shape_of`](crate::definitions::insn::plain::shape_of), [`table`](crate::definitions::insn::table::table). [How to read clauses](crate::definitions).
 fn with_labels<'a, A: Allocator>(op: Op, a: &'a [u32], b: u32) -> Option<Instruction<'a, A>> {
     Some(match op {
         Op::Byte(0x0E) => Instruction::BrTable(CowSlice::Borrowed(a), b),
@@ -1306,16 +918,6 @@ fn with_labels<'a, A: Allocator>(op: Op, a: &'a [u32], b: u32) -> Option<Instruc
 }
 
 /// Returns the instruction with this opcode and a block type and catch clauses.
-///
-/// # Proved
-///
-/// ```text
-/// ensures some { IfSome result
-///     (λ i. row_of i ≡ record { op = op; arguments = block a ∷ catches b.now ∷ [] }) }
-/// ensures other { IfNone result (shape_of table op ≢ Some shapes.Tt) }
-/// ```
-///
-/// Definitions: [`row_of`](crate::definitions::insn::instructions::row_of), [`block`](crate::definitions::insn::arguments::Argument), [`catches`](crate::definitions::insn::arguments::Argument), [`shape_of`](crate::definitions::insn::plain::shape_of), [`table`](crate::definitions::insn::table::table). [How to read clauses](crate::definitions).
 fn with_clauses<'a, A: Allocator>(
     op: Op,
     a: BlockType,
@@ -1328,16 +930,6 @@ fn with_clauses<'a, A: Allocator>(
 }
 
 /// Returns the instruction with this opcode and value types.
-///
-/// # Proved
-///
-/// ```text
-/// ensures some { IfSome result
-///     (λ i. row_of i ≡ record { op = op; arguments = types a.now ∷ [] }) }
-/// ensures other { IfNone result (shape_of table op ≢ Some shapes.Ts) }
-/// ```
-///
-/// Definitions: [`row_of`](crate::definitions::insn::instructions::row_of), [`types`](crate::definitions::insn::arguments::Argument), [`shape_of`](crate::definitions::insn::plain::shape_of), [`table`](crate::definitions::insn::table::table). [How to read clauses](crate::definitions).
 fn with_types<'a, A: Allocator>(op: Op, a: &'a [ValType]) -> Option<Instruction<'a, A>> {
     let Op::Byte(0x1C) = op else {
         return None;
@@ -1349,18 +941,6 @@ fn with_types<'a, A: Allocator>(op: Op, a: &'a [ValType]) -> Option<Instruction<
 }
 
 /// Returns the instruction with this opcode and a label and two reference types.
-///
-/// # Proved
-///
-/// ```text
-/// ensures some { IfSome result
-///     (λ i. row_of i ≡ record { op = op;
-///             arguments = flag (cast_flag_of b c) ∷ unsigned a ∷ heap b.heap_type
-///             ∷ heap c.heap_type ∷ [] }) }
-/// ensures other { IfNone result (shape_of table op ≢ Some shapes.K) }
-/// ```
-///
-/// Definitions: [`row_of`](crate::definitions::insn::instructions::row_of), [`flag`](crate::definitions::insn::arguments::Argument), [`cast_flag_of`](crate::definitions::insn::instructions::cast_flag_of), [`unsigned`](crate::definitions::insn::arguments::Argument), [`heap`](crate::definitions::insn::arguments::Argument), [`shape_of`](crate::definitions::insn::plain::shape_of), [`table`](crate::definitions::insn::table::table). [How to read clauses](crate::definitions).
 pub(crate) fn with_cast<'a, A: Allocator>(
     op: Op,
     a: u32,
@@ -1393,16 +973,6 @@ pub(crate) fn with_cast<'a, A: Allocator>(
 }
 
 /// Returns the instruction with this opcode and a number and handle clauses.
-///
-/// # Proved
-///
-/// ```text
-/// ensures some { IfSome result
-///     (λ i. row_of i ≡ record { op = op; arguments = unsigned a ∷ handles b.now ∷ [] }) }
-/// ensures other { IfNone result (shape_of table op ≢ Some shapes.Uh) }
-/// ```
-///
-/// Definitions: [`row_of`](crate::definitions::insn::instructions::row_of), [`unsigned`](crate::definitions::insn::arguments::Argument), [`handles`](crate::definitions::insn::arguments::Argument), [`shape_of`](crate::definitions::insn::plain::shape_of), [`table`](crate::definitions::insn::table::table). [How to read clauses](crate::definitions).
 fn with_handles<'a, A: Allocator>(op: Op, a: u32, b: &'a [Handle]) -> Option<Instruction<'a, A>> {
     Some(match op {
         Op::Byte(0xE3) => Instruction::Resume {
@@ -1418,17 +988,6 @@ fn with_handles<'a, A: Allocator>(op: Op, a: u32, b: &'a [Handle]) -> Option<Ins
 }
 
 /// Returns the instruction with this opcode and two numbers and handle clauses.
-///
-/// # Proved
-///
-/// ```text
-/// ensures some { IfSome result
-///     (λ i. row_of i ≡ record { op = op;
-///             arguments = unsigned a ∷ unsigned b ∷ handles c.now ∷ [] }) }
-/// ensures other { IfNone result (shape_of table op ≢ Some shapes.Uuh) }
-/// ```
-///
-/// Definitions: [`row_of`](crate::definitions::insn::instructions::row_of), [`unsigned`](crate::definitions::insn::arguments::Argument), [`handles`](crate::definitions::insn::arguments::Argument), [`shape_of`](crate::definitions::insn::plain::shape_of), [`table`](crate::definitions::insn::table::table). [How to read clauses](crate::definitions).
 fn with_numbers_handles<'a, A: Allocator>(
     op: Op,
     a: u32,
@@ -1446,28 +1005,6 @@ fn with_numbers_handles<'a, A: Allocator>(
 }
 
 /// Returns the instruction with this opcode and these arguments: no immediates.
-///
-/// # Asks
-///
-/// [What happens otherwise](crate::fallible#what-is-asked).
-///
-/// ```text
-/// requires { shape_of table op ≡ Some shapes.Nothing }
-/// ```
-///
-/// Definitions: [`shape_of`](crate::definitions::insn::plain::shape_of), [`table`](crate::definitions::insn::table::table). [How to read clauses](crate::definitions).
-///
-/// # Proved
-///
-/// In any case: `some`, the instruction has this opcode and these immediates; `other`, the table has no row for the opcode, or the arguments are not of the types of its shape, or flags of a cast are above 3.
-///
-/// ```text
-/// ensures some { IfSome result
-///     (λ i. row_of i ≡ record { op = op; arguments = map argument_view args.now }) }
-/// ensures other { IfNone result (IsNoInstruction op (map argument_view args.now)) }
-/// ```
-///
-/// Definitions: [`row_of`](crate::definitions::insn::instructions::row_of), [`argument_view`](crate::definitions::insn::views::argument_view), [`IsNoInstruction`](crate::definitions::reader::conversions::IsNoInstruction). [How to read clauses](crate::definitions).
 pub(crate) fn of_nothing<'a, A: Allocator>(op: Op, args: &'a [Arg<A>]) -> Option<Instruction<'a, A>> {
     let [] = args else {
         return None;
@@ -1476,28 +1013,6 @@ pub(crate) fn of_nothing<'a, A: Allocator>(op: Op, args: &'a [Arg<A>]) -> Option
 }
 
 /// Returns the instruction with this opcode and these arguments: a number.
-///
-/// # Asks
-///
-/// [What happens otherwise](crate::fallible#what-is-asked).
-///
-/// ```text
-/// requires { shape_of table op ≡ Some shapes.U }
-/// ```
-///
-/// Definitions: [`shape_of`](crate::definitions::insn::plain::shape_of), [`table`](crate::definitions::insn::table::table). [How to read clauses](crate::definitions).
-///
-/// # Proved
-///
-/// In any case: `some`, the instruction has this opcode and these immediates; `other`, the table has no row for the opcode, or the arguments are not of the types of its shape, or flags of a cast are above 3.
-///
-/// ```text
-/// ensures some { IfSome result
-///     (λ i. row_of i ≡ record { op = op; arguments = map argument_view args.now }) }
-/// ensures other { IfNone result (IsNoInstruction op (map argument_view args.now)) }
-/// ```
-///
-/// Definitions: [`row_of`](crate::definitions::insn::instructions::row_of), [`argument_view`](crate::definitions::insn::views::argument_view), [`IsNoInstruction`](crate::definitions::reader::conversions::IsNoInstruction). [How to read clauses](crate::definitions).
 pub(crate) fn of_number<'a, A: Allocator>(op: Op, args: &'a [Arg<A>]) -> Option<Instruction<'a, A>> {
     let [a] = args else {
         return None;
@@ -1506,28 +1021,6 @@ pub(crate) fn of_number<'a, A: Allocator>(op: Op, args: &'a [Arg<A>]) -> Option<
 }
 
 /// Returns the instruction with this opcode and these arguments: two numbers.
-///
-/// # Asks
-///
-/// [What happens otherwise](crate::fallible#what-is-asked).
-///
-/// ```text
-/// requires { shape_of table op ≡ Some shapes.Uu }
-/// ```
-///
-/// Definitions: [`shape_of`](crate::definitions::insn::plain::shape_of), [`table`](crate::definitions::insn::table::table). [How to read clauses](crate::definitions).
-///
-/// # Proved
-///
-/// In any case: `some`, the instruction has this opcode and these immediates; `other`, the table has no row for the opcode, or the arguments are not of the types of its shape, or flags of a cast are above 3.
-///
-/// ```text
-/// ensures some { IfSome result
-///     (λ i. row_of i ≡ record { op = op; arguments = map argument_view args.now }) }
-/// ensures other { IfNone result (IsNoInstruction op (map argument_view args.now)) }
-/// ```
-///
-/// Definitions: [`row_of`](crate::definitions::insn::instructions::row_of), [`argument_view`](crate::definitions::insn::views::argument_view), [`IsNoInstruction`](crate::definitions::reader::conversions::IsNoInstruction). [How to read clauses](crate::definitions).
 pub(crate) fn of_numbers<'a, A: Allocator>(op: Op, args: &'a [Arg<A>]) -> Option<Instruction<'a, A>> {
     let [a, b] = args else {
         return None;
@@ -1536,28 +1029,6 @@ pub(crate) fn of_numbers<'a, A: Allocator>(op: Op, args: &'a [Arg<A>]) -> Option
 }
 
 /// Returns the instruction with this opcode and these arguments: a memory argument.
-///
-/// # Asks
-///
-/// [What happens otherwise](crate::fallible#what-is-asked).
-///
-/// ```text
-/// requires { shape_of table op ≡ Some shapes.M }
-/// ```
-///
-/// Definitions: [`shape_of`](crate::definitions::insn::plain::shape_of), [`table`](crate::definitions::insn::table::table). [How to read clauses](crate::definitions).
-///
-/// # Proved
-///
-/// In any case: `some`, the instruction has this opcode and these immediates; `other`, the table has no row for the opcode, or the arguments are not of the types of its shape, or flags of a cast are above 3.
-///
-/// ```text
-/// ensures some { IfSome result
-///     (λ i. row_of i ≡ record { op = op; arguments = map argument_view args.now }) }
-/// ensures other { IfNone result (IsNoInstruction op (map argument_view args.now)) }
-/// ```
-///
-/// Definitions: [`row_of`](crate::definitions::insn::instructions::row_of), [`argument_view`](crate::definitions::insn::views::argument_view), [`IsNoInstruction`](crate::definitions::reader::conversions::IsNoInstruction). [How to read clauses](crate::definitions).
 pub(crate) fn of_memory<'a, A: Allocator>(op: Op, args: &'a [Arg<A>]) -> Option<Instruction<'a, A>> {
     let [a] = args else {
         return None;
@@ -1566,28 +1037,6 @@ pub(crate) fn of_memory<'a, A: Allocator>(op: Op, args: &'a [Arg<A>]) -> Option<
 }
 
 /// Returns the instruction with this opcode and these arguments: a memory argument and a lane.
-///
-/// # Asks
-///
-/// [What happens otherwise](crate::fallible#what-is-asked).
-///
-/// ```text
-/// requires { shape_of table op ≡ Some shapes.Ml }
-/// ```
-///
-/// Definitions: [`shape_of`](crate::definitions::insn::plain::shape_of), [`table`](crate::definitions::insn::table::table). [How to read clauses](crate::definitions).
-///
-/// # Proved
-///
-/// In any case: `some`, the instruction has this opcode and these immediates; `other`, the table has no row for the opcode, or the arguments are not of the types of its shape, or flags of a cast are above 3.
-///
-/// ```text
-/// ensures some { IfSome result
-///     (λ i. row_of i ≡ record { op = op; arguments = map argument_view args.now }) }
-/// ensures other { IfNone result (IsNoInstruction op (map argument_view args.now)) }
-/// ```
-///
-/// Definitions: [`row_of`](crate::definitions::insn::instructions::row_of), [`argument_view`](crate::definitions::insn::views::argument_view), [`IsNoInstruction`](crate::definitions::reader::conversions::IsNoInstruction). [How to read clauses](crate::definitions).
 pub(crate) fn of_memory_lane<'a, A: Allocator>(
     op: Op,
     args: &'a [Arg<A>],
@@ -1599,28 +1048,6 @@ pub(crate) fn of_memory_lane<'a, A: Allocator>(
 }
 
 /// Returns the instruction with this opcode and these arguments: a lane.
-///
-/// # Asks
-///
-/// [What happens otherwise](crate::fallible#what-is-asked).
-///
-/// ```text
-/// requires { shape_of table op ≡ Some shapes.L }
-/// ```
-///
-/// Definitions: [`shape_of`](crate::definitions::insn::plain::shape_of), [`table`](crate::definitions::insn::table::table). [How to read clauses](crate::definitions).
-///
-/// # Proved
-///
-/// In any case: `some`, the instruction has this opcode and these immediates; `other`, the table has no row for the opcode, or the arguments are not of the types of its shape, or flags of a cast are above 3.
-///
-/// ```text
-/// ensures some { IfSome result
-///     (λ i. row_of i ≡ record { op = op; arguments = map argument_view args.now }) }
-/// ensures other { IfNone result (IsNoInstruction op (map argument_view args.now)) }
-/// ```
-///
-/// Definitions: [`row_of`](crate::definitions::insn::instructions::row_of), [`argument_view`](crate::definitions::insn::views::argument_view), [`IsNoInstruction`](crate::definitions::reader::conversions::IsNoInstruction). [How to read clauses](crate::definitions).
 pub(crate) fn of_lane<'a, A: Allocator>(op: Op, args: &'a [Arg<A>]) -> Option<Instruction<'a, A>> {
     let [a] = args else {
         return None;
@@ -1629,28 +1056,6 @@ pub(crate) fn of_lane<'a, A: Allocator>(op: Op, args: &'a [Arg<A>]) -> Option<In
 }
 
 /// Returns the instruction with this opcode and these arguments: a block type.
-///
-/// # Asks
-///
-/// [What happens otherwise](crate::fallible#what-is-asked).
-///
-/// ```text
-/// requires { shape_of table op ≡ Some shapes.B }
-/// ```
-///
-/// Definitions: [`shape_of`](crate::definitions::insn::plain::shape_of), [`table`](crate::definitions::insn::table::table). [How to read clauses](crate::definitions).
-///
-/// # Proved
-///
-/// In any case: `some`, the instruction has this opcode and these immediates; `other`, the table has no row for the opcode, or the arguments are not of the types of its shape, or flags of a cast are above 3.
-///
-/// ```text
-/// ensures some { IfSome result
-///     (λ i. row_of i ≡ record { op = op; arguments = map argument_view args.now }) }
-/// ensures other { IfNone result (IsNoInstruction op (map argument_view args.now)) }
-/// ```
-///
-/// Definitions: [`row_of`](crate::definitions::insn::instructions::row_of), [`argument_view`](crate::definitions::insn::views::argument_view), [`IsNoInstruction`](crate::definitions::reader::conversions::IsNoInstruction). [How to read clauses](crate::definitions).
 pub(crate) fn of_block<'a, A: Allocator>(op: Op, args: &'a [Arg<A>]) -> Option<Instruction<'a, A>> {
     let [a] = args else {
         return None;
@@ -1659,28 +1064,6 @@ pub(crate) fn of_block<'a, A: Allocator>(op: Op, args: &'a [Arg<A>]) -> Option<I
 }
 
 /// Returns the instruction with this opcode and these arguments: a heap type.
-///
-/// # Asks
-///
-/// [What happens otherwise](crate::fallible#what-is-asked).
-///
-/// ```text
-/// requires { shape_of table op ≡ Some shapes.H }
-/// ```
-///
-/// Definitions: [`shape_of`](crate::definitions::insn::plain::shape_of), [`table`](crate::definitions::insn::table::table). [How to read clauses](crate::definitions).
-///
-/// # Proved
-///
-/// In any case: `some`, the instruction has this opcode and these immediates; `other`, the table has no row for the opcode, or the arguments are not of the types of its shape, or flags of a cast are above 3.
-///
-/// ```text
-/// ensures some { IfSome result
-///     (λ i. row_of i ≡ record { op = op; arguments = map argument_view args.now }) }
-/// ensures other { IfNone result (IsNoInstruction op (map argument_view args.now)) }
-/// ```
-///
-/// Definitions: [`row_of`](crate::definitions::insn::instructions::row_of), [`argument_view`](crate::definitions::insn::views::argument_view), [`IsNoInstruction`](crate::definitions::reader::conversions::IsNoInstruction). [How to read clauses](crate::definitions).
 pub(crate) fn of_heap<'a, A: Allocator>(op: Op, args: &'a [Arg<A>]) -> Option<Instruction<'a, A>> {
     let [a] = args else {
         return None;
@@ -1689,28 +1072,6 @@ pub(crate) fn of_heap<'a, A: Allocator>(op: Op, args: &'a [Arg<A>]) -> Option<In
 }
 
 /// Returns the instruction with this opcode and these arguments: an ordering.
-///
-/// # Asks
-///
-/// [What happens otherwise](crate::fallible#what-is-asked).
-///
-/// ```text
-/// requires { shape_of table op ≡ Some shapes.O }
-/// ```
-///
-/// Definitions: [`shape_of`](crate::definitions::insn::plain::shape_of), [`table`](crate::definitions::insn::table::table). [How to read clauses](crate::definitions).
-///
-/// # Proved
-///
-/// In any case: `some`, the instruction has this opcode and these immediates; `other`, the table has no row for the opcode, or the arguments are not of the types of its shape, or flags of a cast are above 3.
-///
-/// ```text
-/// ensures some { IfSome result
-///     (λ i. row_of i ≡ record { op = op; arguments = map argument_view args.now }) }
-/// ensures other { IfNone result (IsNoInstruction op (map argument_view args.now)) }
-/// ```
-///
-/// Definitions: [`row_of`](crate::definitions::insn::instructions::row_of), [`argument_view`](crate::definitions::insn::views::argument_view), [`IsNoInstruction`](crate::definitions::reader::conversions::IsNoInstruction). [How to read clauses](crate::definitions).
 pub(crate) fn of_ordering<'a, A: Allocator>(
     op: Op,
     args: &'a [Arg<A>],
@@ -1722,28 +1083,6 @@ pub(crate) fn of_ordering<'a, A: Allocator>(
 }
 
 /// Returns the instruction with this opcode and these arguments: an ordering and a number.
-///
-/// # Asks
-///
-/// [What happens otherwise](crate::fallible#what-is-asked).
-///
-/// ```text
-/// requires { shape_of table op ≡ Some shapes.Ou }
-/// ```
-///
-/// Definitions: [`shape_of`](crate::definitions::insn::plain::shape_of), [`table`](crate::definitions::insn::table::table). [How to read clauses](crate::definitions).
-///
-/// # Proved
-///
-/// In any case: `some`, the instruction has this opcode and these immediates; `other`, the table has no row for the opcode, or the arguments are not of the types of its shape, or flags of a cast are above 3.
-///
-/// ```text
-/// ensures some { IfSome result
-///     (λ i. row_of i ≡ record { op = op; arguments = map argument_view args.now }) }
-/// ensures other { IfNone result (IsNoInstruction op (map argument_view args.now)) }
-/// ```
-///
-/// Definitions: [`row_of`](crate::definitions::insn::instructions::row_of), [`argument_view`](crate::definitions::insn::views::argument_view), [`IsNoInstruction`](crate::definitions::reader::conversions::IsNoInstruction). [How to read clauses](crate::definitions).
 pub(crate) fn of_ordering_number<'a, A: Allocator>(
     op: Op,
     args: &'a [Arg<A>],
@@ -1755,28 +1094,6 @@ pub(crate) fn of_ordering_number<'a, A: Allocator>(
 }
 
 /// Returns the instruction with this opcode and these arguments: an ordering and two numbers.
-///
-/// # Asks
-///
-/// [What happens otherwise](crate::fallible#what-is-asked).
-///
-/// ```text
-/// requires { shape_of table op ≡ Some shapes.Ouu }
-/// ```
-///
-/// Definitions: [`shape_of`](crate::definitions::insn::plain::shape_of), [`table`](crate::definitions::insn::table::table). [How to read clauses](crate::definitions).
-///
-/// # Proved
-///
-/// In any case: `some`, the instruction has this opcode and these immediates; `other`, the table has no row for the opcode, or the arguments are not of the types of its shape, or flags of a cast are above 3.
-///
-/// ```text
-/// ensures some { IfSome result
-///     (λ i. row_of i ≡ record { op = op; arguments = map argument_view args.now }) }
-/// ensures other { IfNone result (IsNoInstruction op (map argument_view args.now)) }
-/// ```
-///
-/// Definitions: [`row_of`](crate::definitions::insn::instructions::row_of), [`argument_view`](crate::definitions::insn::views::argument_view), [`IsNoInstruction`](crate::definitions::reader::conversions::IsNoInstruction). [How to read clauses](crate::definitions).
 pub(crate) fn of_ordering_numbers<'a, A: Allocator>(
     op: Op,
     args: &'a [Arg<A>],
@@ -1788,28 +1105,6 @@ pub(crate) fn of_ordering_numbers<'a, A: Allocator>(
 }
 
 /// Returns the instruction with this opcode and these arguments: a signed number of 32 bits.
-///
-/// # Asks
-///
-/// [What happens otherwise](crate::fallible#what-is-asked).
-///
-/// ```text
-/// requires { shape_of table op ≡ Some shapes.C32 }
-/// ```
-///
-/// Definitions: [`shape_of`](crate::definitions::insn::plain::shape_of), [`table`](crate::definitions::insn::table::table). [How to read clauses](crate::definitions).
-///
-/// # Proved
-///
-/// In any case: `some`, the instruction has this opcode and these immediates; `other`, the table has no row for the opcode, or the arguments are not of the types of its shape, or flags of a cast are above 3.
-///
-/// ```text
-/// ensures some { IfSome result
-///     (λ i. row_of i ≡ record { op = op; arguments = map argument_view args.now }) }
-/// ensures other { IfNone result (IsNoInstruction op (map argument_view args.now)) }
-/// ```
-///
-/// Definitions: [`row_of`](crate::definitions::insn::instructions::row_of), [`argument_view`](crate::definitions::insn::views::argument_view), [`IsNoInstruction`](crate::definitions::reader::conversions::IsNoInstruction). [How to read clauses](crate::definitions).
 pub(crate) fn of_signed32<'a, A: Allocator>(
     op: Op,
     args: &'a [Arg<A>],
@@ -1821,28 +1116,6 @@ pub(crate) fn of_signed32<'a, A: Allocator>(
 }
 
 /// Returns the instruction with this opcode and these arguments: a signed number of 64 bits.
-///
-/// # Asks
-///
-/// [What happens otherwise](crate::fallible#what-is-asked).
-///
-/// ```text
-/// requires { shape_of table op ≡ Some shapes.C64 }
-/// ```
-///
-/// Definitions: [`shape_of`](crate::definitions::insn::plain::shape_of), [`table`](crate::definitions::insn::table::table). [How to read clauses](crate::definitions).
-///
-/// # Proved
-///
-/// In any case: `some`, the instruction has this opcode and these immediates; `other`, the table has no row for the opcode, or the arguments are not of the types of its shape, or flags of a cast are above 3.
-///
-/// ```text
-/// ensures some { IfSome result
-///     (λ i. row_of i ≡ record { op = op; arguments = map argument_view args.now }) }
-/// ensures other { IfNone result (IsNoInstruction op (map argument_view args.now)) }
-/// ```
-///
-/// Definitions: [`row_of`](crate::definitions::insn::instructions::row_of), [`argument_view`](crate::definitions::insn::views::argument_view), [`IsNoInstruction`](crate::definitions::reader::conversions::IsNoInstruction). [How to read clauses](crate::definitions).
 pub(crate) fn of_signed64<'a, A: Allocator>(
     op: Op,
     args: &'a [Arg<A>],
@@ -1854,28 +1127,6 @@ pub(crate) fn of_signed64<'a, A: Allocator>(
 }
 
 /// Returns the instruction with this opcode and these arguments: a float of 32 bits.
-///
-/// # Asks
-///
-/// [What happens otherwise](crate::fallible#what-is-asked).
-///
-/// ```text
-/// requires { shape_of table op ≡ Some shapes.F32 }
-/// ```
-///
-/// Definitions: [`shape_of`](crate::definitions::insn::plain::shape_of), [`table`](crate::definitions::insn::table::table). [How to read clauses](crate::definitions).
-///
-/// # Proved
-///
-/// In any case: `some`, the instruction has this opcode and these immediates; `other`, the table has no row for the opcode, or the arguments are not of the types of its shape, or flags of a cast are above 3.
-///
-/// ```text
-/// ensures some { IfSome result
-///     (λ i. row_of i ≡ record { op = op; arguments = map argument_view args.now }) }
-/// ensures other { IfNone result (IsNoInstruction op (map argument_view args.now)) }
-/// ```
-///
-/// Definitions: [`row_of`](crate::definitions::insn::instructions::row_of), [`argument_view`](crate::definitions::insn::views::argument_view), [`IsNoInstruction`](crate::definitions::reader::conversions::IsNoInstruction). [How to read clauses](crate::definitions).
 pub(crate) fn of_float32<'a, A: Allocator>(op: Op, args: &'a [Arg<A>]) -> Option<Instruction<'a, A>> {
     let [a] = args else {
         return None;
@@ -1884,28 +1135,6 @@ pub(crate) fn of_float32<'a, A: Allocator>(op: Op, args: &'a [Arg<A>]) -> Option
 }
 
 /// Returns the instruction with this opcode and these arguments: a float of 64 bits.
-///
-/// # Asks
-///
-/// [What happens otherwise](crate::fallible#what-is-asked).
-///
-/// ```text
-/// requires { shape_of table op ≡ Some shapes.F64 }
-/// ```
-///
-/// Definitions: [`shape_of`](crate::definitions::insn::plain::shape_of), [`table`](crate::definitions::insn::table::table). [How to read clauses](crate::definitions).
-///
-/// # Proved
-///
-/// In any case: `some`, the instruction has this opcode and these immediates; `other`, the table has no row for the opcode, or the arguments are not of the types of its shape, or flags of a cast are above 3.
-///
-/// ```text
-/// ensures some { IfSome result
-///     (λ i. row_of i ≡ record { op = op; arguments = map argument_view args.now }) }
-/// ensures other { IfNone result (IsNoInstruction op (map argument_view args.now)) }
-/// ```
-///
-/// Definitions: [`row_of`](crate::definitions::insn::instructions::row_of), [`argument_view`](crate::definitions::insn::views::argument_view), [`IsNoInstruction`](crate::definitions::reader::conversions::IsNoInstruction). [How to read clauses](crate::definitions).
 pub(crate) fn of_float64<'a, A: Allocator>(op: Op, args: &'a [Arg<A>]) -> Option<Instruction<'a, A>> {
     let [a] = args else {
         return None;
@@ -1914,28 +1143,6 @@ pub(crate) fn of_float64<'a, A: Allocator>(op: Op, args: &'a [Arg<A>]) -> Option
 }
 
 /// Returns the instruction with this opcode and these arguments: a vector of 128 bits.
-///
-/// # Asks
-///
-/// [What happens otherwise](crate::fallible#what-is-asked).
-///
-/// ```text
-/// requires { shape_of table op ≡ Some shapes.V }
-/// ```
-///
-/// Definitions: [`shape_of`](crate::definitions::insn::plain::shape_of), [`table`](crate::definitions::insn::table::table). [How to read clauses](crate::definitions).
-///
-/// # Proved
-///
-/// In any case: `some`, the instruction has this opcode and these immediates; `other`, the table has no row for the opcode, or the arguments are not of the types of its shape, or flags of a cast are above 3.
-///
-/// ```text
-/// ensures some { IfSome result
-///     (λ i. row_of i ≡ record { op = op; arguments = map argument_view args.now }) }
-/// ensures other { IfNone result (IsNoInstruction op (map argument_view args.now)) }
-/// ```
-///
-/// Definitions: [`row_of`](crate::definitions::insn::instructions::row_of), [`argument_view`](crate::definitions::insn::views::argument_view), [`IsNoInstruction`](crate::definitions::reader::conversions::IsNoInstruction). [How to read clauses](crate::definitions).
 pub(crate) fn of_vector<'a, A: Allocator>(op: Op, args: &'a [Arg<A>]) -> Option<Instruction<'a, A>> {
     let [a] = args else {
         return None;
@@ -1944,28 +1151,6 @@ pub(crate) fn of_vector<'a, A: Allocator>(op: Op, args: &'a [Arg<A>]) -> Option<
 }
 
 /// Returns the instruction with this opcode and these arguments: sixteen lanes.
-///
-/// # Asks
-///
-/// [What happens otherwise](crate::fallible#what-is-asked).
-///
-/// ```text
-/// requires { shape_of table op ≡ Some shapes.Ls }
-/// ```
-///
-/// Definitions: [`shape_of`](crate::definitions::insn::plain::shape_of), [`table`](crate::definitions::insn::table::table). [How to read clauses](crate::definitions).
-///
-/// # Proved
-///
-/// In any case: `some`, the instruction has this opcode and these immediates; `other`, the table has no row for the opcode, or the arguments are not of the types of its shape, or flags of a cast are above 3.
-///
-/// ```text
-/// ensures some { IfSome result
-///     (λ i. row_of i ≡ record { op = op; arguments = map argument_view args.now }) }
-/// ensures other { IfNone result (IsNoInstruction op (map argument_view args.now)) }
-/// ```
-///
-/// Definitions: [`row_of`](crate::definitions::insn::instructions::row_of), [`argument_view`](crate::definitions::insn::views::argument_view), [`IsNoInstruction`](crate::definitions::reader::conversions::IsNoInstruction). [How to read clauses](crate::definitions).
 pub(crate) fn of_lanes<'a, A: Allocator>(op: Op, args: &'a [Arg<A>]) -> Option<Instruction<'a, A>> {
     let [a] = args else {
         return None;
@@ -1974,28 +1159,6 @@ pub(crate) fn of_lanes<'a, A: Allocator>(op: Op, args: &'a [Arg<A>]) -> Option<I
 }
 
 /// Returns the instruction with this opcode and these arguments: labels and a default label.
-///
-/// # Asks
-///
-/// [What happens otherwise](crate::fallible#what-is-asked).
-///
-/// ```text
-/// requires { shape_of table op ≡ Some shapes.Bt }
-/// ```
-///
-/// Definitions: [`shape_of`](crate::definitions::insn::plain::shape_of), [`table`](crate::definitions::insn::table::table). [How to read clauses](crate::definitions).
-///
-/// # Proved
-///
-/// In any case: `some`, the instruction has this opcode and these immediates; `other`, the table has no row for the opcode, or the arguments are not of the types of its shape, or flags of a cast are above 3.
-///
-/// ```text
-/// ensures some { IfSome result
-///     (λ i. row_of i ≡ record { op = op; arguments = map argument_view args.now }) }
-/// ensures other { IfNone result (IsNoInstruction op (map argument_view args.now)) }
-/// ```
-///
-/// Definitions: [`row_of`](crate::definitions::insn::instructions::row_of), [`argument_view`](crate::definitions::insn::views::argument_view), [`IsNoInstruction`](crate::definitions::reader::conversions::IsNoInstruction). [How to read clauses](crate::definitions).
 pub(crate) fn of_labels<'a, A: Allocator>(op: Op, args: &'a [Arg<A>]) -> Option<Instruction<'a, A>> {
     let [a, b] = args else {
         return None;
@@ -2004,28 +1167,6 @@ pub(crate) fn of_labels<'a, A: Allocator>(op: Op, args: &'a [Arg<A>]) -> Option<
 }
 
 /// Returns the instruction with this opcode and these arguments: a block type and catch clauses.
-///
-/// # Asks
-///
-/// [What happens otherwise](crate::fallible#what-is-asked).
-///
-/// ```text
-/// requires { shape_of table op ≡ Some shapes.Tt }
-/// ```
-///
-/// Definitions: [`shape_of`](crate::definitions::insn::plain::shape_of), [`table`](crate::definitions::insn::table::table). [How to read clauses](crate::definitions).
-///
-/// # Proved
-///
-/// In any case: `some`, the instruction has this opcode and these immediates; `other`, the table has no row for the opcode, or the arguments are not of the types of its shape, or flags of a cast are above 3.
-///
-/// ```text
-/// ensures some { IfSome result
-///     (λ i. row_of i ≡ record { op = op; arguments = map argument_view args.now }) }
-/// ensures other { IfNone result (IsNoInstruction op (map argument_view args.now)) }
-/// ```
-///
-/// Definitions: [`row_of`](crate::definitions::insn::instructions::row_of), [`argument_view`](crate::definitions::insn::views::argument_view), [`IsNoInstruction`](crate::definitions::reader::conversions::IsNoInstruction). [How to read clauses](crate::definitions).
 pub(crate) fn of_clauses<'a, A: Allocator>(op: Op, args: &'a [Arg<A>]) -> Option<Instruction<'a, A>> {
     let [a, b] = args else {
         return None;
@@ -2034,28 +1175,6 @@ pub(crate) fn of_clauses<'a, A: Allocator>(op: Op, args: &'a [Arg<A>]) -> Option
 }
 
 /// Returns the instruction with this opcode and these arguments: value types.
-///
-/// # Asks
-///
-/// [What happens otherwise](crate::fallible#what-is-asked).
-///
-/// ```text
-/// requires { shape_of table op ≡ Some shapes.Ts }
-/// ```
-///
-/// Definitions: [`shape_of`](crate::definitions::insn::plain::shape_of), [`table`](crate::definitions::insn::table::table). [How to read clauses](crate::definitions).
-///
-/// # Proved
-///
-/// In any case: `some`, the instruction has this opcode and these immediates; `other`, the table has no row for the opcode, or the arguments are not of the types of its shape, or flags of a cast are above 3.
-///
-/// ```text
-/// ensures some { IfSome result
-///     (λ i. row_of i ≡ record { op = op; arguments = map argument_view args.now }) }
-/// ensures other { IfNone result (IsNoInstruction op (map argument_view args.now)) }
-/// ```
-///
-/// Definitions: [`row_of`](crate::definitions::insn::instructions::row_of), [`argument_view`](crate::definitions::insn::views::argument_view), [`IsNoInstruction`](crate::definitions::reader::conversions::IsNoInstruction). [How to read clauses](crate::definitions).
 pub(crate) fn of_types<'a, A: Allocator>(op: Op, args: &'a [Arg<A>]) -> Option<Instruction<'a, A>> {
     let [a] = args else {
         return None;
@@ -2064,28 +1183,6 @@ pub(crate) fn of_types<'a, A: Allocator>(op: Op, args: &'a [Arg<A>]) -> Option<I
 }
 
 /// Returns the instruction with this opcode and these arguments: a number and handle clauses.
-///
-/// # Asks
-///
-/// [What happens otherwise](crate::fallible#what-is-asked).
-///
-/// ```text
-/// requires { shape_of table op ≡ Some shapes.Uh }
-/// ```
-///
-/// Definitions: [`shape_of`](crate::definitions::insn::plain::shape_of), [`table`](crate::definitions::insn::table::table). [How to read clauses](crate::definitions).
-///
-/// # Proved
-///
-/// In any case: `some`, the instruction has this opcode and these immediates; `other`, the table has no row for the opcode, or the arguments are not of the types of its shape, or flags of a cast are above 3.
-///
-/// ```text
-/// ensures some { IfSome result
-///     (λ i. row_of i ≡ record { op = op; arguments = map argument_view args.now }) }
-/// ensures other { IfNone result (IsNoInstruction op (map argument_view args.now)) }
-/// ```
-///
-/// Definitions: [`row_of`](crate::definitions::insn::instructions::row_of), [`argument_view`](crate::definitions::insn::views::argument_view), [`IsNoInstruction`](crate::definitions::reader::conversions::IsNoInstruction). [How to read clauses](crate::definitions).
 pub(crate) fn of_handles<'a, A: Allocator>(op: Op, args: &'a [Arg<A>]) -> Option<Instruction<'a, A>> {
     let [a, b] = args else {
         return None;
@@ -2094,28 +1191,6 @@ pub(crate) fn of_handles<'a, A: Allocator>(op: Op, args: &'a [Arg<A>]) -> Option
 }
 
 /// Returns the instruction with this opcode and these arguments: two numbers and handle clauses.
-///
-/// # Asks
-///
-/// [What happens otherwise](crate::fallible#what-is-asked).
-///
-/// ```text
-/// requires { shape_of table op ≡ Some shapes.Uuh }
-/// ```
-///
-/// Definitions: [`shape_of`](crate::definitions::insn::plain::shape_of), [`table`](crate::definitions::insn::table::table). [How to read clauses](crate::definitions).
-///
-/// # Proved
-///
-/// In any case: `some`, the instruction has this opcode and these immediates; `other`, the table has no row for the opcode, or the arguments are not of the types of its shape, or flags of a cast are above 3.
-///
-/// ```text
-/// ensures some { IfSome result
-///     (λ i. row_of i ≡ record { op = op; arguments = map argument_view args.now }) }
-/// ensures other { IfNone result (IsNoInstruction op (map argument_view args.now)) }
-/// ```
-///
-/// Definitions: [`row_of`](crate::definitions::insn::instructions::row_of), [`argument_view`](crate::definitions::insn::views::argument_view), [`IsNoInstruction`](crate::definitions::reader::conversions::IsNoInstruction). [How to read clauses](crate::definitions).
 pub(crate) fn of_numbers_handles<'a, A: Allocator>(
     op: Op,
     args: &'a [Arg<A>],

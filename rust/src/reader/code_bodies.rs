@@ -127,15 +127,6 @@ impl<'a, A: Allocator + Copy> Bodies<'a, A> {
     }
 
     /// Ends the iteration with this error.
-    ///
-    /// # Proved
-    ///
-    /// ```text
-    /// ensures error { result ≡ Some (Err error) }
-    /// ensures ended { self.new ≡ record { left = 0; rest = []; end = self.old.end } }
-    /// ```
-    ///
-    /// [How to read clauses](crate::definitions).
     fn fail(&mut self, error: ReadError) -> Option<Result<CodeBody<'a, A>, ReadError>> {
         self.left = 0;
         self.rest = b"";

@@ -8,15 +8,6 @@ use crate::immediates::{BlockType, Catch, Handle, Ieee32, Ieee64, Lane, MemArg, 
 use crate::insn::{Arg, Instruction, Op, Shape};
 
 /// Returns a number, or `None` if the argument is another.
-///
-/// # Proved
-///
-/// ```text
-/// ensures some { IfSome result (λ x. argument_view arg.now ≡ unsigned x) }
-/// ensures other { IfNone result (part_of (argument_view arg.now) ≢ parts.Unsigned) }
-/// ```
-///
-/// Definitions: [`argument_view`](crate::definitions::insn::views::argument_view), [`unsigned`](crate::definitions::insn::arguments::Argument), [`part_of`](crate::definitions::insn::arguments::part_of). [How to read clauses](crate::definitions).
 pub(crate) fn number_of<A: Allocator>(arg: &Arg<A>) -> Option<u32> {
     match arg {
         Arg::U32(found) => Some(*found),
@@ -25,15 +16,6 @@ pub(crate) fn number_of<A: Allocator>(arg: &Arg<A>) -> Option<u32> {
 }
 
 /// Returns a signed number of 32 bits, or `None` if the argument is another.
-///
-/// # Proved
-///
-/// ```text
-/// ensures some { IfSome result (λ x. argument_view arg.now ≡ signed32 x) }
-/// ensures other { IfNone result (part_of (argument_view arg.now) ≢ parts.Signed32) }
-/// ```
-///
-/// Definitions: [`argument_view`](crate::definitions::insn::views::argument_view), [`signed32`](crate::definitions::insn::arguments::Argument), [`part_of`](crate::definitions::insn::arguments::part_of). [How to read clauses](crate::definitions).
 pub(crate) fn signed32_of<A: Allocator>(arg: &Arg<A>) -> Option<i32> {
     match arg {
         Arg::S32(found) => Some(*found),
@@ -42,15 +24,6 @@ pub(crate) fn signed32_of<A: Allocator>(arg: &Arg<A>) -> Option<i32> {
 }
 
 /// Returns a signed number of 64 bits, or `None` if the argument is another.
-///
-/// # Proved
-///
-/// ```text
-/// ensures some { IfSome result (λ x. argument_view arg.now ≡ signed64 x) }
-/// ensures other { IfNone result (part_of (argument_view arg.now) ≢ parts.Signed64) }
-/// ```
-///
-/// Definitions: [`argument_view`](crate::definitions::insn::views::argument_view), [`signed64`](crate::definitions::insn::arguments::Argument), [`part_of`](crate::definitions::insn::arguments::part_of). [How to read clauses](crate::definitions).
 pub(crate) fn signed64_of<A: Allocator>(arg: &Arg<A>) -> Option<i64> {
     match arg {
         Arg::S64(found) => Some(*found),
@@ -59,15 +32,6 @@ pub(crate) fn signed64_of<A: Allocator>(arg: &Arg<A>) -> Option<i64> {
 }
 
 /// Returns a float of 32 bits, or `None` if the argument is another.
-///
-/// # Proved
-///
-/// ```text
-/// ensures some { IfSome result (λ x. argument_view arg.now ≡ float32 x) }
-/// ensures other { IfNone result (part_of (argument_view arg.now) ≢ parts.Float32) }
-/// ```
-///
-/// Definitions: [`argument_view`](crate::definitions::insn::views::argument_view), [`float32`](crate::definitions::insn::arguments::Argument), [`part_of`](crate::definitions::insn::arguments::part_of). [How to read clauses](crate::definitions).
 pub(crate) fn float32_of<A: Allocator>(arg: &Arg<A>) -> Option<Ieee32> {
     match arg {
         Arg::F32(found) => Some(*found),
@@ -76,15 +40,6 @@ pub(crate) fn float32_of<A: Allocator>(arg: &Arg<A>) -> Option<Ieee32> {
 }
 
 /// Returns a float of 64 bits, or `None` if the argument is another.
-///
-/// # Proved
-///
-/// ```text
-/// ensures some { IfSome result (λ x. argument_view arg.now ≡ float64 x) }
-/// ensures other { IfNone result (part_of (argument_view arg.now) ≢ parts.Float64) }
-/// ```
-///
-/// Definitions: [`argument_view`](crate::definitions::insn::views::argument_view), [`float64`](crate::definitions::insn::arguments::Argument), [`part_of`](crate::definitions::insn::arguments::part_of). [How to read clauses](crate::definitions).
 pub(crate) fn float64_of<A: Allocator>(arg: &Arg<A>) -> Option<Ieee64> {
     match arg {
         Arg::F64(found) => Some(*found),
@@ -93,15 +48,6 @@ pub(crate) fn float64_of<A: Allocator>(arg: &Arg<A>) -> Option<Ieee64> {
 }
 
 /// Returns a vector, or `None` if the argument is another.
-///
-/// # Proved
-///
-/// ```text
-/// ensures some { IfSome result (λ x. argument_view arg.now ≡ vector x) }
-/// ensures other { IfNone result (part_of (argument_view arg.now) ≢ parts.Vector) }
-/// ```
-///
-/// Definitions: [`argument_view`](crate::definitions::insn::views::argument_view), [`vector`](crate::definitions::insn::arguments::Argument), [`part_of`](crate::definitions::insn::arguments::part_of). [How to read clauses](crate::definitions).
 pub(crate) fn vector_of<A: Allocator>(arg: &Arg<A>) -> Option<i128> {
     match arg {
         Arg::V128(found) => Some(*found),
@@ -110,15 +56,6 @@ pub(crate) fn vector_of<A: Allocator>(arg: &Arg<A>) -> Option<i128> {
 }
 
 /// Returns a memory argument, or `None` if the argument is another.
-///
-/// # Proved
-///
-/// ```text
-/// ensures some { IfSome result (λ x. argument_view arg.now ≡ memory x) }
-/// ensures other { IfNone result (part_of (argument_view arg.now) ≢ parts.Memory) }
-/// ```
-///
-/// Definitions: [`argument_view`](crate::definitions::insn::views::argument_view), [`memory`](crate::definitions::insn::arguments::Argument), [`part_of`](crate::definitions::insn::arguments::part_of). [How to read clauses](crate::definitions).
 pub(crate) fn memory_of<A: Allocator>(arg: &Arg<A>) -> Option<MemArg> {
     match arg {
         Arg::Mem(found) => Some(*found),
@@ -127,15 +64,6 @@ pub(crate) fn memory_of<A: Allocator>(arg: &Arg<A>) -> Option<MemArg> {
 }
 
 /// Returns a lane, or `None` if the argument is another.
-///
-/// # Proved
-///
-/// ```text
-/// ensures some { IfSome result (λ x. argument_view arg.now ≡ lane x) }
-/// ensures other { IfNone result (part_of (argument_view arg.now) ≢ parts.Lane) }
-/// ```
-///
-/// Definitions: [`argument_view`](crate::definitions::insn::views::argument_view), [`lane`](crate::definitions::insn::arguments::Argument), [`part_of`](crate::definitions::insn::arguments::part_of). [How to read clauses](crate::definitions).
 pub(crate) fn lane_of<A: Allocator>(arg: &Arg<A>) -> Option<Lane> {
     match arg {
         Arg::Lane(found) => Some(*found),
@@ -144,15 +72,6 @@ pub(crate) fn lane_of<A: Allocator>(arg: &Arg<A>) -> Option<Lane> {
 }
 
 /// Returns sixteen lanes, or `None` if the argument is another.
-///
-/// # Proved
-///
-/// ```text
-/// ensures some { IfSome result (λ x. argument_view arg.now ≡ lanes x) }
-/// ensures other { IfNone result (part_of (argument_view arg.now) ≢ parts.Lanes) }
-/// ```
-///
-/// Definitions: [`argument_view`](crate::definitions::insn::views::argument_view), [`lanes`](crate::definitions::insn::arguments::Argument), [`part_of`](crate::definitions::insn::arguments::part_of). [How to read clauses](crate::definitions).
 pub(crate) fn lanes_of<A: Allocator>(arg: &Arg<A>) -> Option<[Lane; 16]> {
     match arg {
         Arg::Lanes(found) => Some(*found),
@@ -161,15 +80,6 @@ pub(crate) fn lanes_of<A: Allocator>(arg: &Arg<A>) -> Option<[Lane; 16]> {
 }
 
 /// Returns a block type, or `None` if the argument is another.
-///
-/// # Proved
-///
-/// ```text
-/// ensures some { IfSome result (λ x. argument_view arg.now ≡ block x) }
-/// ensures other { IfNone result (part_of (argument_view arg.now) ≢ parts.Block) }
-/// ```
-///
-/// Definitions: [`argument_view`](crate::definitions::insn::views::argument_view), [`block`](crate::definitions::insn::arguments::Argument), [`part_of`](crate::definitions::insn::arguments::part_of). [How to read clauses](crate::definitions).
 pub(crate) fn block_of<A: Allocator>(arg: &Arg<A>) -> Option<BlockType> {
     match arg {
         Arg::Block(found) => Some(*found),
@@ -178,15 +88,6 @@ pub(crate) fn block_of<A: Allocator>(arg: &Arg<A>) -> Option<BlockType> {
 }
 
 /// Returns a heap type, or `None` if the argument is another.
-///
-/// # Proved
-///
-/// ```text
-/// ensures some { IfSome result (λ x. argument_view arg.now ≡ heap x) }
-/// ensures other { IfNone result (part_of (argument_view arg.now) ≢ parts.Heap) }
-/// ```
-///
-/// Definitions: [`argument_view`](crate::definitions::insn::views::argument_view), [`heap`](crate::definitions::insn::arguments::Argument), [`part_of`](crate::definitions::insn::arguments::part_of). [How to read clauses](crate::definitions).
 pub(crate) fn heap_of<A: Allocator>(arg: &Arg<A>) -> Option<HeapType> {
     match arg {
         Arg::Heap(found) => Some(*found),
@@ -195,15 +96,6 @@ pub(crate) fn heap_of<A: Allocator>(arg: &Arg<A>) -> Option<HeapType> {
 }
 
 /// Returns an ordering, or `None` if the argument is another.
-///
-/// # Proved
-///
-/// ```text
-/// ensures some { IfSome result (λ x. argument_view arg.now ≡ ordering x) }
-/// ensures other { IfNone result (part_of (argument_view arg.now) ≢ parts.Ordering) }
-/// ```
-///
-/// Definitions: [`argument_view`](crate::definitions::insn::views::argument_view), [`ordering`](crate::definitions::insn::arguments::Argument), [`part_of`](crate::definitions::insn::arguments::part_of). [How to read clauses](crate::definitions).
 pub(crate) fn ordering_of<A: Allocator>(arg: &Arg<A>) -> Option<Ordering> {
     match arg {
         Arg::Order(found) => Some(*found),
@@ -212,15 +104,6 @@ pub(crate) fn ordering_of<A: Allocator>(arg: &Arg<A>) -> Option<Ordering> {
 }
 
 /// Returns labels, or `None` if the argument is another.
-///
-/// # Proved
-///
-/// ```text
-/// ensures some { IfSome result (λ x. argument_view arg.now ≡ labels x.now) }
-/// ensures other { IfNone result (part_of (argument_view arg.now) ≢ parts.Labels) }
-/// ```
-///
-/// Definitions: [`argument_view`](crate::definitions::insn::views::argument_view), [`labels`](crate::definitions::insn::arguments::Argument), [`part_of`](crate::definitions::insn::arguments::part_of). [How to read clauses](crate::definitions).
 pub(crate) fn labels_of<A: Allocator>(arg: &Arg<A>) -> Option<&[u32]> {
     match arg {
         Arg::Labels(found) => Some(found.as_slice()),
@@ -229,15 +112,6 @@ pub(crate) fn labels_of<A: Allocator>(arg: &Arg<A>) -> Option<&[u32]> {
 }
 
 /// Returns catch clauses, or `None` if the argument is another.
-///
-/// # Proved
-///
-/// ```text
-/// ensures some { IfSome result (λ x. argument_view arg.now ≡ catches x.now) }
-/// ensures other { IfNone result (part_of (argument_view arg.now) ≢ parts.Catches) }
-/// ```
-///
-/// Definitions: [`argument_view`](crate::definitions::insn::views::argument_view), [`catches`](crate::definitions::insn::arguments::Argument), [`part_of`](crate::definitions::insn::arguments::part_of). [How to read clauses](crate::definitions).
 pub(crate) fn catches_of<A: Allocator>(arg: &Arg<A>) -> Option<&[Catch]> {
     match arg {
         Arg::Catches(found) => Some(found.as_slice()),
@@ -246,15 +120,6 @@ pub(crate) fn catches_of<A: Allocator>(arg: &Arg<A>) -> Option<&[Catch]> {
 }
 
 /// Returns value types, or `None` if the argument is another.
-///
-/// # Proved
-///
-/// ```text
-/// ensures some { IfSome result (λ x. argument_view arg.now ≡ types x.now) }
-/// ensures other { IfNone result (part_of (argument_view arg.now) ≢ parts.Types) }
-/// ```
-///
-/// Definitions: [`argument_view`](crate::definitions::insn::views::argument_view), [`types`](crate::definitions::insn::arguments::Argument), [`part_of`](crate::definitions::insn::arguments::part_of). [How to read clauses](crate::definitions).
 pub(crate) fn types_of<A: Allocator>(arg: &Arg<A>) -> Option<&[ValType]> {
     match arg {
         Arg::Types(found) => Some(found.as_slice()),
@@ -263,15 +128,6 @@ pub(crate) fn types_of<A: Allocator>(arg: &Arg<A>) -> Option<&[ValType]> {
 }
 
 /// Returns handle clauses, or `None` if the argument is another.
-///
-/// # Proved
-///
-/// ```text
-/// ensures some { IfSome result (λ x. argument_view arg.now ≡ handles x.now) }
-/// ensures other { IfNone result (part_of (argument_view arg.now) ≢ parts.Handles) }
-/// ```
-///
-/// Definitions: [`argument_view`](crate::definitions::insn::views::argument_view), [`handles`](crate::definitions::insn::arguments::Argument), [`part_of`](crate::definitions::insn::arguments::part_of). [How to read clauses](crate::definitions).
 pub(crate) fn handles_of<A: Allocator>(arg: &Arg<A>) -> Option<&[Handle]> {
     match arg {
         Arg::Handles(found) => Some(found.as_slice()),
@@ -280,15 +136,6 @@ pub(crate) fn handles_of<A: Allocator>(arg: &Arg<A>) -> Option<&[Handle]> {
 }
 
 /// Returns the flags of a cast, or `None` if the argument is another.
-///
-/// # Proved
-///
-/// ```text
-/// ensures some { IfSome result (λ x. argument_view arg.now ≡ flag x) }
-/// ensures other { IfNone result (part_of (argument_view arg.now) ≢ parts.Flag) }
-/// ```
-///
-/// Definitions: [`argument_view`](crate::definitions::insn::views::argument_view), [`flag`](crate::definitions::insn::arguments::Argument), [`part_of`](crate::definitions::insn::arguments::part_of). [How to read clauses](crate::definitions).
 pub(crate) fn flag_of<A: Allocator>(arg: &Arg<A>) -> Option<u8> {
     match arg {
         Arg::Flag(found) => Some(*found),
@@ -297,15 +144,6 @@ pub(crate) fn flag_of<A: Allocator>(arg: &Arg<A>) -> Option<u8> {
 }
 
 /// Returns whether each of the two types of a cast is nullable, by the flags.
-///
-/// # Proved
-///
-/// ```text
-/// ensures some { IfSome result (λ x. flags ≡ bit_of x.0 + 2 * bit_of x.1) }
-/// ensures other { IfNone result (4 ≤ flags) }
-/// ```
-///
-/// Definitions: [`bit_of`](crate::definitions::insn::instructions::bit_of). [How to read clauses](crate::definitions).
 fn nullable(flags: u8) -> Option<(bool, bool)> {
     match flags {
         0 => Some((false, false)),
@@ -317,28 +155,6 @@ fn nullable(flags: u8) -> Option<(bool, bool)> {
 }
 
 /// Returns the cast with these arguments.
-///
-/// # Asks
-///
-/// [What happens otherwise](crate::fallible#what-is-asked).
-///
-/// ```text
-/// requires { shape_of table op ≡ Some shapes.K }
-/// ```
-///
-/// Definitions: [`shape_of`](crate::definitions::insn::plain::shape_of), [`table`](crate::definitions::insn::table::table). [How to read clauses](crate::definitions).
-///
-/// # Proved
-///
-/// In any case: `some`, the instruction has this opcode and these immediates; `other`, the table has no row for the opcode, or the arguments are not of the types of its shape, or flags of a cast are above 3.
-///
-/// ```text
-/// ensures some { IfSome result
-///     (λ i. row_of i ≡ record { op = op; arguments = map argument_view args.now }) }
-/// ensures other { IfNone result (IsNoInstruction op (map argument_view args.now)) }
-/// ```
-///
-/// Definitions: [`row_of`](crate::definitions::insn::instructions::row_of), [`argument_view`](crate::definitions::insn::views::argument_view), [`IsNoInstruction`](crate::definitions::reader::conversions::IsNoInstruction). [How to read clauses](crate::definitions).
 fn cast<'a, A: Allocator>(op: Op, args: &'a [Arg<A>]) -> Option<Instruction<'a, A>> {
     let [flags, label, from, to] = args else {
         return None;

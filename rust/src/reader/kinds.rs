@@ -243,14 +243,6 @@ pub enum Items<'a, A: Allocator = Global> {
 }
 
 /// Returns the kind of a section of this id.
-///
-/// # Proved
-///
-/// ```text
-/// ensures { result ≡ kind_among_ids id }
-/// ```
-///
-/// Definitions: [`kind_among_ids`](crate::definitions::reader::kinds::kind_of_id). [How to read clauses](crate::definitions).
 pub(crate) fn kind_of_id(id: u8) -> SectionKind {
     match id {
         0 => SectionKind::Custom,
@@ -271,14 +263,6 @@ pub(crate) fn kind_of_id(id: u8) -> SectionKind {
 }
 
 /// Returns the kind of a custom section of one of these names, and `Custom` for all others.
-///
-/// # Proved
-///
-/// ```text
-/// ensures { result ≡ kind_among_names known_names name.now }
-/// ```
-///
-/// Definitions: [`kind_among_names`](crate::definitions::reader::kinds::kind_among_names), [`known_names`](crate::definitions::reader::kinds::known_names). [How to read clauses](crate::definitions).
 fn kind_of_whole_name(name: &str) -> SectionKind {
     match name {
         "name" => SectionKind::Names,
@@ -299,14 +283,6 @@ fn kind_of_whole_name(name: &str) -> SectionKind {
 }
 
 /// Returns the kind of a custom section of this name.
-///
-/// # Proved
-///
-/// ```text
-/// ensures { result ≡ kind_named name.now }
-/// ```
-///
-/// Definitions: [`kind_named`](crate::definitions::reader::kinds::kind_named). [How to read clauses](crate::definitions).
 pub(crate) fn kind_of_name(name: &str) -> SectionKind {
     if name.as_bytes().starts_with(b"reloc.") {
         SectionKind::Relocations
@@ -316,20 +292,6 @@ pub(crate) fn kind_of_name(name: &str) -> SectionKind {
 }
 
 /// Decodes the payload of a section of this kind.
-///
-/// # Proved
-///
-/// After `Ok`: `found`, the bytes as a whole encode the value. After an error: `none`, the bytes as a whole are no such encoding, unless the cause is `Memory`.
-///
-/// ```text
-/// ensures found { IfOk result
-///     (λ x. content kind (padded_of G.grammar) bytes.now (contents_of x)) }
-/// ensures none { IfErr result
-///     (λ e. e.cause ≢ Memory → RejectsWhole (content kind)
-///         (padded_of G.grammar) bytes.now) }
-/// ```
-///
-/// Definitions: [`content`](crate::definitions::reader::kinds::content), [`padded_of`](crate::definitions::base::numbers::padded_of), [`contents_of`](crate::definitions::reader::kinds::contents_of), [`RejectsWhole`](crate::definitions::base::continuing::RejectsWhole). [How to read clauses](crate::definitions).
 pub(crate) fn read_content<'a, A: Allocator + Copy + 'a, G: Grammar>(
     kind: SectionKind,
     bytes: &'a [u8],
@@ -407,21 +369,6 @@ pub(crate) fn read_content<'a, A: Allocator + Copy + 'a, G: Grammar>(
 
 /// Appends the minimal encoding of a custom section's payload: its name, and its data. On an error,
 /// the sink is unchanged.
-///
-/// # Proved
-///
-/// After `Ok`: `ok`, the sink gains the encoding that is minimal in both grammars. After an error: `err`, the bytes of the sink are unchanged. In any case: `too_long`, a value that has an encoding never gives `TooLong`.
-///
-/// ```text
-/// ensures ok { OnOk result
-///     (AppendsMinimal both_grammars (content kinds.Custom)
-///         (Custom (name.now, bytes.now)) sink.old.items sink.new.items) }
-/// ensures err { OnErr result (sink.new.items ≡ sink.old.items) }
-/// ensures too_long { HasEncoding both_grammars (content kinds.Custom)
-///     (Custom (name.now, bytes.now)) → result ≢ Err TooLong }
-/// ```
-///
-/// Definitions: [`AppendsMinimal`](crate::definitions::base::minimal::AppendsMinimal), [`both_grammars`](crate::definitions::base::minimal::Grammars), [`content`](crate::definitions::reader::kinds::content), [`Custom`](crate::definitions::reader::kinds::Contents), [`HasEncoding`](crate::definitions::base::minimal::HasEncoding). [How to read clauses](crate::definitions).
 fn append_custom<B: Sink>(name: &str, bytes: &[u8], sink: &mut B) -> Result<()> {
     let start = sink.len();
     name.append_minimal(sink)?;

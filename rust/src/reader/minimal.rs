@@ -8,23 +8,6 @@ use crate::alloc::Allocator;
 use crate::base::{DecodeError, Grammar, Padded, ReadFault, Readable, prefix_size_since};
 
 /// Minimizes the payload of a section of this kind. No list of items is kept.
-///
-/// # Proved
-///
-/// - After `Ok`, `found`: The bytes as a whole decode to a value in this grammar, and the call appends the minimal encoding of the value in this grammar.
-/// - After an error, `none`: the bytes as a whole are no such encoding, unless the cause is `Memory`.
-/// - `front`: The new bytes begin with the old ones.
-///
-/// ```text
-/// ensures found { OnOk result
-///     (MinimizesWhole G.grammar (content kind) bytes.now sink.old.items sink.new.items) }
-/// ensures front { IsFrontOf sink.old.items sink.new.items }
-/// ensures none { IfErr result
-///     (λ e. e.cause ≢ Memory → RejectsWhole (content kind)
-///         (padded_of G.grammar) bytes.now) }
-/// ```
-///
-/// Definitions: [`MinimizesWhole`](crate::definitions::base::minimal::MinimizesWhole), [`content`](crate::definitions::reader::kinds::content), [`IsFrontOf`](crate::definitions::base::minimal::IsFrontOf), [`RejectsWhole`](crate::definitions::base::continuing::RejectsWhole), [`padded_of`](crate::definitions::base::numbers::padded_of). [How to read clauses](crate::definitions).
 pub(crate) fn minimize_content<A: Allocator + Copy, G: Grammar, B: Sink>(
     kind: SectionKind,
     bytes: &[u8],
@@ -35,23 +18,6 @@ pub(crate) fn minimize_content<A: Allocator + Copy, G: Grammar, B: Sink>(
 }
 
 /// Minimizes the section at the front, without its id, and returns the remaining bytes.
-///
-/// # Proved
-///
-/// - After `Ok`, `found`: A value decodes from the front of the bytes in this grammar, and `rest` follows it. The call appends the minimal encoding of the value in this grammar.
-/// - After an error, `none`: the bytes do not begin with such an encoding, unless the cause is `Memory`.
-/// - `front`: The new bytes begin with the old ones.
-///
-/// ```text
-/// ensures found { IfOk result
-///     (λ rest. Minimizes G.grammar
-///         (section kind) bytes.now rest.now sink.old.items sink.new.items) }
-/// ensures front { IsFrontOf sink.old.items sink.new.items }
-/// ensures none { IfErr result
-///     (λ e. e.cause ≢ Memory → Rejects (section kind) (padded_of G.grammar) bytes.now) }
-/// ```
-///
-/// Definitions: [`Minimizes`](crate::definitions::base::minimal::Minimizes), [`section`](crate::definitions::reader::sections::section), [`IsFrontOf`](crate::definitions::base::minimal::IsFrontOf), [`Rejects`](crate::definitions::base::decoding::Rejects), [`padded_of`](crate::definitions::base::numbers::padded_of). [How to read clauses](crate::definitions).
 fn minimize_section<'a, A: Allocator + Copy, G: Grammar, B: Sink>(
     kind: SectionKind,
     bytes: &'a [u8],
@@ -114,22 +80,6 @@ pub fn shorten<A: Allocator + Copy>(
 }
 
 /// Does what [`shorten`] does, in a grammar and with another allocator for decoded items.
-///
-/// # Proved
-///
-/// - After `Ok`, `ok`: The first `n` bytes are a section of this kind in this grammar. The buffer gains its minimal encoding in the grammar, which has at most `n` bytes.
-/// - After an error, `err`: the bytes of the sink are unchanged.
-/// - After an error, `none`: the bytes do not begin with such an encoding, unless the cause is `Memory`.
-///
-/// ```text
-/// ensures ok { IfOk result
-///     (λ n. ShortensIn G.grammar kind bytes.now n sink.old.items sink.new.items) }
-/// ensures err { OnErr result (sink.new.items ≡ sink.old.items) }
-/// ensures none { IfErr result
-///     (λ e. e ≢ Memory → Rejects (section kind) (padded_of G.grammar) bytes.now) }
-/// ```
-///
-/// Definitions: [`ShortensIn`](crate::definitions::reader::sections::ShortensIn), [`Rejects`](crate::definitions::base::decoding::Rejects), [`section`](crate::definitions::reader::sections::section), [`padded_of`](crate::definitions::base::numbers::padded_of). [How to read clauses](crate::definitions).
 pub(crate) fn shorten_in<A: Allocator + Copy, G: Grammar, B: Sink>(
     alloc: A,
     kind: SectionKind,

@@ -40,20 +40,6 @@ pub struct Listed {
 }
 
 /// Decodes the header, and returns the remaining bytes.
-///
-/// # Proved
-///
-/// - After `Ok`, `found`: the header is at the front, and the returned bytes follow it.
-/// - After an error, `none`: the bytes do not begin with such an encoding.
-/// - After an error, `cause`: The cause of the error of bytes that do not begin with the header: they end before it does, or one of its bytes differs.
-///
-/// ```text
-/// ensures found { IfOk result (λ rest. bytes.now ≡ header ++ rest.now) }
-/// ensures none { IfErr result (λ _. Rejects (fixed header (tt {0})) padded bytes.now) }
-/// ensures cause { IfErr result (λ e. IsHeaderCause bytes.now e) }
-/// ```
-///
-/// Definitions: [`header`](crate::definitions::base::formats::header), [`Rejects`](crate::definitions::base::decoding::Rejects), [`fixed`](crate::definitions::base::formats::fixed), [`padded`](crate::definitions::base::numbers::Mode), [`IsHeaderCause`](crate::definitions::reader::outlines::IsHeaderCause). [How to read clauses](crate::definitions).
 pub(crate) fn read_header(bytes: &[u8]) -> Result<&[u8], ReadFault> {
     match bytes.split_first_chunk::<8>() {
         None => Err(ReadFault::Ended),
@@ -68,24 +54,6 @@ pub(crate) fn read_header(bytes: &[u8]) -> Result<&[u8], ReadFault> {
 }
 
 /// Returns the line of a section.
-///
-/// # Proved
-///
-/// After an error: `none`, the bytes as a whole are no such encoding, unless the cause is `Memory`.
-///
-/// ```text
-/// ensures found { IfOk result
-///     (λ line. (x : Contents) × content
-///         (kind_of_id section.now.section.id) padded section.now.section.payload x
-///         × (line ≡ line_of (section.now.section.id,
-///                 (length section.now.section.payload, x)))) }
-/// ensures none { IfErr result
-///     (λ e. e ≢ Memory → RejectsWhole
-///         (content (kind_of_id section.now.section.id)) padded
-///         section.now.section.payload) }
-/// ```
-///
-/// Definitions: [`Contents`](crate::definitions::reader::kinds::Contents), [`content`](crate::definitions::reader::kinds::content), [`kind_of_id`](crate::definitions::reader::kinds::kind_of_id), [`padded`](crate::definitions::base::numbers::Mode), [`line_of`](crate::definitions::reader::modules::line_of), [`RejectsWhole`](crate::definitions::base::continuing::RejectsWhole). [How to read clauses](crate::definitions).
 fn line_of<A: Allocator + Copy>(section: &Section<'_, A>) -> Result<Listed, ReadFault> {
     let id = section.id();
     let items = count_content::<A, Padded>(kind_of_id(id), section.payload(), section.allocator())?;

@@ -43,20 +43,6 @@ pub struct Outlined<'a> {
 
 /// Returns the number of items of a section, if its payload decodes as its kind and the items are
 /// counted. Those of custom sections are not, so their payloads are not decoded.
-///
-/// # Proved
-///
-/// - After `Ok`, `found`: The payload decodes to this number of items of the kind. There is no number if it does not decode, or if its items are not counted.
-/// - After an error, `memory`: the cause is `Memory`.
-///
-/// ```text
-/// ensures found { IfOk result
-///     (λ count. IsCount (section_kind_of section.now.section) section.now.section.payload
-///         count) }
-/// ensures memory { IfErr result (λ e. e ≡ Memory) }
-/// ```
-///
-/// Definitions: [`IsCount`](crate::definitions::reader::outlines::IsCount), [`section_kind_of`](crate::definitions::reader::outlines::section_kind_of). [How to read clauses](crate::definitions).
 fn count<A: Allocator + Copy>(section: &Section<'_, A>) -> Result<Option<u32>, ReadFault> {
     if section.id() == 0 {
         return Ok(None);
@@ -70,19 +56,6 @@ fn count<A: Allocator + Copy>(section: &Section<'_, A>) -> Result<Option<u32>, R
 }
 
 /// Returns the line of a section.
-///
-/// # Proved
-///
-/// - After `Ok`, `found`: The line describes a section whose id is at this offset.
-/// - After an error, `memory`: the cause is `Memory`.
-///
-/// ```text
-/// ensures found { IfOk result
-///     (λ line. IsOutline section.now.offset section.now.section line) }
-/// ensures memory { IfErr result (λ e. e ≡ Memory) }
-/// ```
-///
-/// Definitions: [`IsOutline`](crate::definitions::reader::outlines::IsOutline). [How to read clauses](crate::definitions).
 fn line_of<'a, A: Allocator + Copy>(section: &Section<'a, A>) -> Result<Outlined<'a>, ReadFault> {
     let items = count(section)?;
     Ok(Outlined {

@@ -30,29 +30,6 @@ pub struct ReadError {
 
 impl ReadError {
     /// Returns the error of a decoder. Its input had this size, and ended at the offset `end`.
-    ///
-    /// # Asks
-    ///
-    /// [What happens otherwise](crate::fallible#what-is-asked).
-    ///
-    /// ```text
-    /// requires { size ≤ end }
-    /// ```
-    ///
-    /// [How to read clauses](crate::definitions).
-    ///
-    /// # Proved
-    ///
-    /// In any case: `cause`, the result has the cause of the error.
-    ///
-    /// ```text
-    /// ensures cause { result.cause ≡ error.cause }
-    /// ensures offset { result.offset + min size error.left ≡ end }
-    /// ensures from { end ≤ result.offset + size }
-    /// ensures within { result.offset ≤ end }
-    /// ```
-    ///
-    /// [How to read clauses](crate::definitions).
     pub(crate) fn located(error: DecodeError, size: usize, end: usize) -> ReadError {
         let left = size.min(error.left() as usize);
         ReadError {

@@ -14,18 +14,6 @@ use core::ops::Range;
 use crate::base::Standard;
 
 /// Returns the length of the longest common prefix of two slices.
-///
-/// # Proved
-///
-/// ```text
-/// ensures within { result ≤ length bytes.now }
-/// ensures inside { result ≤ length other.now }
-/// ensures same { take result bytes.now ≡ take result other.now }
-/// ensures differs { result < length bytes.now → result < length other.now
-///     → take (suc result) bytes.now ≢ take (suc result) other.now }
-/// ```
-///
-/// [How to read clauses](crate::definitions).
 fn common_length(bytes: &[u8], other: &[u8]) -> usize {
     let mut count = 0;
     while count < bytes.len() && count < other.len() && bytes[count] == other[count] {
@@ -36,17 +24,6 @@ fn common_length(bytes: &[u8], other: &[u8]) -> usize {
 
 /// Returns the offset of the error of bytes that do not begin with the header: that of the first
 /// wrong byte, or the end of too few.
-///
-/// # Proved
-///
-/// ```text
-/// ensures short { length bytes.now < length header → result ≡ length bytes.now }
-/// ensures wrong { length header ≤ length bytes.now
-///     → Rejects (fixed header (tt {0})) padded bytes.now → IsFirstWrong bytes.now result }
-/// ensures within { result ≤ length bytes.now }
-/// ```
-///
-/// Definitions: [`header`](crate::definitions::base::formats::header), [`Rejects`](crate::definitions::base::decoding::Rejects), [`fixed`](crate::definitions::base::formats::fixed), [`padded`](crate::definitions::base::numbers::Mode), [`IsFirstWrong`](crate::definitions::reader::iterating::IsFirstWrong). [How to read clauses](crate::definitions).
 fn wrong_at(bytes: &[u8]) -> usize {
     if bytes.len() < HEADER.len() {
         return bytes.len();
@@ -234,14 +211,6 @@ impl<'a, A: Allocator + Copy> Section<'a, A> {
     }
 
     /// Returns the section without its offset.
-    ///
-    /// # Proved
-    ///
-    /// ```text
-    /// ensures { section_of result.now ≡ self.now.section }
-    /// ```
-    ///
-    /// Definitions: [`section_of`](crate::definitions::reader::outlines::section_of). [How to read clauses](crate::definitions).
     pub(crate) fn standing(&self) -> &Standing<'a> {
         &self.standing
     }

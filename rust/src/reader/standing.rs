@@ -21,14 +21,6 @@ pub(crate) struct Standing<'a> {
 
 impl Standing<'_> {
     /// Returns the kind that its payload is decoded as.
-    ///
-    /// # Proved
-    ///
-    /// ```text
-    /// ensures { result ≡ kind_of_section (section_of self.now) }
-    /// ```
-    ///
-    /// Definitions: [`kind_of_section`](crate::definitions::reader::outlines::section_kind_of), [`section_of`](crate::definitions::reader::outlines::section_of). [How to read clauses](crate::definitions).
     pub(crate) fn kind(&self) -> SectionKind {
         match self.name {
             Some(name) => kind_of_name(name),
@@ -39,18 +31,6 @@ impl Standing<'_> {
 }
 
 /// Returns the name of a custom section, if its payload begins with one, and the data after it.
-///
-/// # Proved
-///
-/// - `name`: The name of a section: that at the front of a custom section's payload. There is none if no name decodes there, or if the id is not 0.
-/// - `data`: The data of a section of this name: the bytes of the payload after the name, or all of them if there is no name.
-///
-/// ```text
-/// ensures name { IsNameOf id payload.now (option_map (λ n. n.now) result.0) }
-/// ensures data { IsDataOf (option_map (λ n. n.now) result.0) payload.now result.1.now }
-/// ```
-///
-/// Definitions: [`IsNameOf`](crate::definitions::reader::outlines::IsNameOf), [`IsDataOf`](crate::definitions::reader::outlines::IsDataOf). [How to read clauses](crate::definitions).
 fn name_of<'a, A: Allocator + Copy>(
     id: u8,
     payload: &'a [u8],
@@ -67,25 +47,6 @@ fn name_of<'a, A: Allocator + Copy>(
 
 /// Splits off the section at the front, which begins with its id, and returns it with the remaining
 /// bytes.
-///
-/// # Proved
-///
-/// - After `Ok`, `found`: The bytes after the id are this payload with its size prefix, and the payload has this name.
-/// - After `Ok`, `split`: the bytes begin with the section, and the returned bytes follow it.
-/// - After `Ok`, `data`: The data of a section of this name: the bytes of the payload after the name, or all of them if there is no name.
-/// - After an error, `none`: the bytes do not begin with such an encoding, unless the cause is `Memory`.
-///
-/// ```text
-/// ensures found { IfOk result (λ x. IsSection (section_of x.0)) }
-/// ensures split { IfOk result (λ x. bytes.now ≡ bytes_of (section_of x.0) ++ x.1.now) }
-/// ensures data { IfOk result
-///     (λ x. IsDataOf (section_of x.0).name (section_of x.0).payload x.0.data.now) }
-/// ensures none { IfErr result
-///     (λ e. e.cause ≢ Memory → Rejects any_section padded bytes.now) }
-/// ensures no_memory { IfErr result (λ e. e.cause ≢ Memory) }
-/// ```
-///
-/// Definitions: [`IsSection`](crate::definitions::reader::outlines::IsSection), [`section_of`](crate::definitions::reader::outlines::section_of), [`bytes_of`](crate::definitions::reader::outlines::bytes_of), [`IsDataOf`](crate::definitions::reader::outlines::IsDataOf), [`Rejects`](crate::definitions::base::decoding::Rejects), [`any_section`](crate::definitions::base::formats::any_section), [`padded`](crate::definitions::base::numbers::Mode). [How to read clauses](crate::definitions).
 pub(crate) fn read_standing<'a, A: Allocator + Copy>(
     bytes: &'a [u8],
     alloc: A,

@@ -11,23 +11,6 @@ use crate::sections::{ElementItem, Export, GlobalItem, Imports, MemoryType, Segm
 use crate::types::TypeEntry;
 
 /// Walks over the name of a custom section, and then over its data, which are any bytes.
-///
-/// # Proved
-///
-/// After `Ok`: `found`, the bytes as a whole are an encoding, and the effect takes the minimal one. After an error: `none`, the bytes as a whole are no such encoding, unless the cause is `Memory`; `no_memory`, the cause is `Memory` only with an effect whose calls may fail. In any case: `front`, the effect keeps what it took before.
-///
-/// ```text
-/// ensures found { OnOk result
-///     (WalksWhole E.seen G.grammar (content kinds.Custom) bytes.now effect.old effect.new)
-///     }
-/// ensures none { IfErr result
-///     (λ e. e.cause ≢ Memory → RejectsWhole (content kinds.Custom)
-///         (padded_of G.grammar) bytes.now) }
-/// ensures no_memory { IfErr result (λ e. e.cause ≡ Memory → E.may_fail) }
-/// ensures front { Keeps E.seen effect.old effect.new }
-/// ```
-///
-/// Definitions: [`WalksWhole`](crate::definitions::base::walks::WalksWhole), [`content`](crate::definitions::reader::kinds::content), [`RejectsWhole`](crate::definitions::base::continuing::RejectsWhole), [`padded_of`](crate::definitions::base::numbers::padded_of), [`Keeps`](crate::definitions::base::walks::Keeps). [How to read clauses](crate::definitions).
 fn walk_custom<A: Allocator + Copy, G: Grammar, E: Effect>(
     bytes: &[u8],
     alloc: A,
@@ -39,42 +22,12 @@ fn walk_custom<A: Allocator + Copy, G: Grammar, E: Effect>(
 }
 
 /// Gives the effect a payload that is any bytes.
-///
-/// # Proved
-///
-/// After `Ok`: `found`, the bytes as a whole are an encoding, and the effect takes the minimal one. After an error: `none`, the cause is `Memory`; `no_memory`, the cause is `Memory` only with an effect whose calls may fail. In any case: `front`, the effect keeps what it took before.
-///
-/// ```text
-/// ensures found { OnOk result
-///     (WalksWhole E.seen G.grammar (content kinds.Raw) bytes.now effect.old effect.new) }
-/// ensures none { IfErr result (λ e. e.cause ≡ Memory) }
-/// ensures no_memory { IfErr result (λ e. e.cause ≡ Memory → E.may_fail) }
-/// ensures front { Keeps E.seen effect.old effect.new }
-/// ```
-///
-/// Definitions: [`WalksWhole`](crate::definitions::base::walks::WalksWhole), [`content`](crate::definitions::reader::kinds::content), [`Keeps`](crate::definitions::base::walks::Keeps). [How to read clauses](crate::definitions).
 fn walk_raw<G: Grammar, E: Effect>(bytes: &[u8], effect: &mut E) -> Result<(), DecodeError> {
     effect.put(&RawBytes(bytes))?;
     Ok(())
 }
 
 /// Walks over the payload of a section of this kind. No list of items is kept.
-///
-/// # Proved
-///
-/// After `Ok`: `found`, the bytes as a whole are an encoding, and the effect takes the minimal one. After an error: `none`, the bytes as a whole are no such encoding, unless the cause is `Memory`; `no_memory`, the cause is `Memory` only with an effect whose calls may fail. In any case: `front`, the effect keeps what it took before.
-///
-/// ```text
-/// ensures found { OnOk result
-///     (WalksWhole E.seen G.grammar (content kind) bytes.now effect.old effect.new) }
-/// ensures none { IfErr result
-///     (λ e. e.cause ≢ Memory → RejectsWhole (content kind)
-///         (padded_of G.grammar) bytes.now) }
-/// ensures no_memory { IfErr result (λ e. e.cause ≡ Memory → E.may_fail) }
-/// ensures front { Keeps E.seen effect.old effect.new }
-/// ```
-///
-/// Definitions: [`WalksWhole`](crate::definitions::base::walks::WalksWhole), [`content`](crate::definitions::reader::kinds::content), [`RejectsWhole`](crate::definitions::base::continuing::RejectsWhole), [`padded_of`](crate::definitions::base::numbers::padded_of), [`Keeps`](crate::definitions::base::walks::Keeps). [How to read clauses](crate::definitions).
 pub(crate) fn walk_content<A: Allocator + Copy, G: Grammar, E: Effect>(
     kind: SectionKind,
     bytes: &[u8],
@@ -123,22 +76,6 @@ pub(crate) fn walk_content<A: Allocator + Copy, G: Grammar, E: Effect>(
 }
 
 /// Skips the members of a vector that occupies all of the bytes, and returns their number.
-///
-/// # Proved
-///
-/// After an error: `none`, the bytes as a whole are no such encoding, unless the cause is `Memory`.
-///
-/// ```text
-/// ensures found { IfOk result
-///     (λ count. (xs : List P.Value) × vec P.format (padded_of G.grammar) bytes.now xs
-///         × (count ≡ Some (length xs))) }
-/// ensures none { IfErr result
-///     (λ e. e.cause ≢ Memory → RejectsWhole (vec P.format)
-///         (padded_of G.grammar) bytes.now) }
-/// ensures no_memory { IfErr result (λ e. e.cause ≢ Memory) }
-/// ```
-///
-/// Definitions: [`vec`](crate::definitions::base::formats::vec), [`padded_of`](crate::definitions::base::numbers::padded_of), [`RejectsWhole`](crate::definitions::base::continuing::RejectsWhole). [How to read clauses](crate::definitions).
 fn count_members<'a, P: Walk<G>, A: Allocator + Copy, G: Grammar>(
     bytes: &'a [u8],
     alloc: A,
@@ -154,22 +91,6 @@ fn count_members<'a, P: Walk<G>, A: Allocator + Copy, G: Grammar>(
 
 /// Returns the number of items in the payload of a section of this kind, or `None` if they are not
 /// counted. No list of items is kept.
-///
-/// # Proved
-///
-/// After `Ok`: `found`, the payload encodes items, and the result is their number if they are counted. After an error: `none`, the bytes as a whole are no such encoding, unless the cause is `Memory`.
-///
-/// ```text
-/// ensures found { IfOk result
-///     (λ number. (x : Contents) × content kind (padded_of G.grammar) bytes.now x
-///         × (number ≡ number_in x)) }
-/// ensures none { IfErr result
-///     (λ e. e.cause ≢ Memory → RejectsWhole (content kind)
-///         (padded_of G.grammar) bytes.now) }
-/// ensures no_memory { IfErr result (λ e. e.cause ≢ Memory) }
-/// ```
-///
-/// Definitions: [`Contents`](crate::definitions::reader::kinds::Contents), [`content`](crate::definitions::reader::kinds::content), [`padded_of`](crate::definitions::base::numbers::padded_of), [`number_in`](crate::definitions::reader::kinds::number_in), [`RejectsWhole`](crate::definitions::base::continuing::RejectsWhole). [How to read clauses](crate::definitions).
 pub(crate) fn count_content<'a, A: Allocator + Copy, G: Grammar>(
     kind: SectionKind,
     bytes: &'a [u8],

@@ -100,14 +100,6 @@ pub(crate) enum How {
 }
 
 /// Returns `true` if a custom section of this name holds offsets into code and data.
-///
-/// # Proved
-///
-/// ```text
-/// ensures { result ≡ names_code_offsets name.now }
-/// ```
-///
-/// Definitions: [`names_code_offsets`](crate::definitions::reader::shortening::names_code_offsets). [How to read clauses](crate::definitions).
 fn has_code_offsets(name: &str) -> bool {
     let bytes = name.as_bytes();
     name == "linking"
@@ -120,14 +112,6 @@ fn has_code_offsets(name: &str) -> bool {
 }
 
 /// Returns the target of the offsets in a custom section of this name, or `None` if it holds none.
-///
-/// # Proved
-///
-/// ```text
-/// ensures { result ≡ target_named name.now }
-/// ```
-///
-/// Definitions: [`target_named`](crate::definitions::reader::shortening::target_named). [How to read clauses](crate::definitions).
 fn target_named(name: &str) -> Option<Target> {
     if name.as_bytes().starts_with(b"reloc.") {
         Some(Target::Relocated)
@@ -142,14 +126,6 @@ fn target_named(name: &str) -> Option<Target> {
 
 impl Target {
     /// Returns `true` if such offsets count from the start of a section of this id.
-    ///
-    /// # Proved
-    ///
-    /// ```text
-    /// ensures { Decides result (IsLedInto self id) }
-    /// ```
-    ///
-    /// Definitions: [`IsLedInto`](crate::definitions::reader::shortening::IsLedInto). [How to read clauses](crate::definitions).
     fn leads_into(self, id: u8) -> bool {
         match self {
             Target::CodeAndData | Target::Module => id == 10 || id == 11,
@@ -159,14 +135,6 @@ impl Target {
 
     /// Returns `true` if such offsets count from the first byte of the module, into a section of
     /// this id.
-    ///
-    /// # Proved
-    ///
-    /// ```text
-    /// ensures { Decides result (IsPlaced self id) }
-    /// ```
-    ///
-    /// Definitions: [`IsPlaced`](crate::definitions::reader::shortening::IsPlaced). [How to read clauses](crate::definitions).
     fn leads_to_place(self, id: u8) -> bool {
         match self {
             Target::CodeAndData | Target::Relocated => false,
@@ -177,16 +145,6 @@ impl Target {
     /// Returns `true` if such offsets into a section of this id become wrong. `is_changed` says
     /// whether its bytes change, and `is_level` whether the output before it is as long as the
     /// input before it.
-    ///
-    /// # Proved
-    ///
-    /// Whether a section of this id does not stay for such offsets, given whether it changes and whether its offset stays the same.
-    ///
-    /// ```text
-    /// ensures { AreMoved result self id is_changed is_level }
-    /// ```
-    ///
-    /// Definitions: [`AreMoved`](crate::definitions::reader::shortening::AreMoved). [How to read clauses](crate::definitions).
     fn loses(self, id: u8, is_changed: bool, is_level: bool) -> bool {
         (is_changed && self.leads_into(id)) || (!is_level && self.leads_to_place(id))
     }
@@ -194,14 +152,6 @@ impl Target {
 
 impl Standing<'_> {
     /// Returns the target of its offsets by its name, or `None` if it holds none.
-    ///
-    /// # Proved
-    ///
-    /// ```text
-    /// ensures { result ≡ target_of (section_of self.now).name }
-    /// ```
-    ///
-    /// Definitions: [`target_of`](crate::definitions::reader::shortening::target_of), [`section_of`](crate::definitions::reader::outlines::section_of). [How to read clauses](crate::definitions).
     fn target(&self) -> Option<Target> {
         match self.name {
             Some(name) => target_named(name),
@@ -210,14 +160,6 @@ impl Standing<'_> {
     }
 
     /// Returns `true` if its offsets point into this target.
-    ///
-    /// # Proved
-    ///
-    /// ```text
-    /// ensures { Decides result (target_of (section_of self.now).name ≡ Some target) }
-    /// ```
-    ///
-    /// Definitions: [`target_of`](crate::definitions::reader::shortening::target_of), [`section_of`](crate::definitions::reader::outlines::section_of). [How to read clauses](crate::definitions).
     fn is_into(&self, target: Target) -> bool {
         match (self.target(), target) {
             (Some(Target::CodeAndData), Target::CodeAndData)
@@ -230,30 +172,6 @@ impl Standing<'_> {
 
 /// Appends the output for the section's size prefix and payload, unless the section is left out. On
 /// an error, the sink is unchanged.
-///
-/// # Asks
-///
-/// [What happens otherwise](crate::fallible#what-is-asked).
-///
-/// ```text
-/// requires { IsSection (section_of section.now) }
-/// ```
-///
-/// Definitions: [`IsSection`](crate::definitions::reader::outlines::IsSection), [`section_of`](crate::definitions::reader::outlines::section_of). [How to read clauses](crate::definitions).
-///
-/// # Proved
-///
-/// After an error: `err`, the bytes of the sink are unchanged; `memory`, the cause is `Memory`.
-///
-/// ```text
-/// ensures ok { IfOk result
-///     (λ how. (encoding : List ℕ) × IsEncodingFor how (section_of section.now) encoding
-///         × (sink.new.items ≡ sink.old.items ++ encoding)) }
-/// ensures err { OnErr result (sink.new.items ≡ sink.old.items) }
-/// ensures memory { IfErr result (λ e. e ≡ Memory) }
-/// ```
-///
-/// Definitions: [`IsEncodingFor`](crate::definitions::reader::shortening::IsEncodingFor), [`section_of`](crate::definitions::reader::outlines::section_of). [How to read clauses](crate::definitions).
 fn append_size_prefixed<A: Allocator + Copy, B: Sink>(
     alloc: A,
     section: &Standing<'_>,
@@ -270,14 +188,6 @@ fn append_size_prefixed<A: Allocator + Copy, B: Sink>(
 }
 
 /// Returns `true` if the section is left out.
-///
-/// # Proved
-///
-/// ```text
-/// ensures { result ≡ leaves_out offsets (contains_offsets (section_of section.now).name) }
-/// ```
-///
-/// Definitions: [`leaves_out`](crate::definitions::reader::shortening::leaves_out), [`contains_offsets`](crate::definitions::reader::shortening::contains_offsets), [`section_of`](crate::definitions::reader::outlines::section_of). [How to read clauses](crate::definitions).
 fn is_left_out(section: &Standing<'_>, offsets: Offsets) -> bool {
     match offsets {
         Offsets::Refuse => false,
@@ -286,16 +196,6 @@ fn is_left_out(section: &Standing<'_>, offsets: Offsets) -> bool {
 }
 
 /// Returns `true` if the output differs from the section's size prefix and payload.
-///
-/// # Proved
-///
-/// Whether the bytes differ from the section's size-prefixed payload.
-///
-/// ```text
-/// ensures { IsChange result (section_of section.now) encoding.now }
-/// ```
-///
-/// Definitions: [`IsChange`](crate::definitions::reader::shortening::IsChange), [`section_of`](crate::definitions::reader::outlines::section_of). [How to read clauses](crate::definitions).
 fn is_changed(section: &Standing<'_>, encoding: &[u8]) -> bool {
     encoding != section.sized
 }
@@ -309,32 +209,6 @@ struct Written {
 
 /// Appends the output for the section: its id, a size prefix and a payload. On an error, the sink
 /// is unchanged.
-///
-/// # Asks
-///
-/// [What happens otherwise](crate::fallible#what-is-asked).
-///
-/// ```text
-/// requires { IsSection (section_of section.now) }
-/// ```
-///
-/// Definitions: [`IsSection`](crate::definitions::reader::outlines::IsSection), [`section_of`](crate::definitions::reader::outlines::section_of). [How to read clauses](crate::definitions).
-///
-/// # Proved
-///
-/// - After `Ok`, `ok`: The buffer gains the output for the section, encoded in this way.
-/// - After an error, `err`: the bytes of the sink are unchanged.
-/// - After an error, `memory`: the cause is `Memory`.
-///
-/// ```text
-/// ensures ok { IfOk result
-///     (λ x. GainsSection offsets
-///         (section_of section.now) x.how x.is_changed sink.old.items sink.new.items) }
-/// ensures err { OnErr result (sink.new.items ≡ sink.old.items) }
-/// ensures memory { IfErr result (λ e. e ≡ Memory) }
-/// ```
-///
-/// Definitions: [`GainsSection`](crate::definitions::reader::shortening::GainsSection), [`section_of`](crate::definitions::reader::outlines::section_of). [How to read clauses](crate::definitions).
 fn append_section<A: Allocator + Copy, B: Sink>(
     alloc: A,
     section: &Standing<'_>,
@@ -397,15 +271,6 @@ const NOTHING: Tally = Tally {
 
 impl How {
     /// Returns 1 if a section is kept, and 0 otherwise.
-    ///
-    /// # Proved
-    ///
-    /// ```text
-    /// ensures value { result ≡ keeps self }
-    /// ensures bound { result ≤ 1 }
-    /// ```
-    ///
-    /// Definitions: [`keeps`](crate::definitions::reader::shortening::keeps). [How to read clauses](crate::definitions).
     fn keeps(self) -> usize {
         match self {
             How::Kept => 1,
@@ -415,14 +280,6 @@ impl How {
 }
 
 /// Returns `found` if it is some, and otherwise this number if the section is such a holder.
-///
-/// # Proved
-///
-/// ```text
-/// ensures { result ≡ first_of found is_such number }
-/// ```
-///
-/// Definitions: [`first_of`](crate::definitions::reader::shortening::first_of). [How to read clauses](crate::definitions).
 fn first_holder(found: Option<usize>, is_such: bool, number: usize) -> Option<usize> {
     match found {
         Some(found) => Some(found),
@@ -432,14 +289,6 @@ fn first_holder(found: Option<usize>, is_such: bool, number: usize) -> Option<us
 }
 
 /// Returns the lesser number.
-///
-/// # Proved
-///
-/// ```text
-/// ensures { result ≡ earlier a b }
-/// ```
-///
-/// Definitions: [`earlier`](crate::definitions::reader::shortening::earlier). [How to read clauses](crate::definitions).
 fn earlier(a: Option<usize>, b: Option<usize>) -> Option<usize> {
     match (a, b) {
         (Some(first), Some(second)) => Some(first.min(second)),
@@ -450,18 +299,6 @@ fn earlier(a: Option<usize>, b: Option<usize>) -> Option<usize> {
 
 impl Found {
     /// Adds one more section, of this number.
-    ///
-    /// # Proved
-    ///
-    /// ```text
-    /// ensures { (ws : List Rewrite) (w : Rewrite) → HasFound target ws self
-    ///     → length ws + 1 ≡ number → section_of section.now ≡ w.section
-    ///     → IsChange is_changed w.section w.encoding
-    ///     → Decides is_level (size_before ws ≡ size_after ws)
-    ///     → HasFound target (ws ++ w ∷ []) result }
-    /// ```
-    ///
-    /// Definitions: [`Rewrite`](crate::definitions::reader::shortening::Rewrite), [`HasFound`](crate::definitions::reader::shortening::HasFound), [`section_of`](crate::definitions::reader::outlines::section_of), [`IsChange`](crate::definitions::reader::shortening::IsChange), [`size_before`](crate::definitions::reader::shortening::size_before), [`size_after`](crate::definitions::reader::shortening::size_after). [How to read clauses](crate::definitions).
     fn and(
         self,
         target: Target,
@@ -478,14 +315,6 @@ impl Found {
     }
 
     /// Returns the number of the first section whose offsets become wrong.
-    ///
-    /// # Proved
-    ///
-    /// ```text
-    /// ensures { result ≡ lost self }
-    /// ```
-    ///
-    /// Definitions: [`lost`](crate::definitions::reader::shortening::lost). [How to read clauses](crate::definitions).
     fn lost(self) -> Option<usize> {
         if self.is_moved { self.holder } else { None }
     }
@@ -494,29 +323,6 @@ impl Found {
 impl Tally {
     /// Adds one more section. `is_level` says whether the output before it is as long as the input
     /// before it.
-    ///
-    /// # Asks
-    ///
-    /// [What happens otherwise](crate::fallible#what-is-asked).
-    ///
-    /// ```text
-    /// requires { self.sections + 1 < 2 ^ 64 × self.kept ≤ self.sections }
-    /// ```
-    ///
-    /// [How to read clauses](crate::definitions).
-    ///
-    /// # Proved
-    ///
-    /// ```text
-    /// ensures tallied { (ws : List Rewrite) (w : Rewrite) → HasTally ws self
-    ///     → section_of section.now ≡ w.section → written.how ≡ w.how
-    ///     → IsChange written.is_changed w.section w.encoding
-    ///     → Decides is_level (size_before ws ≡ size_after ws)
-    ///     → HasTally (ws ++ w ∷ []) result }
-    /// ensures kept { result.kept ≤ result.sections }
-    /// ```
-    ///
-    /// Definitions: [`Rewrite`](crate::definitions::reader::shortening::Rewrite), [`HasTally`](crate::definitions::reader::shortening::HasTally), [`section_of`](crate::definitions::reader::outlines::section_of), [`IsChange`](crate::definitions::reader::shortening::IsChange), [`size_before`](crate::definitions::reader::shortening::size_before), [`size_after`](crate::definitions::reader::shortening::size_after). [How to read clauses](crate::definitions).
     fn and(self, section: &Standing<'_>, written: Written, is_level: bool) -> Tally {
         let sections = self.sections + 1;
         let is_changed = written.is_changed;
@@ -539,14 +345,6 @@ impl Tally {
     }
 
     /// Returns the number of the first section whose offsets become wrong, if that is an error.
-    ///
-    /// # Proved
-    ///
-    /// ```text
-    /// ensures { result ≡ lost_at offsets self }
-    /// ```
-    ///
-    /// Definitions: [`lost_at`](crate::definitions::reader::shortening::lost_at). [How to read clauses](crate::definitions).
     fn lost_at(self, offsets: Offsets) -> Option<usize> {
         match offsets {
             Offsets::Refuse => earlier(
@@ -559,47 +357,12 @@ impl Tally {
 }
 
 /// Returns `true` if the numbers are equal.
-///
-/// # Proved
-///
-/// ```text
-/// ensures { Decides result (a ≡ b) }
-/// ```
-///
-/// [How to read clauses](crate::definitions).
 fn is_same(a: usize, b: usize) -> bool {
     a == b
 }
 
 /// Appends the output for the sections, one after the other. An error has the number of its
 /// section, counted from 1. After an error, the old bytes are still the front of the sink.
-///
-/// # Asks
-///
-/// [What happens otherwise](crate::fallible#what-is-asked).
-///
-/// ```text
-/// requires { length (ahead sections) < 2 ^ 64 }
-/// ```
-///
-/// Definitions: [`ahead`](crate::definitions::reader::iterating::ahead). [How to read clauses](crate::definitions).
-///
-/// # Proved
-///
-/// - After `Ok`, `ok`: The bytes begin with sections, and the output for these sections is appended.
-/// - `front`: The new bytes begin with the old ones.
-///
-/// ```text
-/// ensures ok { IfOk result
-///     (λ tally. Rewrites offsets (ahead sections.entry)
-///         [] sink.old.items sink.new.items tally) }
-/// ensures front { IsFrontOf sink.old.items sink.new.items }
-/// ensures none { IfErr result
-///     (λ e. e.1 ≢ Memory → StopsAfter (ahead sections.entry) e.0) }
-/// ensures counted { IfErr result (λ e. e.0 ≢ 0) }
-/// ```
-///
-/// Definitions: [`Rewrites`](crate::definitions::reader::shortening::Rewrites), [`ahead`](crate::definitions::reader::iterating::ahead), [`IsFrontOf`](crate::definitions::base::minimal::IsFrontOf), [`StopsAfter`](crate::definitions::reader::shortening::StopsAfter). [How to read clauses](crate::definitions).
 fn append_sections<A: Allocator + Copy, B: Sink>(
     alloc: A,
     mut sections: Sections<'_, A>,
@@ -626,17 +389,6 @@ fn append_sections<A: Allocator + Copy, B: Sink>(
 }
 
 /// Reserves capacity for `spare` bytes, and appends the header as the first of them.
-///
-/// # Proved
-///
-/// After `Ok`: `ok`, the sink gains the header. After an error: `err`, the bytes of the sink are unchanged.
-///
-/// ```text
-/// ensures ok { OnOk result (sink.new.items ≡ sink.old.items ++ header) }
-/// ensures err { OnErr result (sink.new.items ≡ sink.old.items) }
-/// ```
-///
-/// Definitions: [`header`](crate::definitions::base::formats::header). [How to read clauses](crate::definitions).
 fn begin_module<A: Sink>(spare: usize, sink: &mut A) -> Result<(), AllocError> {
     sink.reserve(spare)?;
     sink.extend_from_slice(&HEADER)
@@ -644,23 +396,6 @@ fn begin_module<A: Sink>(spare: usize, sink: &mut A) -> Result<(), AllocError> {
 
 /// Appends the module for [`shorten_module`]. After an error, the old bytes are still the front of
 /// the sink.
-///
-/// # Proved
-///
-/// - After `Ok`, `ok`: The buffer gains the header and the output for each section: its minimal encoding, or its bytes unchanged if they do not decode by its kind. The result counts the unchanged ones. With `Refuse` every section keeps its offsets, and with `LeaveOut` exactly the sections that hold offsets are left out. The output is a module with the ids of the sections that are not left out, and is no longer than the input.
-/// - After an error, `why`: The meaning of an error. Either the section of this number is the first that is malformed, whatever its payload, and the bytes are not a module. Or the section of this number loses its offsets. `Memory` implies nothing about the bytes.
-/// - After an error, `header`: An error at section number 0 has the cause of bytes that do not begin with the header, unless an allocation failed.
-/// - `front`: The new bytes begin with the old ones.
-///
-/// ```text
-/// ensures ok { IfOk result
-///     (λ kept. ShortensModule offsets bytes.now kept sink.old.items sink.new.items) }
-/// ensures front { IsFrontOf sink.old.items sink.new.items }
-/// ensures why { IfErr result (λ fault. Explains offsets bytes.now fault) }
-/// ensures header { IfErr result (λ fault. ExplainsNoHeader bytes.now fault) }
-/// ```
-///
-/// Definitions: [`ShortensModule`](crate::definitions::reader::shortening::ShortensModule), [`IsFrontOf`](crate::definitions::base::minimal::IsFrontOf), [`Explains`](crate::definitions::reader::shortening::Explains), [`header`](crate::definitions::base::formats::header), [`ExplainsNoHeader`](crate::definitions::reader::shortening::ExplainsNoHeader). [How to read clauses](crate::definitions).
 fn append_module<A: Allocator + Copy, B: Sink>(
     alloc: A,
     bytes: &[u8],

@@ -9,15 +9,6 @@ use crate::alloc::{AllocError, Allocator};
 use crate::reader::{Listed, list_module};
 
 /// Appends the line of a section: its id, its size and its number of items.
-///
-/// # Proved
-///
-/// ```text
-/// ensures { OnOk result (string_bytes text.new
-///         ≡ string_bytes text.old ++ line_of section.now) }
-/// ```
-///
-/// Definitions: [`line_of`](crate::definitions::recipe::listings::line_of). [How to read clauses](crate::definitions).
 fn push_line<A: Allocator>(text: &mut String<A>, section: &Listed) -> Result<(), AllocError> {
     let id = section.id;
     let size = section.size;
@@ -28,14 +19,6 @@ fn push_line<A: Allocator>(text: &mut String<A>, section: &Listed) -> Result<(),
 }
 
 /// Returns the lines of the sections.
-///
-/// # Proved
-///
-/// ```text
-/// ensures { IfOk result (λ text. string_bytes text ≡ listing_of sections.now) }
-/// ```
-///
-/// Definitions: [`listing_of`](crate::definitions::recipe::listings::listing_of). [How to read clauses](crate::definitions).
 fn lines<A: Allocator>(alloc: A, sections: &[Listed]) -> Result<String<A>, AllocError> {
     let mut text = String::new(alloc);
     for section in sections {
@@ -45,16 +28,6 @@ fn lines<A: Allocator>(alloc: A, sections: &[Listed]) -> Result<String<A>, Alloc
 }
 
 /// Returns the input without spaces and line ends at its end.
-///
-/// # Proved
-///
-/// The kept text is the text without the blanks at its end.
-///
-/// ```text
-/// ensures { DropsBlanks text.now result.now }
-/// ```
-///
-/// Definitions: [`DropsBlanks`](crate::definitions::recipe::listings::DropsBlanks). [How to read clauses](crate::definitions).
 fn without_end(text: &[u8]) -> &[u8] {
     let mut text = text;
     while let [front @ .., b' ' | b'\r' | b'\n'] = text {
@@ -64,17 +37,6 @@ fn without_end(text: &[u8]) -> &[u8] {
 }
 
 /// Returns the bytes that the hexadecimal digits encode.
-///
-/// # Proved
-///
-/// After `Ok`, `bytes`: The text is the hexadecimal digits of the bytes, and blanks may follow.
-///
-/// ```text
-/// ensures bytes { IfOk result (λ bytes. IsHexText text.now bytes.items) }
-/// ensures usage { IfErr result (λ trouble. trouble ≢ Usage) }
-/// ```
-///
-/// Definitions: [`IsHexText`](crate::definitions::recipe::listings::IsHexText). [How to read clauses](crate::definitions).
 fn hex_bytes<A: Allocator>(alloc: A, text: &[u8]) -> Result<Vec<u8, A>, Trouble> {
     if str::from_utf8(text).is_err() {
         return Err(Trouble::NotText);
@@ -86,17 +48,6 @@ fn hex_bytes<A: Allocator>(alloc: A, text: &[u8]) -> Result<Vec<u8, A>, Trouble>
 }
 
 /// Returns the output for a module in hexadecimal.
-///
-/// # Proved
-///
-/// After `Ok`, `listed`: The text is the hexadecimal text of a module, and these are the lines of its sections.
-///
-/// ```text
-/// ensures listed { IfOk result (λ lines. Lists text.now (string_bytes lines)) }
-/// ensures usage { IfErr result (λ trouble. trouble ≢ Usage) }
-/// ```
-///
-/// Definitions: [`Lists`](crate::definitions::recipe::listings::Lists). [How to read clauses](crate::definitions).
 pub(crate) fn listing<A: Allocator + Copy>(alloc: A, text: &[u8]) -> Result<String<A>, Trouble> {
     let bytes = hex_bytes(alloc, text)?;
     let sections = list_module(alloc, &bytes).map_err(|(number, fault)| Trouble::Section {

@@ -9,17 +9,6 @@ use crate::alloc::Allocator;
 use crate::base::Result;
 
 /// Decodes a word of hexadecimal digits.
-///
-/// # Proved
-///
-/// ```text
-/// ensures ok { IfOk result (λ bytes. decode_of word.now ≡ Ok bytes.items) }
-/// ensures err { IfErr result
-///     (λ cause. (cause ≡ RecipeCause.Memory)
-///         ⊎ ((cause ≡ RecipeCause.BadHex) × IsErr (decode_of word.now))) }
-/// ```
-///
-/// [How to read clauses](crate::definitions).
 pub(crate) fn hex_bytes<A: Allocator>(alloc: A, word: &str) -> Result<Vec<u8, A>, RecipeCause> {
     crate::hex::decode(alloc, word).map_err(|e| match e {
         FromHexError::OutOfMemory => RecipeCause::Memory,
@@ -29,16 +18,6 @@ pub(crate) fn hex_bytes<A: Allocator>(alloc: A, word: &str) -> Result<Vec<u8, A>
 
 /// Returns the word unless it begins with a plus sign, which `parse` accepts and a number of a
 /// recipe does not have.
-///
-/// # Proved
-///
-/// ```text
-/// ensures { MatchResult result
-///     (λ same. (same.now ≡ word.now) × (get_or word.now 0 0 ≢ 43))
-///     (λ cause. (cause ≡ RecipeCause.BadNumber) × (get_or word.now 0 0 ≡ 43)) }
-/// ```
-///
-/// [How to read clauses](crate::definitions).
 fn numeral(word: &str) -> Result<&str, RecipeCause> {
     if word.starts_with('+') {
         return Err(RecipeCause::BadNumber);
@@ -47,15 +26,6 @@ fn numeral(word: &str) -> Result<&str, RecipeCause> {
 }
 
 /// Parses a word of decimal digits as a number of 64 bits.
-///
-/// # Proved
-///
-/// ```text
-/// ensures { MatchResult result (λ n. decimal_of 64 word.now ≡ Some n)
-///     (λ cause. (cause ≡ RecipeCause.BadNumber) × (decimal_of 64 word.now ≡ None)) }
-/// ```
-///
-/// Definitions: [`decimal_of`](crate::definitions::recipe::recipe::decimal_of). [How to read clauses](crate::definitions).
 pub(crate) fn number(word: &str) -> Result<u64, RecipeCause> {
     let Ok(n) = numeral(word)?.parse() else {
         return Err(RecipeCause::BadNumber);
@@ -64,15 +34,6 @@ pub(crate) fn number(word: &str) -> Result<u64, RecipeCause> {
 }
 
 /// Parses a word of decimal digits as a number of 32 bits.
-///
-/// # Proved
-///
-/// ```text
-/// ensures { MatchResult result (λ n. decimal_of 32 word.now ≡ Some n)
-///     (λ cause. (cause ≡ RecipeCause.BadNumber) × (decimal_of 32 word.now ≡ None)) }
-/// ```
-///
-/// Definitions: [`decimal_of`](crate::definitions::recipe::recipe::decimal_of). [How to read clauses](crate::definitions).
 pub(crate) fn index(word: &str) -> Result<u32, RecipeCause> {
     let Ok(n) = u32::try_from(number(word)?) else {
         return Err(RecipeCause::BadNumber);
@@ -81,15 +42,6 @@ pub(crate) fn index(word: &str) -> Result<u32, RecipeCause> {
 }
 
 /// Parses a word of decimal digits, negative after `-`, as a signed number of 32 bits.
-///
-/// # Proved
-///
-/// ```text
-/// ensures { MatchResult result (λ n. signed_of word.now ≡ Some n)
-///     (λ cause. (cause ≡ RecipeCause.BadNumber) × (signed_of word.now ≡ None)) }
-/// ```
-///
-/// Definitions: [`signed_of`](crate::definitions::recipe::recipe::signed_of). [How to read clauses](crate::definitions).
 pub(crate) fn signed(word: &str) -> Result<i32, RecipeCause> {
     let Ok(value) = numeral(word)?.parse() else {
         return Err(RecipeCause::BadNumber);
@@ -98,41 +50,12 @@ pub(crate) fn signed(word: &str) -> Result<i32, RecipeCause> {
 }
 
 /// Parses a word of decimal digits as a number of 32 bits, and adds it to the others.
-///
-/// # Proved
-///
-/// ```text
-/// ensures ok { IfOk result
-///     (λ _. IsSomeAnd (decimal_of 32 word.now)
-///         (λ n. numbers.new.items ≡ numbers.old.items ++ n ∷ [])) }
-/// ensures err { IfErr result
-///     (λ cause. (cause ≡ RecipeCause.Memory)
-///         ⊎ ((cause ≡ RecipeCause.BadNumber) × (decimal_of 32 word.now ≡ None))) }
-/// ```
-///
-/// Definitions: [`decimal_of`](crate::definitions::recipe::recipe::decimal_of). [How to read clauses](crate::definitions).
 fn push_index<A: Allocator>(numbers: &mut Vec<u32, A>, word: &str) -> Result<(), RecipeCause> {
     let number = index(word)?;
     numbers.push(number).map_err(|_| RecipeCause::Memory)
 }
 
 /// Parses words of decimal digits as numbers of 32 bits.
-///
-/// # Proved
-///
-/// ```text
-/// ensures ok { IfOk result
-///     (λ v. indices_of (first.now
-///             ∷ counted_words words.entry.version words.entry.rest.now) ≡ Some v.items) }
-/// ensures err { IfErr result
-///     (λ cause. (cause ≡ RecipeCause.Memory)
-///         ⊎ ((cause ≡ RecipeCause.BadNumber)
-///             × (indices_of (first.now
-///                     ∷ counted_words words.entry.version words.entry.rest.now) ≡ None)))
-///     }
-/// ```
-///
-/// Definitions: [`indices_of`](crate::definitions::recipe::recipe::indices_of), [`counted_words`](crate::definitions::recipe::lines::counted_words). [How to read clauses](crate::definitions).
 pub(crate) fn indices<A: Allocator>(
     alloc: A,
     first: &str,

@@ -40,14 +40,6 @@ impl From<AllocError> for Trouble {
 }
 
 /// An allocation failed, and not at a section of a module.
-///
-/// # Proved
-///
-/// ```text
-/// ensures { result ≡ troubles.Section 0 faults.Memory }
-/// ```
-///
-/// [How to read clauses](crate::definitions).
 pub(crate) fn unlisted() -> Trouble {
     Trouble::Section {
         number: 0,
@@ -82,16 +74,6 @@ impl From<AllocError> for Unread {
 
 /// Returns all bytes of a reader, or an error if the reader fails or does not end within
 /// `MOST_READS` requests.
-///
-/// # Proved
-///
-/// ```text
-/// ensures bytes { IfOk result
-///     (λ bytes. Consumes (R.remaining input.old) (R.remaining input.new) bytes.items) }
-/// ensures end { IfOk result (λ _. IsAtEnd (R.remaining input.new)) }
-/// ```
-///
-/// [How to read clauses](crate::definitions).
 fn read_to_end<A: Allocator, R: Read>(alloc: A, input: &mut R) -> Result<Vec<u8, A>, Unread> {
     let mut bytes = Vec::new(alloc);
     let mut chunk = [0; READ_SIZE];
@@ -108,17 +90,6 @@ fn read_to_end<A: Allocator, R: Read>(alloc: A, input: &mut R) -> Result<Vec<u8,
 }
 
 /// Returns the output line for a recipe.
-///
-/// # Proved
-///
-/// ```text
-/// ensures text { IfOk result (λ _. IsUtf8 recipe.now) }
-/// ensures good { IfOk result (λ _. All (IsGood First) (lines_of recipe.now)) }
-/// ensures line { IfOk result (λ line. string_bytes line ≡ hex_line_of recipe.now) }
-/// ensures usage { IfErr result (λ trouble. trouble ≢ troubles.Usage) }
-/// ```
-///
-/// Definitions: [`IsGood`](crate::definitions::recipe::recipe::IsGood), [`lines_of`](crate::definitions::recipe::lines::lines_of), [`hex_line_of`](crate::definitions::recipe::program::hex_line_of). [How to read clauses](crate::definitions).
 fn hex_line<A: Allocator + Copy>(alloc: A, recipe: &[u8]) -> Result<String<A>, Trouble> {
     let text = str::from_utf8(recipe).map_err(|_| Trouble::NotText)?;
     let module = assemble(alloc, text).map_err(Trouble::Recipe)?;
@@ -129,21 +100,6 @@ fn hex_line<A: Allocator + Copy>(alloc: A, recipe: &[u8]) -> Result<String<A>, T
 }
 
 /// Returns the output for the recipe that a reader yields.
-///
-/// # Proved
-///
-/// ```text
-/// ensures text { IfOk result (λ _. IfSome (I.remaining input.old) IsUtf8) }
-/// ensures good { IfOk result
-///     (λ _. IfSome (I.remaining input.old) (λ text. All (IsGood First) (lines_of text))) }
-/// ensures line { IfOk result
-///     (λ line. IfSome (I.remaining input.old)
-///         (λ text. string_bytes line ≡ hex_line_of text)) }
-/// ensures end { IfOk result (λ _. IsAtEnd (I.remaining input.new)) }
-/// ensures usage { IfErr result (λ trouble. trouble ≢ troubles.Usage) }
-/// ```
-///
-/// Definitions: [`IsGood`](crate::definitions::recipe::recipe::IsGood), [`lines_of`](crate::definitions::recipe::lines::lines_of), [`hex_line_of`](crate::definitions::recipe::program::hex_line_of). [How to read clauses](crate::definitions).
 fn answer_to_recipe<A: Allocator + Copy, I: Read>(
     alloc: A,
     input: &mut I,
@@ -156,18 +112,6 @@ fn answer_to_recipe<A: Allocator + Copy, I: Read>(
 }
 
 /// Returns the output for the module in hexadecimal that a reader yields.
-///
-/// # Proved
-///
-/// ```text
-/// ensures listed { IfOk result
-///     (λ lines. IfSome (I.remaining input.old) (λ text. Lists text (string_bytes lines)))
-///     }
-/// ensures end { IfOk result (λ _. IsAtEnd (I.remaining input.new)) }
-/// ensures usage { IfErr result (λ trouble. trouble ≢ troubles.Usage) }
-/// ```
-///
-/// Definitions: [`Lists`](crate::definitions::recipe::listings::Lists). [How to read clauses](crate::definitions).
 fn answer_to_module<A: Allocator + Copy, I: Read>(
     alloc: A,
     input: &mut I,
@@ -180,14 +124,6 @@ fn answer_to_module<A: Allocator + Copy, I: Read>(
 }
 
 /// Returns `true` if the arguments are exactly `--read`.
-///
-/// # Proved
-///
-/// ```text
-/// ensures { IsTrue result ↔ AsksToRead args.now }
-/// ```
-///
-/// Definitions: [`AsksToRead`](crate::definitions::recipe::listings::AsksToRead). [How to read clauses](crate::definitions).
 fn asks_to_read<A: Allocator>(args: &[String<A>]) -> bool {
     let [word] = args else {
         return false;
@@ -196,29 +132,6 @@ fn asks_to_read<A: Allocator>(args: &[String<A>]) -> bool {
 }
 
 /// Returns the output of the program.
-///
-/// # Proved
-///
-/// ```text
-/// ensures args { IfOk result (λ _. (length args.now ≡ 0) ⊎ AsksToRead args.now) }
-/// ensures text { length args.now ≡ 0
-///     → IfOk result (λ _. IfSome (I.remaining input.old) IsUtf8) }
-/// ensures good { length args.now ≡ 0
-///     → IfOk result (λ _. IfSome (I.remaining input.old)
-///         (λ text. All (IsGood First) (lines_of text))) }
-/// ensures line { length args.now ≡ 0
-///     → IfOk result (λ line. IfSome (I.remaining input.old)
-///         (λ text. string_bytes line ≡ hex_line_of text)) }
-/// ensures listed { AsksToRead args.now
-///     → IfOk result (λ lines. IfSome (I.remaining input.old)
-///         (λ text. Lists text (string_bytes lines))) }
-/// ensures end { IfOk result (λ _. IsAtEnd (I.remaining input.new)) }
-/// ensures usage { IfErr result
-///     (λ trouble. trouble ≡ troubles.Usage → ((length args.now ≡ 0) ⊎ AsksToRead args.now)
-///         → ⊥) }
-/// ```
-///
-/// Definitions: [`AsksToRead`](crate::definitions::recipe::listings::AsksToRead), [`IsGood`](crate::definitions::recipe::recipe::IsGood), [`lines_of`](crate::definitions::recipe::lines::lines_of), [`hex_line_of`](crate::definitions::recipe::program::hex_line_of), [`Lists`](crate::definitions::recipe::listings::Lists). [How to read clauses](crate::definitions).
 fn answer<A: Allocator + Copy, I: Read>(
     alloc: A,
     args: &[String<A>],
@@ -235,18 +148,6 @@ fn answer<A: Allocator + Copy, I: Read>(
 
 /// Writes the output. Returns the exit status: 0, or 1 if writing fails, after which a front of the
 /// output may have been written.
-///
-/// # Proved
-///
-/// `part`: The writer gains a front of these bytes: none of them, some or all.
-///
-/// ```text
-/// ensures out { result ≡ 0 → Appends (O.contents out.old) (O.contents out.new) text.now }
-/// ensures part { GainsFront (O.contents out.old) (O.contents out.new) text.now }
-/// ensures status { result ≤ 1 }
-/// ```
-///
-/// Definitions: [`GainsFront`](crate::definitions::recipe::program::GainsFront). [How to read clauses](crate::definitions).
 fn write_text<O: Write>(out: &mut O, text: &[u8]) -> u8 {
     let mut rest = text;
     for _call in 0..u64::MAX {
@@ -266,15 +167,6 @@ fn write_text<O: Write>(out: &mut O, text: &[u8]) -> u8 {
 
 /// Reports the error. Returns the exit status: 2 for an error of usage that was written, and 1
 /// otherwise.
-///
-/// # Proved
-///
-/// ```text
-/// ensures usage { result ≡ 2 → trouble.now ≡ troubles.Usage }
-/// ensures status { (1 ≤ result) × (result ≤ 2) }
-/// ```
-///
-/// [How to read clauses](crate::definitions).
 fn report<E: Write>(err: &mut E, trouble: &Trouble) -> u8 {
     match writeln!(err, "{trouble}") {
         Ok(()) if matches!(trouble, Trouble::Usage) => 2,

@@ -32,14 +32,6 @@ pub(crate) struct Recipe<A: Allocator> {
 }
 
 /// Returns the kind of export that a word names.
-///
-/// # Proved
-///
-/// ```text
-/// ensures { result ≡ export_kind_of word.now }
-/// ```
-///
-/// Definitions: [`export_kind_of`](crate::definitions::recipe::recipe::export_kind_of). [How to read clauses](crate::definitions).
 fn export_kind(word: &str) -> Option<ExportKind> {
     match word {
         "func" => Some(ExportKind::Func),
@@ -52,17 +44,6 @@ fn export_kind(word: &str) -> Option<ExportKind> {
 }
 
 /// Appends a section to the module, if it has an item.
-///
-/// # Proved
-///
-/// The module gains these sections if they fit.
-///
-/// ```text
-/// ensures { Puts (section_of K.section_id section.now)
-///     (IsEncodableSection section.now) target.old target.new result }
-/// ```
-///
-/// Definitions: [`Puts`](crate::definitions::recipe::steps::Puts), [`section_of`](crate::definitions::recipe::recipe::section_of), [`IsEncodableSection`](crate::definitions::base::pieces::IsEncodableSection). [How to read clauses](crate::definitions).
 fn put_counted<K: ItemKind, A: Allocator, B: Allocator>(
     section: &CountedSection<K, A>,
     target: &mut Module<B>,
@@ -74,20 +55,6 @@ fn put_counted<K: ItemKind, A: Allocator, B: Allocator>(
 }
 
 /// Returns the number of the pieces, and the pieces.
-///
-/// # Proved
-///
-/// In any case: `memory`, no error is `TooLong`.
-///
-/// ```text
-/// ensures ok { IfOk result
-///     (λ bytes. bytes.items ≡ unsigned_encoding (length pieces.now) ++ joined pieces.now)
-///     }
-/// ensures few { OnOk result (length pieces.now ≤ longest) }
-/// ensures memory { result ≢ Err refusals.TooLong }
-/// ```
-///
-/// Definitions: [`unsigned_encoding`](crate::definitions::base::numbers::unsigned_encoding), [`joined`](crate::definitions::base::pieces::joined), [`longest`](crate::definitions::base::encodings::longest). [How to read clauses](crate::definitions).
 fn counted<A: Allocator>(alloc: A, pieces: &Pieces<A>) -> Result<Vec<u8, A>> {
     let mut bytes = Vec::new(alloc);
     pieces.len().encode(&mut bytes)?;
@@ -96,19 +63,6 @@ fn counted<A: Allocator>(alloc: A, pieces: &Pieces<A>) -> Result<Vec<u8, A>> {
 }
 
 /// Returns a function's body: the runs of locals, and the instructions.
-///
-/// # Proved
-///
-/// In any case: `memory`, no error is `TooLong`.
-///
-/// ```text
-/// ensures ok { IfOk result
-///     (λ body. body.items ≡ (unsigned_encoding (length runs.now) ++ joined runs.now)
-///         ++ instructions.now) }
-/// ensures memory { result ≢ Err refusals.TooLong }
-/// ```
-///
-/// Definitions: [`unsigned_encoding`](crate::definitions::base::numbers::unsigned_encoding), [`joined`](crate::definitions::base::pieces::joined). [How to read clauses](crate::definitions).
 fn body_of<A: Allocator>(alloc: A, runs: &Pieces<A>, instructions: &[u8]) -> Result<Vec<u8, A>> {
     let mut body = counted(alloc, runs)?;
     body.extend_from_slice(instructions)?;
@@ -116,17 +70,6 @@ fn body_of<A: Allocator>(alloc: A, runs: &Pieces<A>, instructions: &[u8]) -> Res
 }
 
 /// Adds bytes at this offset of memory 0.
-///
-/// # Proved
-///
-/// The builder gains one entry with this encoding, or the call returns an error and changes nothing. A full builder, with 2^32 - 1 entries, returns `TooLong`.
-///
-/// ```text
-/// ensures { Adds (active_encoding 0 offset.now bytes.items)
-///     (HasEncodableSize bytes.items) segments.old segments.new result }
-/// ```
-///
-/// Definitions: [`Adds`](crate::definitions::base::calls::Adds), [`active_encoding`](crate::definitions::sections::data_segments::active_encoding), [`HasEncodableSize`](crate::definitions::base::encodings::HasEncodableSize). [How to read clauses](crate::definitions).
 fn add_data<A: Allocator>(
     segments: &mut DataSection<A>,
     offset: &ConstExpr<A>,
@@ -136,15 +79,6 @@ fn add_data<A: Allocator>(
 }
 
 impl<A: Allocator + Copy> Recipe<A> {
-    /// # Proved
-    ///
-    /// No section has an item.
-    ///
-    /// ```text
-    /// ensures { IsEmpty result }
-    /// ```
-    ///
-    /// Definitions: [`IsEmpty`](crate::definitions::recipe::steps::IsEmpty). [How to read clauses](crate::definitions).
     fn new(alloc: A) -> Self {
         Recipe {
             types: Pieces::new(alloc),
@@ -164,16 +98,6 @@ impl<A: Allocator + Copy> Recipe<A> {
     }
 
     /// Parses a line, and adds its item.
-    ///
-    /// # Proved
-    ///
-    /// The result and the effect of a call that decodes a line, given the entries or the error of the line.
-    ///
-    /// ```text
-    /// ensures { Follows (entry_of version line.now) self.old self.new result }
-    /// ```
-    ///
-    /// Definitions: [`Follows`](crate::definitions::recipe::steps::Follows), [`entry_of`](crate::definitions::recipe::recipe::entry_of). [How to read clauses](crate::definitions).
     fn read_line(&mut self, alloc: A, version: Version, line: &str) -> Result<(), RecipeCause> {
         let mut words = Words::new(version, line);
         let Some(command) = words.next() else {
@@ -194,16 +118,6 @@ impl<A: Allocator + Copy> Recipe<A> {
     }
 
     /// Parses a line of a command that version 1 does not have.
-    ///
-    /// # Proved
-    ///
-    /// ```text
-    /// ensures { words.entry.version ≡ version
-    ///     → Follows (second_entry version command.now
-    ///         (counted_words version words.entry.rest.now)) self.old self.new result }
-    /// ```
-    ///
-    /// Definitions: [`Follows`](crate::definitions::recipe::steps::Follows), [`second_entry`](crate::definitions::recipe::recipe::second_entry), [`counted_words`](crate::definitions::recipe::lines::counted_words). [How to read clauses](crate::definitions).
     fn read_second(
         &mut self,
         alloc: A,
@@ -225,18 +139,6 @@ impl<A: Allocator + Copy> Recipe<A> {
 
     /// Parses the lines of a recipe into sections without items. The line of the index `header`
     /// adds no item.
-    ///
-    /// # Proved
-    ///
-    /// ```text
-    /// ensures { IsEmpty self.old
-    ///     → MatchResult result (λ _. ContainsLines (version_with header)
-    ///         (lines_with header (lines_of lines.now)) self.new)
-    ///     (λ fault. Explains (version_with header)
-    ///         (lines_with header (lines_of lines.now)) fault.line fault.cause) }
-    /// ```
-    ///
-    /// Definitions: [`IsEmpty`](crate::definitions::recipe::steps::IsEmpty), [`ContainsLines`](crate::definitions::recipe::steps::ContainsLines), [`version_with`](crate::definitions::recipe::lines::version_with), [`lines_with`](crate::definitions::recipe::lines::lines_with), [`lines_of`](crate::definitions::recipe::lines::lines_of), [`Explains`](crate::definitions::recipe::steps::Explains). [How to read clauses](crate::definitions).
     fn read_lines(
         &mut self,
         alloc: A,
@@ -258,17 +160,6 @@ impl<A: Allocator + Copy> Recipe<A> {
         Ok(())
     }
 
-    /// # Proved
-    ///
-    /// The result and the effect of a call that decodes a line, given the entries or the error of the line.
-    ///
-    /// ```text
-    /// ensures { Follows (type_entry words.entry.version
-    ///         (counted_words words.entry.version words.entry.rest.now)) self.old self.new
-    ///     result }
-    /// ```
-    ///
-    /// Definitions: [`Follows`](crate::definitions::recipe::steps::Follows), [`type_entry`](crate::definitions::recipe::recipe::type_entry), [`counted_words`](crate::definitions::recipe::lines::counted_words). [How to read clauses](crate::definitions).
     fn read_type(&mut self, alloc: A, mut words: Words<'_>) -> Result<(), RecipeCause> {
         let word = words.needed()?;
         words.end()?;
@@ -277,17 +168,6 @@ impl<A: Allocator + Copy> Recipe<A> {
         Ok(())
     }
 
-    /// # Proved
-    ///
-    /// The result and the effect of a call that decodes a line, given the entries or the error of the line.
-    ///
-    /// ```text
-    /// ensures { Follows (function_entry words.entry.version
-    ///         (counted_words words.entry.version words.entry.rest.now)) self.old self.new
-    ///     result }
-    /// ```
-    ///
-    /// Definitions: [`Follows`](crate::definitions::recipe::steps::Follows), [`function_entry`](crate::definitions::recipe::recipe::function_entry), [`counted_words`](crate::definitions::recipe::lines::counted_words). [How to read clauses](crate::definitions).
     fn read_function(&mut self, mut words: Words<'_>) -> Result<(), RecipeCause> {
         let word = words.needed()?;
         words.end()?;
@@ -296,33 +176,11 @@ impl<A: Allocator + Copy> Recipe<A> {
         Ok(())
     }
 
-    /// # Proved
-    ///
-    /// The result and the effect of a call that decodes a line, given the entries or the error of the line.
-    ///
-    /// ```text
-    /// ensures { Follows (memory_entry words.entry.version
-    ///         (counted_words words.entry.version words.entry.rest.now)) self.old self.new
-    ///     result }
-    /// ```
-    ///
-    /// Definitions: [`Follows`](crate::definitions::recipe::steps::Follows), [`memory_entry`](crate::definitions::recipe::recipe::memory_entry), [`counted_words`](crate::definitions::recipe::lines::counted_words). [How to read clauses](crate::definitions).
     fn read_memory(&mut self, words: Words<'_>) -> Result<(), RecipeCause> {
         self.memories.memory(limits_in(words)?.memory())?;
         Ok(())
     }
 
-    /// # Proved
-    ///
-    /// The result and the effect of a call that decodes a line, given the entries or the error of the line.
-    ///
-    /// ```text
-    /// ensures { Follows (global_entry words.entry.version
-    ///         (counted_words words.entry.version words.entry.rest.now)) self.old self.new
-    ///     result }
-    /// ```
-    ///
-    /// Definitions: [`Follows`](crate::definitions::recipe::steps::Follows), [`global_entry`](crate::definitions::recipe::recipe::global_entry), [`counted_words`](crate::definitions::recipe::lines::counted_words). [How to read clauses](crate::definitions).
     fn read_global(&mut self, alloc: A, mut words: Words<'_>) -> Result<(), RecipeCause> {
         let word = words.needed()?;
         words.end()?;
@@ -336,17 +194,6 @@ impl<A: Allocator + Copy> Recipe<A> {
         Ok(())
     }
 
-    /// # Proved
-    ///
-    /// The result and the effect of a call that decodes a line, given the entries or the error of the line.
-    ///
-    /// ```text
-    /// ensures { Follows (export_entry words.entry.version
-    ///         (counted_words words.entry.version words.entry.rest.now)) self.old self.new
-    ///     result }
-    /// ```
-    ///
-    /// Definitions: [`Follows`](crate::definitions::recipe::steps::Follows), [`export_entry`](crate::definitions::recipe::recipe::export_entry), [`counted_words`](crate::definitions::recipe::lines::counted_words). [How to read clauses](crate::definitions).
     fn read_export(&mut self, mut words: Words<'_>) -> Result<(), RecipeCause> {
         let name = words.needed()?;
         let kind = words.needed()?;
@@ -359,18 +206,6 @@ impl<A: Allocator + Copy> Recipe<A> {
     }
 
     /// Parses the start index, which replaces an earlier one.
-    ///
-    /// # Proved
-    ///
-    /// The result and the effect of a call that decodes a line, given the entries or the error of the line.
-    ///
-    /// ```text
-    /// ensures { Follows (start_entry words.entry.version
-    ///         (counted_words words.entry.version words.entry.rest.now)) self.old self.new
-    ///     result }
-    /// ```
-    ///
-    /// Definitions: [`Follows`](crate::definitions::recipe::steps::Follows), [`start_entry`](crate::definitions::recipe::recipe::start_entry), [`counted_words`](crate::definitions::recipe::lines::counted_words). [How to read clauses](crate::definitions).
     fn read_start(&mut self, mut words: Words<'_>) -> Result<(), RecipeCause> {
         let word = words.needed()?;
         words.end()?;
@@ -379,18 +214,6 @@ impl<A: Allocator + Copy> Recipe<A> {
     }
 
     /// Parses the instructions of a function, which gets the locals since the last one.
-    ///
-    /// # Proved
-    ///
-    /// The result and the effect of a call that decodes a line, given the entries or the error of the line.
-    ///
-    /// ```text
-    /// ensures { Follows (body_entry words.entry.version
-    ///         (counted_words words.entry.version words.entry.rest.now)) self.old self.new
-    ///     result }
-    /// ```
-    ///
-    /// Definitions: [`Follows`](crate::definitions::recipe::steps::Follows), [`body_entry`](crate::definitions::recipe::recipe::body_entry), [`counted_words`](crate::definitions::recipe::lines::counted_words). [How to read clauses](crate::definitions).
     fn read_body(&mut self, alloc: A, mut words: Words<'_>) -> Result<(), RecipeCause> {
         let word = words.needed()?;
         words.end()?;
@@ -401,17 +224,6 @@ impl<A: Allocator + Copy> Recipe<A> {
         Ok(())
     }
 
-    /// # Proved
-    ///
-    /// The result and the effect of a call that decodes a line, given the entries or the error of the line.
-    ///
-    /// ```text
-    /// ensures { Follows (data_entry words.entry.version
-    ///         (counted_words words.entry.version words.entry.rest.now)) self.old self.new
-    ///     result }
-    /// ```
-    ///
-    /// Definitions: [`Follows`](crate::definitions::recipe::steps::Follows), [`data_entry`](crate::definitions::recipe::recipe::data_entry), [`counted_words`](crate::definitions::recipe::lines::counted_words). [How to read clauses](crate::definitions).
     fn read_data(&mut self, alloc: A, mut words: Words<'_>) -> Result<(), RecipeCause> {
         let place = words.needed()?;
         let word = words.needed()?;
@@ -423,17 +235,6 @@ impl<A: Allocator + Copy> Recipe<A> {
     }
 
     /// Parses the name of the module: the remaining words of the line.
-    ///
-    /// # Proved
-    ///
-    /// The result and the effect of a call that decodes a line, given the entries or the error of the line.
-    ///
-    /// ```text
-    /// ensures { Follows (name_entry (without_spaces words.entry.rest.now)) self.old self.new
-    ///     result }
-    /// ```
-    ///
-    /// Definitions: [`Follows`](crate::definitions::recipe::steps::Follows), [`name_entry`](crate::definitions::recipe::recipe::name_entry), [`without_spaces`](crate::definitions::recipe::lines::without_spaces). [How to read clauses](crate::definitions).
     fn read_name(&mut self, words: Words<'_>) -> Result<(), RecipeCause> {
         let name = words.rest();
         if name.is_empty() {
@@ -443,17 +244,6 @@ impl<A: Allocator + Copy> Recipe<A> {
         Ok(())
     }
 
-    /// # Proved
-    ///
-    /// The result and the effect of a call that decodes a line, given the entries or the error of the line.
-    ///
-    /// ```text
-    /// ensures { Follows (import_entry words.entry.version
-    ///         (counted_words words.entry.version words.entry.rest.now)) self.old self.new
-    ///     result }
-    /// ```
-    ///
-    /// Definitions: [`Follows`](crate::definitions::recipe::steps::Follows), [`import_entry`](crate::definitions::recipe::recipe::import_entry), [`counted_words`](crate::definitions::recipe::lines::counted_words). [How to read clauses](crate::definitions).
     fn read_import(&mut self, mut words: Words<'_>) -> Result<(), RecipeCause> {
         let from = words.needed()?;
         let name = words.needed()?;
@@ -463,34 +253,12 @@ impl<A: Allocator + Copy> Recipe<A> {
         Ok(())
     }
 
-    /// # Proved
-    ///
-    /// The result and the effect of a call that decodes a line, given the entries or the error of the line.
-    ///
-    /// ```text
-    /// ensures { Follows (table_entry words.entry.version
-    ///         (counted_words words.entry.version words.entry.rest.now)) self.old self.new
-    ///     result }
-    /// ```
-    ///
-    /// Definitions: [`Follows`](crate::definitions::recipe::steps::Follows), [`table_entry`](crate::definitions::recipe::recipe::table_entry), [`counted_words`](crate::definitions::recipe::lines::counted_words). [How to read clauses](crate::definitions).
     fn read_table(&mut self, words: Words<'_>) -> Result<(), RecipeCause> {
         self.tables.table(limits_in(words)?.table())?;
         Ok(())
     }
 
     /// Parses references to functions, at an offset of table 0.
-    ///
-    /// # Proved
-    ///
-    /// The result and the effect of a call that decodes a line, given the entries or the error of the line.
-    ///
-    /// ```text
-    /// ensures { Follows (elem_entry (counted_words words.entry.version words.entry.rest.now))
-    ///     self.old self.new result }
-    /// ```
-    ///
-    /// Definitions: [`Follows`](crate::definitions::recipe::steps::Follows), [`elem_entry`](crate::definitions::recipe::recipe::elem_entry), [`counted_words`](crate::definitions::recipe::lines::counted_words). [How to read clauses](crate::definitions).
     fn read_elem(&mut self, alloc: A, mut words: Words<'_>) -> Result<(), RecipeCause> {
         let place = words.needed()?;
         let first = words.needed()?;
@@ -502,18 +270,6 @@ impl<A: Allocator + Copy> Recipe<A> {
     }
 
     /// Parses a run of locals, which the next body gets.
-    ///
-    /// # Proved
-    ///
-    /// The result and the effect of a call that decodes a line, given the entries or the error of the line.
-    ///
-    /// ```text
-    /// ensures { Follows (locals_entry words.entry.version
-    ///         (counted_words words.entry.version words.entry.rest.now)) self.old self.new
-    ///     result }
-    /// ```
-    ///
-    /// Definitions: [`Follows`](crate::definitions::recipe::steps::Follows), [`locals_entry`](crate::definitions::recipe::recipe::locals_entry), [`counted_words`](crate::definitions::recipe::lines::counted_words). [How to read clauses](crate::definitions).
     fn read_locals(&mut self, mut words: Words<'_>) -> Result<(), RecipeCause> {
         let count = words.needed()?;
         let ty = words.needed()?;
@@ -524,17 +280,6 @@ impl<A: Allocator + Copy> Recipe<A> {
     }
 
     /// Appends the type section to the module: the number of types, and the types.
-    ///
-    /// # Proved
-    ///
-    /// The module gains these sections if they fit.
-    ///
-    /// ```text
-    /// ensures { Puts (section_of 1 self.now.types)
-    ///     (IsEncodableSection self.now.types) target.old target.new result }
-    /// ```
-    ///
-    /// Definitions: [`Puts`](crate::definitions::recipe::steps::Puts), [`section_of`](crate::definitions::recipe::recipe::section_of), [`IsEncodableSection`](crate::definitions::base::pieces::IsEncodableSection). [How to read clauses](crate::definitions).
     fn put_types(&self, alloc: A, target: &mut Module<A>) -> Result<()> {
         if self.types.is_empty() {
             return Ok(());
@@ -545,16 +290,6 @@ impl<A: Allocator + Copy> Recipe<A> {
         })
     }
 
-    /// # Proved
-    ///
-    /// The module gains these sections if they fit.
-    ///
-    /// ```text
-    /// ensures { Puts (start_of (start_items self.now.start))
-    ///     (All HasEncodableSize (start_items self.now.start)) target.old target.new result }
-    /// ```
-    ///
-    /// Definitions: [`Puts`](crate::definitions::recipe::steps::Puts), [`start_of`](crate::definitions::recipe::recipe::start_of), [`start_items`](crate::definitions::recipe::steps::start_items), [`HasEncodableSize`](crate::definitions::base::encodings::HasEncodableSize). [How to read clauses](crate::definitions).
     fn put_start(&self, target: &mut Module<A>) -> Result<()> {
         match self.start {
             Some(function_index) => target.section(&StartSection { function_index }),
@@ -562,16 +297,6 @@ impl<A: Allocator + Copy> Recipe<A> {
         }
     }
 
-    /// # Proved
-    ///
-    /// The module gains these sections if they fit.
-    ///
-    /// ```text
-    /// ensures { Puts (section_of 10 self.now.code)
-    ///     (IsEncodableSection self.now.code) target.old target.new result }
-    /// ```
-    ///
-    /// Definitions: [`Puts`](crate::definitions::recipe::steps::Puts), [`section_of`](crate::definitions::recipe::recipe::section_of), [`IsEncodableSection`](crate::definitions::base::pieces::IsEncodableSection). [How to read clauses](crate::definitions).
     fn put_code(&self, target: &mut Module<A>) -> Result<()> {
         if self.code.is_empty() {
             return Ok(());
@@ -579,16 +304,6 @@ impl<A: Allocator + Copy> Recipe<A> {
         target.section(&self.code)
     }
 
-    /// # Proved
-    ///
-    /// The module gains these sections if they fit.
-    ///
-    /// ```text
-    /// ensures { Puts (names_of self.now.names)
-    ///     (AreEncodableNames self.now.names) target.old target.new result }
-    /// ```
-    ///
-    /// Definitions: [`Puts`](crate::definitions::recipe::steps::Puts), [`names_of`](crate::definitions::recipe::recipe::names_of), [`AreEncodableNames`](crate::definitions::recipe::recipe::AreEncodableNames). [How to read clauses](crate::definitions).
     fn put_names(&self, target: &mut Module<A>) -> Result<()> {
         match self.names.len() {
             0 => Ok(()),
@@ -597,17 +312,6 @@ impl<A: Allocator + Copy> Recipe<A> {
     }
 
     /// Appends the sections to the module, in the order of the standard.
-    ///
-    /// # Proved
-    ///
-    /// The module gains these sections if they fit.
-    ///
-    /// ```text
-    /// ensures { Puts (listed self.now)
-    ///     (AreEncodableSections self.now) target.old target.new result }
-    /// ```
-    ///
-    /// Definitions: [`Puts`](crate::definitions::recipe::steps::Puts), [`listed`](crate::definitions::recipe::steps::listed), [`AreEncodableSections`](crate::definitions::recipe::steps::AreEncodableSections). [How to read clauses](crate::definitions).
     fn put_sections(&self, alloc: A, target: &mut Module<A>) -> Result<()> {
         self.put_types(alloc, target)?;
         put_counted(&self.imports, target)?;
@@ -624,18 +328,6 @@ impl<A: Allocator + Copy> Recipe<A> {
     }
 
     /// Returns the module of the sections.
-    ///
-    /// # Proved
-    ///
-    /// After `Ok`, `was_encodable`: The items fit their sections.
-    ///
-    /// ```text
-    /// ensures ok { IfOk result (λ bytes. bytes.items ≡ module_encoding (listed self.now)) }
-    /// ensures was_encodable { OnOk result (AreEncodableSections self.now) }
-    /// ensures too_long { AreEncodableSections self.now → result ≢ Err refusals.TooLong }
-    /// ```
-    ///
-    /// Definitions: [`module_encoding`](crate::definitions::base::encodings::module_encoding), [`listed`](crate::definitions::recipe::steps::listed), [`AreEncodableSections`](crate::definitions::recipe::steps::AreEncodableSections). [How to read clauses](crate::definitions).
     fn finish(&self, alloc: A) -> Result<Vec<u8, A>> {
         let mut module = Module::new(alloc)?;
         self.put_sections(alloc, &mut module)?;
@@ -644,18 +336,6 @@ impl<A: Allocator + Copy> Recipe<A> {
 
     /// Returns the module of a recipe, whose lines are parsed into sections without items. The
     /// line of the index `header` adds no item.
-    ///
-    /// # Proved
-    ///
-    /// ```text
-    /// ensures { IsEmpty self.old
-    ///     → MatchResult result (λ bytes. IsModule (version_with header)
-    ///         (lines_with header (lines_of lines.now)) self.new bytes.items)
-    ///     (λ fault. Explains (version_with header)
-    ///         (lines_with header (lines_of lines.now)) fault.line fault.cause) }
-    /// ```
-    ///
-    /// Definitions: [`IsEmpty`](crate::definitions::recipe::steps::IsEmpty), [`IsModule`](crate::definitions::recipe::steps::IsModule), [`version_with`](crate::definitions::recipe::lines::version_with), [`lines_with`](crate::definitions::recipe::lines::lines_with), [`lines_of`](crate::definitions::recipe::lines::lines_of), [`Explains`](crate::definitions::recipe::steps::Explains). [How to read clauses](crate::definitions).
     fn module_of(
         &mut self,
         alloc: A,

@@ -16,14 +16,6 @@ pub(crate) struct Limits {
 
 impl Limits {
     /// Returns the type of a memory with these limits, of 32-bit addresses.
-    ///
-    /// # Proved
-    ///
-    /// ```text
-    /// ensures { result ≡ memory_with self }
-    /// ```
-    ///
-    /// Definitions: [`memory_with`](crate::definitions::recipe::recipe::memory_with). [How to read clauses](crate::definitions).
     pub(crate) fn memory(self) -> MemoryType {
         MemoryType {
             minimum: self.minimum,
@@ -35,14 +27,6 @@ impl Limits {
     }
 
     /// Returns the type of a table of function references with these limits.
-    ///
-    /// # Proved
-    ///
-    /// ```text
-    /// ensures { result ≡ table_with self }
-    /// ```
-    ///
-    /// Definitions: [`table_with`](crate::definitions::recipe::recipe::table_with). [How to read clauses](crate::definitions).
     pub(crate) fn table(self) -> TableType {
         TableType {
             element_type: RefType::FUNCREF,
@@ -55,17 +39,6 @@ impl Limits {
 }
 
 /// Parses an optional word of decimal digits as a number of 64 bits.
-///
-/// # Proved
-///
-/// ```text
-/// ensures { MatchResult result
-///     (λ n. optional_decimal (option_map (λ w. w.now) word.entry) ≡ Some n)
-///     (λ cause. (cause ≡ RecipeCause.BadNumber)
-///         × (optional_decimal (option_map (λ w. w.now) word.entry) ≡ None)) }
-/// ```
-///
-/// Definitions: [`optional_decimal`](crate::definitions::recipe::recipe::optional_decimal). [How to read clauses](crate::definitions).
 fn optional_number(word: Option<&str>) -> Result<Option<u64>, RecipeCause> {
     match word {
         Some(word) => Ok(Some(number(word)?)),
@@ -74,17 +47,6 @@ fn optional_number(word: Option<&str>) -> Result<Option<u64>, RecipeCause> {
 }
 
 /// Parses a minimum and, in version 2, an optional maximum.
-///
-/// # Proved
-///
-/// The result of a call that decodes some words, given their value or their error.
-///
-/// ```text
-/// ensures { Parses (limits_of words.entry.version
-///         (counted_words words.entry.version words.entry.rest.now)) result }
-/// ```
-///
-/// Definitions: [`Parses`](crate::definitions::recipe::steps::Parses), [`limits_of`](crate::definitions::recipe::recipe::limits_of), [`counted_words`](crate::definitions::recipe::lines::counted_words). [How to read clauses](crate::definitions).
 pub(crate) fn limits_in(mut words: Words<'_>) -> Result<Limits, RecipeCause> {
     let minimum = words.needed()?;
     let maximum = words.optional();
@@ -96,14 +58,6 @@ pub(crate) fn limits_in(mut words: Words<'_>) -> Result<Limits, RecipeCause> {
 }
 
 /// Returns the value type that a word names.
-///
-/// # Proved
-///
-/// ```text
-/// ensures { result ≡ val_type_of word.now }
-/// ```
-///
-/// Definitions: [`val_type_of`](crate::definitions::recipe::recipe::val_type_of). [How to read clauses](crate::definitions).
 pub(crate) fn val_type(word: &str) -> Option<ValType> {
     match word {
         "i32" => Some(ValType::I32),
@@ -118,17 +72,6 @@ pub(crate) fn val_type(word: &str) -> Option<ValType> {
 }
 
 /// Parses the type index of an imported function.
-///
-/// # Proved
-///
-/// The result of a call that decodes some words, given their value or their error.
-///
-/// ```text
-/// ensures { Parses (imported_function words.entry.version
-///         (counted_words words.entry.version words.entry.rest.now)) result }
-/// ```
-///
-/// Definitions: [`Parses`](crate::definitions::recipe::steps::Parses), [`imported_function`](crate::definitions::recipe::recipe::imported_function), [`counted_words`](crate::definitions::recipe::lines::counted_words). [How to read clauses](crate::definitions).
 fn imported_function(mut words: Words<'_>) -> Result<EntityType, RecipeCause> {
     let word = words.needed()?;
     words.end()?;
@@ -136,17 +79,6 @@ fn imported_function(mut words: Words<'_>) -> Result<EntityType, RecipeCause> {
 }
 
 /// Returns the type of an imported global. No word may remain.
-///
-/// # Proved
-///
-/// The result of a call that decodes some words, given their value or their error.
-///
-/// ```text
-/// ensures { Parses (global_of_type words.entry.version mutable word.now
-///         (counted_words words.entry.version words.entry.rest.now)) result }
-/// ```
-///
-/// Definitions: [`Parses`](crate::definitions::recipe::steps::Parses), [`global_of_type`](crate::definitions::recipe::recipe::global_of_type), [`counted_words`](crate::definitions::recipe::lines::counted_words). [How to read clauses](crate::definitions).
 fn global_of_type(
     mutable: bool,
     word: &str,
@@ -161,17 +93,6 @@ fn global_of_type(
 }
 
 /// Parses the type of an imported global, after `mut` if it is mutable.
-///
-/// # Proved
-///
-/// The result of a call that decodes some words, given their value or their error.
-///
-/// ```text
-/// ensures { Parses (imported_global words.entry.version
-///         (counted_words words.entry.version words.entry.rest.now)) result }
-/// ```
-///
-/// Definitions: [`Parses`](crate::definitions::recipe::steps::Parses), [`imported_global`](crate::definitions::recipe::recipe::imported_global), [`counted_words`](crate::definitions::recipe::lines::counted_words). [How to read clauses](crate::definitions).
 fn imported_global(mut words: Words<'_>) -> Result<EntityType, RecipeCause> {
     let word = words.needed()?;
     if word == "mut" {
@@ -182,17 +103,6 @@ fn imported_global(mut words: Words<'_>) -> Result<EntityType, RecipeCause> {
 }
 
 /// Parses the type of an import of this kind.
-///
-/// # Proved
-///
-/// The result of a call that decodes some words, given their value or their error.
-///
-/// ```text
-/// ensures { Parses (entity_of words.entry.version kind.now
-///         (counted_words words.entry.version words.entry.rest.now)) result }
-/// ```
-///
-/// Definitions: [`Parses`](crate::definitions::recipe::steps::Parses), [`entity_of`](crate::definitions::recipe::recipe::entity_of), [`counted_words`](crate::definitions::recipe::lines::counted_words). [How to read clauses](crate::definitions).
 pub(crate) fn entity(kind: &str, words: Words<'_>) -> Result<EntityType, RecipeCause> {
     match kind {
         "func" => imported_function(words),

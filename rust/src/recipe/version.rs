@@ -14,14 +14,6 @@ pub(crate) enum Version {
 
 impl Version {
     /// Returns the version of a recipe with this index of the line `version 2`, if it has one.
-    ///
-    /// # Proved
-    ///
-    /// ```text
-    /// ensures { result ≡ version_with header }
-    /// ```
-    ///
-    /// Definitions: [`version_with`](crate::definitions::recipe::lines::version_with). [How to read clauses](crate::definitions).
     pub(crate) fn with_header(header: Option<usize>) -> Self {
         match header {
             Some(_) => Version::Second,
@@ -31,14 +23,6 @@ impl Version {
 }
 
 /// Returns whether the line is `version 2`, or `None` if it has no word.
-///
-/// # Proved
-///
-/// ```text
-/// ensures { result ≡ is_version_2 (counted_words Version.Second line.now) }
-/// ```
-///
-/// Definitions: [`is_version_2`](crate::definitions::recipe::lines::is_version_2), [`counted_words`](crate::definitions::recipe::lines::counted_words). [How to read clauses](crate::definitions).
 fn tells_version(line: &str) -> Option<bool> {
     let mut words = Words::new(Version::Second, line);
     let command = words.next()?;
@@ -52,14 +36,6 @@ fn tells_version(line: &str) -> Option<bool> {
 }
 
 /// Returns the index of the line `version 2`, if it is the first one that has a word.
-///
-/// # Proved
-///
-/// ```text
-/// ensures { result ≡ header_of (lines_of lines.now) }
-/// ```
-///
-/// Definitions: [`header_of`](crate::definitions::recipe::lines::header_of), [`lines_of`](crate::definitions::recipe::lines::lines_of). [How to read clauses](crate::definitions).
 pub(crate) fn header(lines: &str) -> Option<usize> {
     let mut index = 0;
     for line in lines.split('\n') {
@@ -72,14 +48,6 @@ pub(crate) fn header(lines: &str) -> Option<usize> {
 }
 
 /// Returns the line at this index, which is empty for the line `version 2`.
-///
-/// # Proved
-///
-/// ```text
-/// ensures { result.now ≡ line_with header index (strip_carriage_return line.now) }
-/// ```
-///
-/// Definitions: [`line_with`](crate::definitions::recipe::lines::line_with). [How to read clauses](crate::definitions).
 pub(crate) fn line_at<'a>(header: Option<usize>, index: usize, line: &'a str) -> &'a str {
     if header == Some(index) {
         return "";

@@ -141,56 +141,16 @@ impl<K, A: Allocator> CountedSection<K, A> {
     }
 
     /// Adds the encoding of the record as an entry.
-    ///
-    /// # Proved
-    ///
-    /// The builder gains one entry with this encoding, or the call returns an error and changes nothing. A full builder, with 2^32 - 1 entries, returns `TooLong`.
-    ///
-    /// ```text
-    /// ensures { Adds (T.encoding given.now) (T.encodable given.now) self.old self.new result }
-    /// ```
-    ///
-    /// Definitions: [`Adds`](crate::definitions::base::calls::Adds). [How to read clauses](crate::definitions).
     pub(crate) fn add_record<T: Encode>(&mut self, given: &T) -> Result<()> {
         self.pieces.add_encoded(given)
     }
 
     /// Adds an encoding of the item as an entry, and consumes the item.
-    ///
-    /// # Asks
-    ///
-    /// Each iterator in the value ends, and yields as many items as it reports: the impl says so by `lawful`. [What happens otherwise](crate::fallible#what-is-asked).
-    ///
-    /// ```text
-    /// requires { T.lawful item }
-    /// ```
-    ///
-    /// [How to read clauses](crate::definitions).
-    ///
-    /// # Proved
-    ///
-    /// The builder gains one entry with one of these encodings, or the call returns an error and changes nothing. A full builder, with 2^32 - 1 entries, returns `TooLong`.
-    ///
-    /// ```text
-    /// ensures { AddsOnce (T.gives item) (T.encodable item) self.old self.new result }
-    /// ```
-    ///
-    /// Definitions: [`AddsOnce`](crate::definitions::base::once::AddsOnce). [How to read clauses](crate::definitions).
     pub(crate) fn add_once<T: EncodeOnce>(&mut self, item: T) -> Result<()> {
         self.pieces.add_once(item)
     }
 
     /// Adds an entry that is already encoded.
-    ///
-    /// # Proved
-    ///
-    /// The builder gains one entry with this encoding, or the call returns an error and changes nothing. A full builder, with 2^32 - 1 entries, returns `TooLong`.
-    ///
-    /// ```text
-    /// ensures { Adds piece.now ⊤ self.old self.new result }
-    /// ```
-    ///
-    /// Definitions: [`Adds`](crate::definitions::base::calls::Adds). [How to read clauses](crate::definitions).
     pub(crate) fn add_piece(&mut self, piece: &[u8]) -> Result<()> {
         self.pieces.add(piece)
     }

@@ -370,29 +370,6 @@ impl<A: Allocator> DataSection<A> {
     }
 
     /// Adds a segment that is encoded as `front` and the size-prefixed bytes.
-    ///
-    /// # Asks
-    ///
-    /// The iterator ends, and yields as many items as it reports. [What happens otherwise](crate::fallible#what-is-asked).
-    ///
-    /// ```text
-    /// requires length { HasKnownLength D.into_iter_gives D.IntoIter.can_next
-    ///     D.IntoIter.next_gives D.IntoIter.remaining bytes }
-    /// requires encodable { S.encodable front }
-    /// ```
-    ///
-    /// Definitions: [`HasKnownLength`](crate::definitions::base::iterators::HasKnownLength). [How to read clauses](crate::definitions).
-    ///
-    /// # Proved
-    ///
-    /// The section gains one entry with the bytes that the iterator yields, or the call returns an error and changes nothing. It returns `TooLong` if the section is full or the iterator reports more than 2^32 - 1 remaining bytes, and otherwise not.
-    ///
-    /// ```text
-    /// ensures { AddsBytes D.into_iter_gives D.IntoIter.next_gives D.IntoIter.remaining bytes
-    ///     (λ b. S.encoding front ++ size_prefixed_encoding b) self.old self.new result }
-    /// ```
-    ///
-    /// Definitions: [`AddsBytes`](crate::definitions::sections::data_segments::AddsBytes), [`size_prefixed_encoding`](crate::definitions::base::encodings::size_prefixed_encoding). [How to read clauses](crate::definitions).
     fn add_bytes<S: Encode, D: IntoIterator<Item = u8>>(
         &mut self,
         front: S,
@@ -512,14 +489,6 @@ impl<'a, A: Allocator> Layout for Segment<'a, A> {
 
 /// Returns `true` if the grammar admits this memory after flag 2, where it is explicit. Only the
 /// standard's grammar admits memory 0 there.
-///
-/// # Proved
-///
-/// ```text
-/// ensures { Decides result (HasIndex G.grammar memory) }
-/// ```
-///
-/// Definitions: [`HasIndex`](crate::definitions::immediates::immediate_formats::HasIndex). [How to read clauses](crate::definitions).
 #[inline]
 pub(crate) fn has_index<G: Grammar>(memory: u32) -> bool {
     memory != 0 || G::is_standard()
@@ -613,23 +582,6 @@ pub fn read_segments<'a, A: Allocator + Copy + 'a, G: Grammar>(
 }
 
 /// Appends the offset and the bytes of a segment.
-///
-/// # Proved
-///
-/// - After `Ok`, `ok`: the sink gains the encoding that is minimal in the builders' grammar.
-/// - `front`: The new bytes begin with the old ones.
-/// - `too_long`: a value that has an encoding never gives `TooLong`.
-///
-/// ```text
-/// ensures ok { OnOk result
-///     (AppendsMinimal builders_alone (pair expression (vec byte))
-///         (instructions_view offset.now, bytes.now) sink.old.items sink.new.items) }
-/// ensures front { IsFrontOf sink.old.items sink.new.items }
-/// ensures too_long { HasEncoding builders_alone (pair expression (vec byte))
-///     (instructions_view offset.now, bytes.now) → result ≢ Err TooLong }
-/// ```
-///
-/// Definitions: [`AppendsMinimal`](crate::definitions::base::minimal::AppendsMinimal), [`builders_alone`](crate::definitions::base::minimal::Grammars), [`pair`](crate::definitions::base::formats::pair), [`expression`](crate::definitions::code::expressions::expression), [`vec`](crate::definitions::base::formats::vec), [`byte`](crate::definitions::base::formats::byte), [`instructions_view`](crate::definitions::sections::constants::instructions_view), [`IsFrontOf`](crate::definitions::base::minimal::IsFrontOf), [`HasEncoding`](crate::definitions::base::minimal::HasEncoding). [How to read clauses](crate::definitions).
 fn append_placed<A: Allocator, B: Sink>(
     offset: &Expression<A>,
     bytes: &[u8],
@@ -640,24 +592,6 @@ fn append_placed<A: Allocator, B: Sink>(
 }
 
 /// Appends an active segment. Memory 0 is implied by flag 0, and others are explicit after flag 2.
-///
-/// # Proved
-///
-/// - After `Ok`, `ok`: the sink gains the encoding that is minimal in the builders' grammar.
-/// - `front`: The new bytes begin with the old ones.
-/// - `too_long`: a value that has an encoding never gives `TooLong`.
-///
-/// ```text
-/// ensures ok { OnOk result
-///     (AppendsMinimal builders_alone data_item
-///         (active memory (instructions_view offset.now) bytes.now) sink.old.items
-///         sink.new.items) }
-/// ensures front { IsFrontOf sink.old.items sink.new.items }
-/// ensures too_long { HasEncoding builders_alone data_item
-///     (active memory (instructions_view offset.now) bytes.now) → result ≢ Err TooLong }
-/// ```
-///
-/// Definitions: [`AppendsMinimal`](crate::definitions::base::minimal::AppendsMinimal), [`builders_alone`](crate::definitions::base::minimal::Grammars), [`data_item`](crate::definitions::sections::data_segments::data_item), [`active`](crate::definitions::sections::data_segments::DataItem), [`instructions_view`](crate::definitions::sections::constants::instructions_view), [`IsFrontOf`](crate::definitions::base::minimal::IsFrontOf), [`HasEncoding`](crate::definitions::base::minimal::HasEncoding). [How to read clauses](crate::definitions).
 fn append_active<A: Allocator, B: Sink>(
     memory: u32,
     offset: &Expression<A>,

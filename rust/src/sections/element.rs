@@ -131,17 +131,6 @@ pub struct ElementSegment<'a, A: Allocator = Global> {
 }
 
 /// Returns the same expressions, each in memory of its own.
-///
-/// # Proved
-///
-/// After `Ok`: `same`, the result has the same items. In any case: `memory`, no error is `TooLong`.
-///
-/// ```text
-/// ensures same { IfOk result (λ v. v.items ≡ expressions.now) }
-/// ensures memory { result ≢ Err TooLong }
-/// ```
-///
-/// [How to read clauses](crate::definitions).
 fn clone_each<A: Allocator + Copy>(
     alloc: A,
     expressions: &[ConstExpr<A>],
@@ -241,14 +230,6 @@ impl<'a, A: Allocator + Copy> ElementSegment<'a, A> {
 }
 
 /// Returns `true` for [`RefType::FUNCREF`], the type that encodings without a type imply.
-///
-/// # Proved
-///
-/// ```text
-/// ensures { result ≡ is_funcref ty }
-/// ```
-///
-/// Definitions: [`is_funcref`](crate::definitions::sections::elements::is_funcref). [How to read clauses](crate::definitions).
 fn has_short_form(ty: RefType) -> bool {
     match ty.heap_type {
         HeapType::Abstract {
@@ -260,14 +241,6 @@ fn has_short_form(ty: RefType) -> bool {
 }
 
 /// Returns the explicit table: table 0 if one is needed and `table` is `None`.
-///
-/// # Proved
-///
-/// ```text
-/// ensures { result ≡ settled_table needed table }
-/// ```
-///
-/// Definitions: [`settled_table`](crate::definitions::sections::elements::settled_table). [How to read clauses](crate::definitions).
 fn named_table(table: Option<u32>, needed: bool) -> Option<u32> {
     match table {
         Some(table) => Some(table),
@@ -278,14 +251,6 @@ fn named_table(table: Option<u32>, needed: bool) -> Option<u32> {
 
 impl<A: Allocator> Elements<'_, A> {
     /// Returns `true` if an active segment of these references needs an explicit table.
-    ///
-    /// # Proved
-    ///
-    /// ```text
-    /// ensures { result ≡ needs_table (list_in self.now) }
-    /// ```
-    ///
-    /// Definitions: [`needs_table`](crate::definitions::sections::elements::needs_table), [`list_in`](crate::definitions::sections::given_elements::list_in). [How to read clauses](crate::definitions).
     fn needs_table(&self) -> bool {
         match self {
             Elements::Functions(_) => false,
@@ -294,15 +259,6 @@ impl<A: Allocator> Elements<'_, A> {
     }
 
     /// Returns the bit of the flag that marks expressions.
-    ///
-    /// # Proved
-    ///
-    /// ```text
-    /// ensures is { result ≡ where_set (are_expressions (list_in self.now)) 4 }
-    /// ensures small { result ≤ 4 }
-    /// ```
-    ///
-    /// Definitions: [`where_set`](crate::definitions::immediates::immediates::where_set), [`are_expressions`](crate::definitions::sections::elements::are_expressions), [`list_in`](crate::definitions::sections::given_elements::list_in). [How to read clauses](crate::definitions).
     fn flag(&self) -> u8 {
         match self {
             Elements::Functions(_) => 0,

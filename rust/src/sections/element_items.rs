@@ -16,14 +16,6 @@ pub(crate) struct ElementFlag {
 
 impl ElementFlag {
     /// Returns the number that encodes the flag.
-    ///
-    /// # Proved
-    ///
-    /// ```text
-    /// ensures { result ≡ flag_code (element_flag_view self) }
-    /// ```
-    ///
-    /// Definitions: [`flag_code`](crate::definitions::sections::elements::flag_code), [`element_flag_view`](crate::definitions::sections::elements::element_flag_view). [How to read clauses](crate::definitions).
     pub(crate) fn code(self) -> u32 {
         let not_active = if self.not_active { 1 } else { 0 };
         let second = if self.second { 2 } else { 0 };
@@ -32,14 +24,6 @@ impl ElementFlag {
     }
 
     /// Returns `true` if the kind of the elements is explicit in the encoding.
-    ///
-    /// # Proved
-    ///
-    /// ```text
-    /// ensures { result ≡ has_kind (element_flag_view self) }
-    /// ```
-    ///
-    /// Definitions: [`has_kind`](crate::definitions::sections::elements::has_kind), [`element_flag_view`](crate::definitions::sections::elements::element_flag_view). [How to read clauses](crate::definitions).
     pub(crate) fn has_kind(self) -> bool {
         self.not_active || self.second
     }
@@ -171,21 +155,6 @@ pub struct ElementItem<A: Allocator = Global> {
 }
 
 /// Decodes the mode that the flag selects.
-///
-/// # Proved
-///
-/// After `Ok`: `found`, the bytes begin with an encoding of the value, and the returned bytes follow it. After an error: `none`, the bytes do not begin with such an encoding, unless the cause is `Memory`.
-///
-/// ```text
-/// ensures found { IfOk result
-///     (λ x. Decodes (segment_mode (element_flag_view flag))
-///         (padded_of G.grammar) bytes.now (segment_mode_view x.0) x.1.now) }
-/// ensures none { IfErr result
-///     (λ e. e.cause ≢ Memory → Rejects (segment_mode (element_flag_view flag))
-///         (padded_of G.grammar) bytes.now) }
-/// ```
-///
-/// Definitions: [`Decodes`](crate::definitions::base::decoding::Decodes), [`segment_mode`](crate::definitions::sections::elements::segment_mode), [`element_flag_view`](crate::definitions::sections::elements::element_flag_view), [`padded_of`](crate::definitions::base::numbers::padded_of), [`segment_mode_view`](crate::definitions::sections::elements::segment_mode_view), [`Rejects`](crate::definitions::base::decoding::Rejects). [How to read clauses](crate::definitions).
 fn read_mode<'a, A: Allocator + Copy, G: Grammar>(
     flag: ElementFlag,
     bytes: &'a [u8],
@@ -210,21 +179,6 @@ fn read_mode<'a, A: Allocator + Copy, G: Grammar>(
 }
 
 /// Decodes the indices of functions, after the byte of their kind if that is explicit.
-///
-/// # Proved
-///
-/// After `Ok`: `found`, the bytes begin with an encoding of the value, and the returned bytes follow it. After an error: `none`, the bytes do not begin with such an encoding, unless the cause is `Memory`.
-///
-/// ```text
-/// ensures found { IfOk result
-///     (λ x. Decodes (elements_as explicit false) (padded_of G.grammar) bytes.now
-///         (list_view x.0) x.1.now) }
-/// ensures none { IfErr result
-///     (λ e. e.cause ≢ Memory → Rejects (elements_as explicit false)
-///         (padded_of G.grammar) bytes.now) }
-/// ```
-///
-/// Definitions: [`Decodes`](crate::definitions::base::decoding::Decodes), [`elements_as`](crate::definitions::sections::elements::elements_as), [`padded_of`](crate::definitions::base::numbers::padded_of), [`list_view`](crate::definitions::sections::elements::list_view), [`Rejects`](crate::definitions::base::decoding::Rejects). [How to read clauses](crate::definitions).
 fn read_functions<'a, A: Allocator + Copy, G: Grammar>(
     explicit: bool,
     bytes: &'a [u8],
@@ -243,21 +197,6 @@ fn read_functions<'a, A: Allocator + Copy, G: Grammar>(
 }
 
 /// Decodes expressions, after their type if that is explicit.
-///
-/// # Proved
-///
-/// After `Ok`: `found`, the bytes begin with an encoding of the value, and the returned bytes follow it. After an error: `none`, the bytes do not begin with such an encoding, unless the cause is `Memory`.
-///
-/// ```text
-/// ensures found { IfOk result
-///     (λ x. Decodes (elements_as explicit true) (padded_of G.grammar) bytes.now
-///         (list_view x.0) x.1.now) }
-/// ensures none { IfErr result
-///     (λ e. e.cause ≢ Memory → Rejects (elements_as explicit true)
-///         (padded_of G.grammar) bytes.now) }
-/// ```
-///
-/// Definitions: [`Decodes`](crate::definitions::base::decoding::Decodes), [`elements_as`](crate::definitions::sections::elements::elements_as), [`padded_of`](crate::definitions::base::numbers::padded_of), [`list_view`](crate::definitions::sections::elements::list_view), [`Rejects`](crate::definitions::base::decoding::Rejects). [How to read clauses](crate::definitions).
 fn read_expressions<'a, A: Allocator + Copy, G: Grammar>(
     explicit: bool,
     bytes: &'a [u8],
@@ -279,21 +218,6 @@ fn read_expressions<'a, A: Allocator + Copy, G: Grammar>(
 }
 
 /// Decodes the elements of the kind that the flag selects.
-///
-/// # Proved
-///
-/// After `Ok`: `found`, the bytes begin with an encoding of the value, and the returned bytes follow it. After an error: `none`, the bytes do not begin with such an encoding, unless the cause is `Memory`.
-///
-/// ```text
-/// ensures found { IfOk result
-///     (λ x. Decodes (elements_as explicit of_expressions) (padded_of G.grammar) bytes.now
-///         (list_view x.0) x.1.now) }
-/// ensures none { IfErr result
-///     (λ e. e.cause ≢ Memory → Rejects (elements_as explicit of_expressions)
-///         (padded_of G.grammar) bytes.now) }
-/// ```
-///
-/// Definitions: [`Decodes`](crate::definitions::base::decoding::Decodes), [`elements_as`](crate::definitions::sections::elements::elements_as), [`padded_of`](crate::definitions::base::numbers::padded_of), [`list_view`](crate::definitions::sections::elements::list_view), [`Rejects`](crate::definitions::base::decoding::Rejects). [How to read clauses](crate::definitions).
 fn read_elements<'a, A: Allocator + Copy, G: Grammar>(
     explicit: bool,
     of_expressions: bool,
@@ -335,23 +259,6 @@ impl<'a, A: Allocator + Copy, G: Grammar> Readable<'a, A, G> for ElementItem<A> 
 }
 
 /// Appends the indices of functions, after the byte of their kind if that is explicit.
-///
-/// # Proved
-///
-/// - After `Ok`, `ok`: the sink gains the encoding that is minimal in the builders' grammar.
-/// - `front`: The new bytes begin with the old ones.
-/// - `too_long`: a value that has an encoding never gives `TooLong`.
-///
-/// ```text
-/// ensures ok { OnOk result
-///     (AppendsMinimal builders_alone (elements_as explicit false)
-///         (functions indices.now.items) sink.old.items sink.new.items) }
-/// ensures front { IsFrontOf sink.old.items sink.new.items }
-/// ensures too_long { HasEncoding builders_alone (elements_as explicit false)
-///     (functions indices.now.items) → result ≢ Err TooLong }
-/// ```
-///
-/// Definitions: [`AppendsMinimal`](crate::definitions::base::minimal::AppendsMinimal), [`builders_alone`](crate::definitions::base::minimal::Grammars), [`elements_as`](crate::definitions::sections::elements::elements_as), [`functions`](crate::definitions::sections::elements::ElementList), [`IsFrontOf`](crate::definitions::base::minimal::IsFrontOf), [`HasEncoding`](crate::definitions::base::minimal::HasEncoding). [How to read clauses](crate::definitions).
 fn append_functions<A: Allocator, B: Sink>(
     explicit: bool,
     indices: &Vec<u32, A>,
@@ -365,24 +272,6 @@ fn append_functions<A: Allocator, B: Sink>(
 }
 
 /// Appends expressions, after their type if that is explicit.
-///
-/// # Proved
-///
-/// - After `Ok`, `ok`: the sink gains the encoding that is minimal in the builders' grammar.
-/// - `front`: The new bytes begin with the old ones.
-/// - `too_long`: a value that has an encoding never gives `TooLong`.
-///
-/// ```text
-/// ensures ok { OnOk result
-///     (AppendsMinimal builders_alone (elements_as explicit true)
-///         (expressions ty (map instructions_view elements.now.items)) sink.old.items
-///         sink.new.items) }
-/// ensures front { IsFrontOf sink.old.items sink.new.items }
-/// ensures too_long { HasEncoding builders_alone (elements_as explicit true)
-///     (expressions ty (map instructions_view elements.now.items)) → result ≢ Err TooLong }
-/// ```
-///
-/// Definitions: [`AppendsMinimal`](crate::definitions::base::minimal::AppendsMinimal), [`builders_alone`](crate::definitions::base::minimal::Grammars), [`elements_as`](crate::definitions::sections::elements::elements_as), [`expressions`](crate::definitions::sections::elements::ElementList), [`instructions_view`](crate::definitions::sections::constants::instructions_view), [`IsFrontOf`](crate::definitions::base::minimal::IsFrontOf), [`HasEncoding`](crate::definitions::base::minimal::HasEncoding). [How to read clauses](crate::definitions).
 fn append_expressions<A: Allocator, B: Sink>(
     explicit: bool,
     ty: RefType,
@@ -397,27 +286,6 @@ fn append_expressions<A: Allocator, B: Sink>(
 }
 
 /// Appends the table if it is explicit, and the offset of the first element.
-///
-/// # Proved
-///
-/// - After `Ok`, `ok`: the sink gains the encoding that is minimal in the builders' grammar.
-/// - `front`: The new bytes begin with the old ones.
-/// - `too_long`: a value that has an encoding never gives `TooLong`.
-///
-/// ```text
-/// ensures ok { OnOk result
-///     (AppendsMinimal builders_alone
-///         (segment_mode (record { not_active = false; second = is_given table;
-///                     expressions = false })) (active table
-///             (instructions_view offset.now)) sink.old.items sink.new.items) }
-/// ensures front { IsFrontOf sink.old.items sink.new.items }
-/// ensures too_long { HasEncoding builders_alone
-///     (segment_mode (record { not_active = false; second = is_given table;
-///                 expressions = false })) (active table (instructions_view offset.now))
-///     → result ≢ Err TooLong }
-/// ```
-///
-/// Definitions: [`AppendsMinimal`](crate::definitions::base::minimal::AppendsMinimal), [`builders_alone`](crate::definitions::base::minimal::Grammars), [`segment_mode`](crate::definitions::sections::elements::segment_mode), [`is_given`](crate::definitions::base::formats::is_given), [`active`](crate::definitions::sections::elements::SegmentMode), [`instructions_view`](crate::definitions::sections::constants::instructions_view), [`IsFrontOf`](crate::definitions::base::minimal::IsFrontOf), [`HasEncoding`](crate::definitions::base::minimal::HasEncoding). [How to read clauses](crate::definitions).
 fn append_active<A: Allocator, B: Sink>(
     table: Option<u32>,
     offset: &Expression<A>,
@@ -434,14 +302,6 @@ fn append_active<A: Allocator, B: Sink>(
 
 impl<A: Allocator> ElementItem<A> {
     /// Returns the flag of the segment.
-    ///
-    /// # Proved
-    ///
-    /// ```text
-    /// ensures { element_flag_view result ≡ flag_of (element_view self.now) }
-    /// ```
-    ///
-    /// Definitions: [`element_flag_view`](crate::definitions::sections::elements::element_flag_view), [`flag_of`](crate::definitions::sections::elements::flag_of), [`element_view`](crate::definitions::sections::elements::element_view). [How to read clauses](crate::definitions).
     fn flag(&self) -> ElementFlag {
         let not_active = !matches!(self.mode, ElementItemMode::Active { .. });
         let second = match &self.mode {
@@ -458,24 +318,6 @@ impl<A: Allocator> ElementItem<A> {
     }
 
     /// Appends the table and the offset, as the mode needs them.
-    ///
-    /// # Proved
-    ///
-    /// - After `Ok`, `ok`: the sink gains the encoding that is minimal in the builders' grammar.
-    /// - `front`: The new bytes begin with the old ones.
-    /// - `too_long`: a value that has an encoding never gives `TooLong`.
-    ///
-    /// ```text
-    /// ensures ok { OnOk result
-    ///     (AppendsMinimal builders_alone (segment_mode (flag_of (element_view self.now)))
-    ///         (segment_mode_view self.now.mode) sink.old.items sink.new.items) }
-    /// ensures front { IsFrontOf sink.old.items sink.new.items }
-    /// ensures too_long { HasEncoding builders_alone
-    ///     (segment_mode (flag_of (element_view self.now))) (segment_mode_view self.now.mode)
-    ///     → result ≢ Err TooLong }
-    /// ```
-    ///
-    /// Definitions: [`AppendsMinimal`](crate::definitions::base::minimal::AppendsMinimal), [`builders_alone`](crate::definitions::base::minimal::Grammars), [`segment_mode`](crate::definitions::sections::elements::segment_mode), [`flag_of`](crate::definitions::sections::elements::flag_of), [`element_view`](crate::definitions::sections::elements::element_view), [`segment_mode_view`](crate::definitions::sections::elements::segment_mode_view), [`IsFrontOf`](crate::definitions::base::minimal::IsFrontOf), [`HasEncoding`](crate::definitions::base::minimal::HasEncoding). [How to read clauses](crate::definitions).
     fn append_segment_mode<B: Sink>(&self, sink: &mut B) -> Result<()> {
         match &self.mode {
             ElementItemMode::Passive => Ok(()),
@@ -486,25 +328,6 @@ impl<A: Allocator> ElementItem<A> {
 }
 
 /// Appends the elements, after their kind if that is explicit.
-///
-/// # Proved
-///
-/// - After `Ok`, `ok`: the sink gains the encoding that is minimal in the builders' grammar.
-/// - `front`: The new bytes begin with the old ones.
-/// - `too_long`: a value that has an encoding never gives `TooLong`.
-///
-/// ```text
-/// ensures ok { OnOk result
-///     (AppendsMinimal builders_alone
-///         (elements_as explicit (are_expressions (list_view elements.now)))
-///         (list_view elements.now) sink.old.items sink.new.items) }
-/// ensures front { IsFrontOf sink.old.items sink.new.items }
-/// ensures too_long { HasEncoding builders_alone
-///     (elements_as explicit (are_expressions (list_view elements.now)))
-///     (list_view elements.now) → result ≢ Err TooLong }
-/// ```
-///
-/// Definitions: [`AppendsMinimal`](crate::definitions::base::minimal::AppendsMinimal), [`builders_alone`](crate::definitions::base::minimal::Grammars), [`elements_as`](crate::definitions::sections::elements::elements_as), [`are_expressions`](crate::definitions::sections::elements::are_expressions), [`list_view`](crate::definitions::sections::elements::list_view), [`IsFrontOf`](crate::definitions::base::minimal::IsFrontOf), [`HasEncoding`](crate::definitions::base::minimal::HasEncoding). [How to read clauses](crate::definitions).
 fn append_elements<A: Allocator, B: Sink>(
     explicit: bool,
     elements: &ElementList<A>,

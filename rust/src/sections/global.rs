@@ -73,14 +73,6 @@ pub struct GlobalType {
 
 impl GlobalType {
     /// Returns the flags: a bit for each attribute that is set.
-    ///
-    /// # Proved
-    ///
-    /// ```text
-    /// ensures { result ≡ global_code (global_flags self.now) }
-    /// ```
-    ///
-    /// Definitions: [`global_code`](crate::definitions::sections::globals::global_code), [`global_flags`](crate::definitions::sections::globals::global_flags). [How to read clauses](crate::definitions).
     #[inline]
     pub(crate) fn flags(&self) -> u8 {
         where_set(self.mutable, 0x01) + where_set(self.shared, 0x02)

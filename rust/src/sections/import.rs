@@ -529,16 +529,6 @@ impl<'a, A: Allocator + Copy, G: Grammar> Readable<'a, A, G> for ImportCompact<'
 /// Returns the kind byte of a group and the remaining bytes, if the bytes begin with 00 and a byte
 /// of 7E or above. Such a byte is the kind of no entity, so no single import begins so after its
 /// module name.
-///
-/// # Proved
-///
-/// ```text
-/// ensures { MatchOption result
-///     (Rejects (prefixed (0x00 ∷ []) group) (padded_of G.grammar) bytes.now)
-///     (λ x. (bytes.now ≡ 0x00 ∷ x.0 ∷ x.1.now) × (0x7E ≤ x.0)) }
-/// ```
-///
-/// Definitions: [`Rejects`](crate::definitions::base::decoding::Rejects), [`prefixed`](crate::definitions::base::formats::prefixed), [`group`](crate::definitions::sections::imports::group), [`padded_of`](crate::definitions::base::numbers::padded_of). [How to read clauses](crate::definitions).
 pub(crate) fn group_kind<G: Grammar>(bytes: &[u8]) -> Option<(u8, &[u8])> {
     match bytes {
         [0x00, kind @ 0x7E..=0xFF, rest @ ..] => Some((*kind, rest)),
@@ -640,23 +630,6 @@ pub fn read_imports<'a, A: Allocator + Copy + 'a, G: Grammar>(
 
 /// Writes the bytes that [`append_imports`] appends. After an error, part of them may follow the
 /// old bytes.
-///
-/// # Proved
-///
-/// - After `Ok`, `ok`: the sink gains the encoding that is minimal in the builders' grammar.
-/// - `front`: The new bytes begin with the old ones.
-/// - `too_long`: a value that has an encoding never gives `TooLong`.
-///
-/// ```text
-/// ensures ok { OnOk result
-///     (AppendsMinimal builders_alone (vec import_format)
-///         (map imports_item imports.now) sink.old.items sink.new.items) }
-/// ensures front { IsFrontOf sink.old.items sink.new.items }
-/// ensures too_long { HasEncoding builders_alone (vec import_format)
-///     (map imports_item imports.now) → result ≢ Err TooLong }
-/// ```
-///
-/// Definitions: [`AppendsMinimal`](crate::definitions::base::minimal::AppendsMinimal), [`builders_alone`](crate::definitions::base::minimal::Grammars), [`vec`](crate::definitions::base::formats::vec), [`import_format`](crate::definitions::sections::imports::import_format), [`imports_item`](crate::definitions::sections::imports::imports_item), [`IsFrontOf`](crate::definitions::base::minimal::IsFrontOf), [`HasEncoding`](crate::definitions::base::minimal::HasEncoding). [How to read clauses](crate::definitions).
 fn write_imports<A: Allocator, B: Sink>(
     imports: &[Imports<'_, A>],
     sink: &mut B,

@@ -128,14 +128,6 @@ impl MemoryType {
 
     /// Returns the flags: a bit for each optional field that is present, and for each attribute
     /// that is set.
-    ///
-    /// # Proved
-    ///
-    /// ```text
-    /// ensures { result ≡ flags_code (memory_flags self.now) }
-    /// ```
-    ///
-    /// Definitions: [`flags_code`](crate::definitions::sections::flags::flags_code), [`memory_flags`](crate::definitions::sections::memories::memory_flags). [How to read clauses](crate::definitions).
     #[inline]
     fn flags(&self) -> u8 {
         where_set(self.maximum.is_some(), 0x01)

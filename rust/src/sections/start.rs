@@ -48,21 +48,6 @@ pub struct DataCountSection {
 }
 
 /// Appends the number with its size prefix, which decode to this number alone.
-///
-/// # Proved
-///
-/// - After `Ok`, `read`: The encoding is the only minimal one of these items, and decodes to them alone.
-/// - `appends`: The call appends the encoding, or returns an error and leaves the bytes as they were. If the value fits, the call never returns `TooLong`, and it succeeds within the spare capacity.
-///
-/// ```text
-/// ensures appends { Appends (size_prefixed_encoding (unsigned_encoding number))
-///     (HasEncodableSize (unsigned_encoding number)) sink.old sink.new result }
-/// ensures read { OnOk result
-///     (DecodesBack (size_prefixed u32_format) (λ said. said ≡ number)
-///         (size_prefixed_encoding (unsigned_encoding number))) }
-/// ```
-///
-/// Definitions: [`Appends`](crate::definitions::base::calls::Appends), [`size_prefixed_encoding`](crate::definitions::base::encodings::size_prefixed_encoding), [`unsigned_encoding`](crate::definitions::base::numbers::unsigned_encoding), [`HasEncodableSize`](crate::definitions::base::encodings::HasEncodableSize), [`DecodesBack`](crate::definitions::base::calls::DecodesBack), [`size_prefixed`](crate::definitions::base::formats::size_prefixed), [`u32_format`](crate::definitions::base::formats::u32). [How to read clauses](crate::definitions).
 fn encode_number<A: Sink>(sink: &mut A, number: u32) -> Result<()> {
     begin_size_prefixed(sink, encoding_size(number))?;
     number.encode(sink).unwrap();

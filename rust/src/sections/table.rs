@@ -111,14 +111,6 @@ impl TableType {
 
     /// Returns the flags: a bit for each optional field that is present, and for each attribute
     /// that is set.
-    ///
-    /// # Proved
-    ///
-    /// ```text
-    /// ensures { result ≡ flags_code (table_flags self.now) }
-    /// ```
-    ///
-    /// Definitions: [`flags_code`](crate::definitions::sections::flags::flags_code), [`table_flags`](crate::definitions::sections::tables::table_flags). [How to read clauses](crate::definitions).
     #[inline]
     pub(crate) fn flags(&self) -> u8 {
         where_set(self.maximum.is_some(), 0x01)

@@ -86,14 +86,6 @@ pub struct TagType {
 
 impl TagKind {
     /// Returns the byte that encodes the kind.
-    ///
-    /// # Proved
-    ///
-    /// ```text
-    /// ensures { result ≡ tag_code self }
-    /// ```
-    ///
-    /// Definitions: [`tag_code`](crate::definitions::sections::tags::tag_code). [How to read clauses](crate::definitions).
     #[inline]
     fn byte(self) -> u8 {
         match self {

@@ -164,22 +164,6 @@ impl<G: Grammar, C: Allocator> Walk<G> for TableItem<C> {
 }
 
 /// Walks over the bytes of a data segment, with their size prefix.
-///
-/// # Proved
-///
-/// After `Ok`: `found`, the bytes begin with an encoding, the effect takes the minimal one, and the returned bytes follow it. After an error: `none`, the bytes do not begin with such an encoding, unless the cause is `Memory`; `no_memory`, the cause is `Memory` only with an effect whose calls may fail. In any case: `front`, the effect keeps what it took before.
-///
-/// ```text
-/// ensures found { IfOk result
-///     (λ rest. Walks E.seen G.grammar (vec byte) bytes.now rest.now effect.old effect.new)
-///     }
-/// ensures none { IfErr result
-///     (λ e. e.cause ≢ Memory → Rejects (vec byte) (padded_of G.grammar) bytes.now) }
-/// ensures no_memory { IfErr result (λ e. e.cause ≡ Memory → E.may_fail) }
-/// ensures front { Keeps E.seen effect.old effect.new }
-/// ```
-///
-/// Definitions: [`Walks`](crate::definitions::base::walks::Walks), [`vec`](crate::definitions::base::formats::vec), [`byte`](crate::definitions::base::formats::byte), [`Rejects`](crate::definitions::base::decoding::Rejects), [`padded_of`](crate::definitions::base::numbers::padded_of), [`Keeps`](crate::definitions::base::walks::Keeps). [How to read clauses](crate::definitions).
 fn walk_bytes<'a, A: Allocator + Copy, G: Grammar, E: Effect>(
     bytes: &'a [u8],
     alloc: A,
@@ -191,23 +175,6 @@ fn walk_bytes<'a, A: Allocator + Copy, G: Grammar, E: Effect>(
 }
 
 /// Walks over the offset of a data segment, and then its bytes.
-///
-/// # Proved
-///
-/// After `Ok`: `found`, the bytes begin with an encoding, the effect takes the minimal one, and the returned bytes follow it. After an error: `none`, the bytes do not begin with such an encoding, unless the cause is `Memory`; `no_memory`, the cause is `Memory` only with an effect whose calls may fail. In any case: `front`, the effect keeps what it took before.
-///
-/// ```text
-/// ensures found { IfOk result
-///     (λ rest. Walks E.seen G.grammar
-///         (pair expression (vec byte)) bytes.now rest.now effect.old effect.new) }
-/// ensures none { IfErr result
-///     (λ e. e.cause ≢ Memory → Rejects (pair expression (vec byte))
-///         (padded_of G.grammar) bytes.now) }
-/// ensures no_memory { IfErr result (λ e. e.cause ≡ Memory → E.may_fail) }
-/// ensures front { Keeps E.seen effect.old effect.new }
-/// ```
-///
-/// Definitions: [`Walks`](crate::definitions::base::walks::Walks), [`pair`](crate::definitions::base::formats::pair), [`expression`](crate::definitions::code::expressions::expression), [`vec`](crate::definitions::base::formats::vec), [`byte`](crate::definitions::base::formats::byte), [`Rejects`](crate::definitions::base::decoding::Rejects), [`padded_of`](crate::definitions::base::numbers::padded_of), [`Keeps`](crate::definitions::base::walks::Keeps). [How to read clauses](crate::definitions).
 fn walk_placed<'a, A: Allocator + Copy, G: Grammar, E: Effect>(
     bytes: &'a [u8],
     alloc: A,
@@ -267,21 +234,6 @@ impl<'s, G: Grammar, C: Allocator> Walk<G> for Segment<'s, C> {
 }
 
 /// Gives the effect the flag of an active segment, and the memory's index unless it is 0.
-///
-/// # Proved
-///
-/// - After `Ok`, `ok`: The state takes these bytes.
-/// - After an error, `err`: the effect is one whose calls may fail.
-/// - `front`: the effect keeps what it took before.
-///
-/// ```text
-/// ensures ok { OnOk result
-///     (TakesBytes E.seen (active_front memory) effect.old effect.new) }
-/// ensures err { OnErr result E.may_fail }
-/// ensures front { Keeps E.seen effect.old effect.new }
-/// ```
-///
-/// Definitions: [`TakesBytes`](crate::definitions::base::walks::TakesBytes), [`active_front`](crate::definitions::sections::data_segments::active_front), [`Keeps`](crate::definitions::base::walks::Keeps). [How to read clauses](crate::definitions).
 fn put_memory<E: Effect>(memory: u32, effect: &mut E) -> Result<()> {
     if memory == 0 {
         effect.put(&0u32)
@@ -291,24 +243,6 @@ fn put_memory<E: Effect>(memory: u32, effect: &mut E) -> Result<()> {
 }
 
 /// Walks over the mode of an element segment.
-///
-/// # Proved
-///
-/// After `Ok`: `found`, the bytes begin with an encoding, the effect takes the minimal one, and the returned bytes follow it. After an error: `none`, the bytes do not begin with such an encoding, unless the cause is `Memory`; `no_memory`, the cause is `Memory` only with an effect whose calls may fail. In any case: `front`, the effect keeps what it took before.
-///
-/// ```text
-/// ensures found { IfOk result
-///     (λ rest. Walks E.seen G.grammar
-///         (segment_mode (element_flag_view flag)) bytes.now rest.now effect.old
-///         effect.new) }
-/// ensures none { IfErr result
-///     (λ e. e.cause ≢ Memory → Rejects (segment_mode (element_flag_view flag))
-///         (padded_of G.grammar) bytes.now) }
-/// ensures no_memory { IfErr result (λ e. e.cause ≡ Memory → E.may_fail) }
-/// ensures front { Keeps E.seen effect.old effect.new }
-/// ```
-///
-/// Definitions: [`Walks`](crate::definitions::base::walks::Walks), [`segment_mode`](crate::definitions::sections::elements::segment_mode), [`element_flag_view`](crate::definitions::sections::elements::element_flag_view), [`Rejects`](crate::definitions::base::decoding::Rejects), [`padded_of`](crate::definitions::base::numbers::padded_of), [`Keeps`](crate::definitions::base::walks::Keeps). [How to read clauses](crate::definitions).
 fn walk_segment_mode<'a, A: Allocator + Copy, G: Grammar, E: Effect>(
     flag: ElementFlag,
     bytes: &'a [u8],
@@ -330,23 +264,6 @@ fn walk_segment_mode<'a, A: Allocator + Copy, G: Grammar, E: Effect>(
 }
 
 /// Walks over elements that are functions.
-///
-/// # Proved
-///
-/// After `Ok`: `found`, the bytes begin with an encoding, the effect takes the minimal one, and the returned bytes follow it. After an error: `none`, the bytes do not begin with such an encoding, unless the cause is `Memory`; `no_memory`, the cause is `Memory` only with an effect whose calls may fail. In any case: `front`, the effect keeps what it took before.
-///
-/// ```text
-/// ensures found { IfOk result
-///     (λ rest. Walks E.seen G.grammar
-///         (elements_as explicit false) bytes.now rest.now effect.old effect.new) }
-/// ensures none { IfErr result
-///     (λ e. e.cause ≢ Memory → Rejects (elements_as explicit false)
-///         (padded_of G.grammar) bytes.now) }
-/// ensures no_memory { IfErr result (λ e. e.cause ≡ Memory → E.may_fail) }
-/// ensures front { Keeps E.seen effect.old effect.new }
-/// ```
-///
-/// Definitions: [`Walks`](crate::definitions::base::walks::Walks), [`elements_as`](crate::definitions::sections::elements::elements_as), [`Rejects`](crate::definitions::base::decoding::Rejects), [`padded_of`](crate::definitions::base::numbers::padded_of), [`Keeps`](crate::definitions::base::walks::Keeps). [How to read clauses](crate::definitions).
 fn walk_functions<'a, A: Allocator + Copy, G: Grammar, E: Effect>(
     explicit: bool,
     bytes: &'a [u8],
@@ -367,23 +284,6 @@ fn walk_functions<'a, A: Allocator + Copy, G: Grammar, E: Effect>(
 }
 
 /// Walks over elements that are expressions.
-///
-/// # Proved
-///
-/// After `Ok`: `found`, the bytes begin with an encoding, the effect takes the minimal one, and the returned bytes follow it. After an error: `none`, the bytes do not begin with such an encoding, unless the cause is `Memory`; `no_memory`, the cause is `Memory` only with an effect whose calls may fail. In any case: `front`, the effect keeps what it took before.
-///
-/// ```text
-/// ensures found { IfOk result
-///     (λ rest. Walks E.seen G.grammar
-///         (elements_as explicit true) bytes.now rest.now effect.old effect.new) }
-/// ensures none { IfErr result
-///     (λ e. e.cause ≢ Memory → Rejects (elements_as explicit true)
-///         (padded_of G.grammar) bytes.now) }
-/// ensures no_memory { IfErr result (λ e. e.cause ≡ Memory → E.may_fail) }
-/// ensures front { Keeps E.seen effect.old effect.new }
-/// ```
-///
-/// Definitions: [`Walks`](crate::definitions::base::walks::Walks), [`elements_as`](crate::definitions::sections::elements::elements_as), [`Rejects`](crate::definitions::base::decoding::Rejects), [`padded_of`](crate::definitions::base::numbers::padded_of), [`Keeps`](crate::definitions::base::walks::Keeps). [How to read clauses](crate::definitions).
 fn walk_expressions<'a, A: Allocator + Copy, G: Grammar, E: Effect>(
     explicit: bool,
     bytes: &'a [u8],
@@ -400,24 +300,6 @@ fn walk_expressions<'a, A: Allocator + Copy, G: Grammar, E: Effect>(
 }
 
 /// Walks over the elements of a segment.
-///
-/// # Proved
-///
-/// After `Ok`: `found`, the bytes begin with an encoding, the effect takes the minimal one, and the returned bytes follow it. After an error: `none`, the bytes do not begin with such an encoding, unless the cause is `Memory`; `no_memory`, the cause is `Memory` only with an effect whose calls may fail. In any case: `front`, the effect keeps what it took before.
-///
-/// ```text
-/// ensures found { IfOk result
-///     (λ rest. Walks E.seen G.grammar
-///         (elements_as explicit of_expressions) bytes.now rest.now effect.old effect.new)
-///     }
-/// ensures none { IfErr result
-///     (λ e. e.cause ≢ Memory → Rejects (elements_as explicit of_expressions)
-///         (padded_of G.grammar) bytes.now) }
-/// ensures no_memory { IfErr result (λ e. e.cause ≡ Memory → E.may_fail) }
-/// ensures front { Keeps E.seen effect.old effect.new }
-/// ```
-///
-/// Definitions: [`Walks`](crate::definitions::base::walks::Walks), [`elements_as`](crate::definitions::sections::elements::elements_as), [`Rejects`](crate::definitions::base::decoding::Rejects), [`padded_of`](crate::definitions::base::numbers::padded_of), [`Keeps`](crate::definitions::base::walks::Keeps). [How to read clauses](crate::definitions).
 fn walk_elements<'a, A: Allocator + Copy, G: Grammar, E: Effect>(
     explicit: bool,
     of_expressions: bool,

@@ -59,21 +59,6 @@ pub enum TypeEntry<A: Allocator = Global> {
 }
 
 /// Decodes supertypes, and a composite type.
-///
-/// # Proved
-///
-/// - After `Ok`, `found`: The bytes begin with such an encoding, and the remaining bytes follow it.
-/// - After an error, `none`: the bytes do not begin with such an encoding, unless the cause is `Memory`.
-///
-/// ```text
-/// ensures found { IfOk result
-///     (λ x. Decodes supertypes_and (padded_of G.grammar) bytes.now
-///         (x.0.items, composite_in x.1) x.2.now) }
-/// ensures none { IfErr result
-///     (λ e. e.cause ≢ Memory → Rejects supertypes_and (padded_of G.grammar) bytes.now) }
-/// ```
-///
-/// Definitions: [`Decodes`](crate::definitions::base::decoding::Decodes), [`supertypes_and`](crate::definitions::types::rec_types::supertypes_and), [`padded_of`](crate::definitions::base::numbers::padded_of), [`composite_in`](crate::definitions::types::given::composite_in), [`Rejects`](crate::definitions::base::decoding::Rejects). [How to read clauses](crate::definitions).
 fn read_supertypes_and<'a, A: Allocator + Copy, G: Grammar>(
     bytes: &'a [u8],
     alloc: A,
@@ -85,22 +70,6 @@ fn read_supertypes_and<'a, A: Allocator + Copy, G: Grammar>(
 
 /// Decodes the supertypes of a final type, and its composite type. Only the standard's grammar has
 /// an empty vector of supertypes here.
-///
-/// # Proved
-///
-/// - After `Ok`, `found`: The bytes begin with such an encoding, and the remaining bytes follow it.
-/// - After an error, `none`: the bytes do not begin with such an encoding, unless the cause is `Memory`.
-///
-/// ```text
-/// ensures found { IfOk result
-///     (λ x. Decodes (such (HasFinalPrefix G.grammar) supertypes_and)
-///         (padded_of G.grammar) bytes.now (x.0.items, composite_in x.1) x.2.now) }
-/// ensures none { IfErr result
-///     (λ e. e.cause ≢ Memory → Rejects (such (HasFinalPrefix G.grammar) supertypes_and)
-///         (padded_of G.grammar) bytes.now) }
-/// ```
-///
-/// Definitions: [`Decodes`](crate::definitions::base::decoding::Decodes), [`such`](crate::definitions::base::formats::such), [`HasFinalPrefix`](crate::definitions::types::rec_types::HasFinalPrefix), [`supertypes_and`](crate::definitions::types::rec_types::supertypes_and), [`padded_of`](crate::definitions::base::numbers::padded_of), [`composite_in`](crate::definitions::types::given::composite_in), [`Rejects`](crate::definitions::base::decoding::Rejects). [How to read clauses](crate::definitions).
 fn read_final_and<'a, A: Allocator + Copy, G: Grammar>(
     bytes: &'a [u8],
     alloc: A,
@@ -114,20 +83,6 @@ fn read_final_and<'a, A: Allocator + Copy, G: Grammar>(
 }
 
 /// Decodes a subtype after its first byte, `tag`.
-///
-/// # Proved
-///
-/// After `Ok`: `found`, the bytes begin with an encoding of the value, and the returned bytes follow it. After an error: `none`, the bytes do not begin with such an encoding, unless the cause is `Memory`.
-///
-/// ```text
-/// ensures found { IfOk result
-///     (λ x. Decodes (after_sub tag) (padded_of G.grammar) bytes.now
-///         (sub_view x.0) x.1.now) }
-/// ensures none { IfErr result
-///     (λ e. e.cause ≢ Memory → Rejects (after_sub tag) (padded_of G.grammar) bytes.now) }
-/// ```
-///
-/// Definitions: [`Decodes`](crate::definitions::base::decoding::Decodes), [`after_sub`](crate::definitions::types::rec_types::after_sub), [`padded_of`](crate::definitions::base::numbers::padded_of), [`sub_view`](crate::definitions::types::items::sub_view), [`Rejects`](crate::definitions::base::decoding::Rejects). [How to read clauses](crate::definitions).
 fn read_sub_after<'a, A: Allocator + Copy, G: Grammar>(
     tag: u8,
     bytes: &'a [u8],

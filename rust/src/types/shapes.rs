@@ -7,21 +7,6 @@ use crate::alloc::Allocator;
 use crate::base::{DecodeError, Grammar, ReadFault, Readable, ValType, read_index};
 
 /// Decodes an inner type after its first byte, `tag`.
-///
-/// # Proved
-///
-/// After `Ok`: `found`, the bytes begin with an encoding of the value, and the returned bytes follow it. After an error: `none`, the bytes do not begin with such an encoding, unless the cause is `Memory`.
-///
-/// ```text
-/// ensures found { IfOk result
-///     (λ x. Decodes (after_shape tag) (padded_of G.grammar) bytes.now
-///         (shape_in x.0) x.1.now) }
-/// ensures none { IfErr result
-///     (λ e. e.cause ≢ Memory → Rejects (after_shape tag) (padded_of G.grammar) bytes.now)
-///     }
-/// ```
-///
-/// Definitions: [`Decodes`](crate::definitions::base::decoding::Decodes), [`after_shape`](crate::definitions::types::rec_types::after_shape), [`padded_of`](crate::definitions::base::numbers::padded_of), [`shape_in`](crate::definitions::types::given::shape_in), [`Rejects`](crate::definitions::base::decoding::Rejects). [How to read clauses](crate::definitions).
 fn read_shape_after<'a, A: Allocator + Copy, G: Grammar>(
     tag: u8,
     bytes: &'a [u8],
@@ -56,21 +41,6 @@ fn read_shape_after<'a, A: Allocator + Copy, G: Grammar>(
 }
 
 /// Decodes an optional descriptor and an inner type after the first byte, `tag`.
-///
-/// # Proved
-///
-/// After `Ok`: `found`, the bytes begin with an encoding of the value, and the returned bytes follow it. After an error: `none`, the bytes do not begin with such an encoding, unless the cause is `Memory`.
-///
-/// ```text
-/// ensures found { IfOk result
-///     (λ x. Decodes (after_descriptor tag) (padded_of G.grammar) bytes.now
-///         (described_view x.0) x.1.now) }
-/// ensures none { IfErr result
-///     (λ e. e.cause ≢ Memory → Rejects (after_descriptor tag)
-///         (padded_of G.grammar) bytes.now) }
-/// ```
-///
-/// Definitions: [`Decodes`](crate::definitions::base::decoding::Decodes), [`after_descriptor`](crate::definitions::types::rec_types::after_descriptor), [`padded_of`](crate::definitions::base::numbers::padded_of), [`described_view`](crate::definitions::types::items::described_view), [`Rejects`](crate::definitions::base::decoding::Rejects). [How to read clauses](crate::definitions).
 fn read_descriptor_after<'a, A: Allocator + Copy, G: Grammar>(
     tag: u8,
     bytes: &'a [u8],
@@ -88,21 +58,6 @@ fn read_descriptor_after<'a, A: Allocator + Copy, G: Grammar>(
 
 /// Decodes an optional described type, an optional descriptor and an inner type after the first
 /// byte, `tag`.
-///
-/// # Proved
-///
-/// After `Ok`: `found`, the bytes begin with an encoding of the value, and the returned bytes follow it. After an error: `none`, the bytes do not begin with such an encoding, unless the cause is `Memory`.
-///
-/// ```text
-/// ensures found { IfOk result
-///     (λ x. Decodes (after_describes tag) (padded_of G.grammar) bytes.now
-///         (describing_view x.0) x.1.now) }
-/// ensures none { IfErr result
-///     (λ e. e.cause ≢ Memory → Rejects (after_describes tag)
-///         (padded_of G.grammar) bytes.now) }
-/// ```
-///
-/// Definitions: [`Decodes`](crate::definitions::base::decoding::Decodes), [`after_describes`](crate::definitions::types::rec_types::after_describes), [`padded_of`](crate::definitions::base::numbers::padded_of), [`describing_view`](crate::definitions::types::items::describing_view), [`Rejects`](crate::definitions::base::decoding::Rejects). [How to read clauses](crate::definitions).
 fn read_describes_after<'a, A: Allocator + Copy, G: Grammar>(
     tag: u8,
     bytes: &'a [u8],
@@ -125,21 +80,6 @@ fn read_describes_after<'a, A: Allocator + Copy, G: Grammar>(
 }
 
 /// Decodes a composite type after its first byte, `tag`.
-///
-/// # Proved
-///
-/// After `Ok`: `found`, the bytes begin with an encoding of the value, and the returned bytes follow it. After an error: `none`, the bytes do not begin with such an encoding, unless the cause is `Memory`.
-///
-/// ```text
-/// ensures found { IfOk result
-///     (λ x. Decodes (after_composite tag) (padded_of G.grammar) bytes.now
-///         (composite_in x.0) x.1.now) }
-/// ensures none { IfErr result
-///     (λ e. e.cause ≢ Memory → Rejects (after_composite tag)
-///         (padded_of G.grammar) bytes.now) }
-/// ```
-///
-/// Definitions: [`Decodes`](crate::definitions::base::decoding::Decodes), [`after_composite`](crate::definitions::types::rec_types::after_composite), [`padded_of`](crate::definitions::base::numbers::padded_of), [`composite_in`](crate::definitions::types::given::composite_in), [`Rejects`](crate::definitions::base::decoding::Rejects). [How to read clauses](crate::definitions).
 pub(crate) fn read_composite_after<'a, A: Allocator + Copy, G: Grammar>(
     tag: u8,
     bytes: &'a [u8],
@@ -172,20 +112,6 @@ pub(crate) fn read_composite_after<'a, A: Allocator + Copy, G: Grammar>(
 }
 
 /// Decodes a composite type.
-///
-/// # Proved
-///
-/// After `Ok`: `found`, the bytes begin with an encoding of the value, and the returned bytes follow it. After an error: `none`, the bytes do not begin with such an encoding, unless the cause is `Memory`.
-///
-/// ```text
-/// ensures found { IfOk result
-///     (λ x. Decodes composite_type (padded_of G.grammar) bytes.now
-///         (composite_in x.0) x.1.now) }
-/// ensures none { IfErr result
-///     (λ e. e.cause ≢ Memory → Rejects composite_type (padded_of G.grammar) bytes.now) }
-/// ```
-///
-/// Definitions: [`Decodes`](crate::definitions::base::decoding::Decodes), [`composite_type`](crate::definitions::types::rec_types::composite_type), [`padded_of`](crate::definitions::base::numbers::padded_of), [`composite_in`](crate::definitions::types::given::composite_in), [`Rejects`](crate::definitions::base::decoding::Rejects). [How to read clauses](crate::definitions).
 pub(crate) fn read_composite<'a, A: Allocator + Copy, G: Grammar>(
     bytes: &'a [u8],
     alloc: A,

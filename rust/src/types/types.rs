@@ -288,30 +288,6 @@ impl<A: Allocator + Copy> FuncType<A> {
 }
 
 /// Returns the types that an iterator yields.
-///
-/// # Asks
-///
-/// The iterator ends. [What happens otherwise](crate::fallible#what-is-asked).
-///
-/// ```text
-/// requires { (it : P.IntoIter) → P.into_iter_gives types it
-///     → P.IntoIter.can_next it × IsFinite (P.IntoIter.remaining it) }
-/// ```
-///
-/// [How to read clauses](crate::definitions).
-///
-/// # Proved
-///
-/// In any case: `memory`, no error is `TooLong`.
-///
-/// ```text
-/// ensures all { IfOk result
-///     (λ v. (it : P.IntoIter) × P.into_iter_gives types it
-///         × Drains P.IntoIter.next_gives it v.items) }
-/// ensures memory { result ≢ Err TooLong }
-/// ```
-///
-/// [How to read clauses](crate::definitions).
 fn collected<A: Allocator, P: IntoIterator<Item = ValType>>(
     alloc: A,
     types: P,
@@ -366,17 +342,6 @@ impl<A: Allocator> FuncType<A> {
 }
 
 /// Returns a copy of the items in newly allocated memory.
-///
-/// # Proved
-///
-/// After `Ok`: `same`, the result has the same items. In any case: `memory`, no error is `TooLong`.
-///
-/// ```text
-/// ensures same { IfOk result (λ copies. copies.items ≡ items.now.items) }
-/// ensures memory { result ≢ Err TooLong }
-/// ```
-///
-/// [How to read clauses](crate::definitions).
 fn copied<T: Copy, A: Allocator + Copy>(items: &Vec<T, A>) -> Result<Vec<T, A>> {
     Ok(Vec::from_slice(*items.allocator(), items.as_slice())?)
 }
@@ -531,14 +496,6 @@ impl Encode for StorageType {
 }
 
 /// Returns the byte that encodes the mutability of a field.
-///
-/// # Proved
-///
-/// ```text
-/// ensures { result ≡ mutable_code mutable }
-/// ```
-///
-/// Definitions: [`mutable_code`](crate::definitions::types::rec_types::mutable_code). [How to read clauses](crate::definitions).
 #[inline]
 pub(crate) fn mutability(mutable: bool) -> u8 {
     if mutable { 0x01 } else { 0x00 }

@@ -61,21 +61,6 @@ impl<G: Grammar> Walk<G> for FieldType {
 }
 
 /// Walks over the index of a continuation's function type.
-///
-/// # Proved
-///
-/// After `Ok`: `found`, the bytes begin with an encoding, the effect takes the minimal one, and the returned bytes follow it. After an error: `none`, the bytes do not begin with such an encoding, unless the cause is `Memory`; `no_memory`, the cause is `Memory` only with an effect whose calls may fail. In any case: `front`, the effect keeps what it took before.
-///
-/// ```text
-/// ensures found { IfOk result
-///     (λ rest. Walks E.seen G.grammar s33 bytes.now rest.now effect.old effect.new) }
-/// ensures none { IfErr result
-///     (λ e. e.cause ≢ Memory → Rejects s33 (padded_of G.grammar) bytes.now) }
-/// ensures no_memory { IfErr result (λ e. e.cause ≡ Memory → E.may_fail) }
-/// ensures front { Keeps E.seen effect.old effect.new }
-/// ```
-///
-/// Definitions: [`Walks`](crate::definitions::base::walks::Walks), [`s33`](crate::definitions::base::formats::s33), [`Rejects`](crate::definitions::base::decoding::Rejects), [`padded_of`](crate::definitions::base::numbers::padded_of), [`Keeps`](crate::definitions::base::walks::Keeps). [How to read clauses](crate::definitions).
 fn walk_index<'a, G: Grammar, E: Effect>(
     bytes: &'a [u8],
     effect: &mut E,
@@ -86,23 +71,6 @@ fn walk_index<'a, G: Grammar, E: Effect>(
 }
 
 /// Walks over an inner type after its first byte, `tag`, which was put.
-///
-/// # Proved
-///
-/// After `Ok`: `found`, the bytes begin with an encoding, the effect takes the minimal one, and the returned bytes follow it. After an error: `none`, the bytes do not begin with such an encoding, unless the cause is `Memory`; `no_memory`, the cause is `Memory` only with an effect whose calls may fail. In any case: `front`, the effect keeps what it took before.
-///
-/// ```text
-/// ensures found { IfOk result
-///     (λ rest. Walks E.seen G.grammar
-///         (after_shape tag) bytes.now rest.now effect.old effect.new) }
-/// ensures none { IfErr result
-///     (λ e. e.cause ≢ Memory → Rejects (after_shape tag) (padded_of G.grammar) bytes.now)
-///     }
-/// ensures no_memory { IfErr result (λ e. e.cause ≡ Memory → E.may_fail) }
-/// ensures front { Keeps E.seen effect.old effect.new }
-/// ```
-///
-/// Definitions: [`Walks`](crate::definitions::base::walks::Walks), [`after_shape`](crate::definitions::types::rec_types::after_shape), [`Rejects`](crate::definitions::base::decoding::Rejects), [`padded_of`](crate::definitions::base::numbers::padded_of), [`Keeps`](crate::definitions::base::walks::Keeps). [How to read clauses](crate::definitions).
 fn walk_shape_after<'a, A: Allocator + Copy, G: Grammar, E: Effect>(
     tag: u8,
     bytes: &'a [u8],
@@ -119,23 +87,6 @@ fn walk_shape_after<'a, A: Allocator + Copy, G: Grammar, E: Effect>(
 }
 
 /// Walks over an optional descriptor and an inner type after the first byte, `tag`, which was put.
-///
-/// # Proved
-///
-/// After `Ok`: `found`, the bytes begin with an encoding, the effect takes the minimal one, and the returned bytes follow it. After an error: `none`, the bytes do not begin with such an encoding, unless the cause is `Memory`; `no_memory`, the cause is `Memory` only with an effect whose calls may fail. In any case: `front`, the effect keeps what it took before.
-///
-/// ```text
-/// ensures found { IfOk result
-///     (λ rest. Walks E.seen G.grammar
-///         (after_descriptor tag) bytes.now rest.now effect.old effect.new) }
-/// ensures none { IfErr result
-///     (λ e. e.cause ≢ Memory → Rejects (after_descriptor tag)
-///         (padded_of G.grammar) bytes.now) }
-/// ensures no_memory { IfErr result (λ e. e.cause ≡ Memory → E.may_fail) }
-/// ensures front { Keeps E.seen effect.old effect.new }
-/// ```
-///
-/// Definitions: [`Walks`](crate::definitions::base::walks::Walks), [`after_descriptor`](crate::definitions::types::rec_types::after_descriptor), [`Rejects`](crate::definitions::base::decoding::Rejects), [`padded_of`](crate::definitions::base::numbers::padded_of), [`Keeps`](crate::definitions::base::walks::Keeps). [How to read clauses](crate::definitions).
 fn walk_descriptor_after<'a, A: Allocator + Copy, G: Grammar, E: Effect>(
     tag: u8,
     bytes: &'a [u8],
@@ -153,23 +104,6 @@ fn walk_descriptor_after<'a, A: Allocator + Copy, G: Grammar, E: Effect>(
 
 /// Walks over an optional described type, an optional descriptor and an inner type after the first
 /// byte, `tag`, which was put.
-///
-/// # Proved
-///
-/// After `Ok`: `found`, the bytes begin with an encoding, the effect takes the minimal one, and the returned bytes follow it. After an error: `none`, the bytes do not begin with such an encoding, unless the cause is `Memory`; `no_memory`, the cause is `Memory` only with an effect whose calls may fail. In any case: `front`, the effect keeps what it took before.
-///
-/// ```text
-/// ensures found { IfOk result
-///     (λ rest. Walks E.seen G.grammar
-///         (after_describes tag) bytes.now rest.now effect.old effect.new) }
-/// ensures none { IfErr result
-///     (λ e. e.cause ≢ Memory → Rejects (after_describes tag)
-///         (padded_of G.grammar) bytes.now) }
-/// ensures no_memory { IfErr result (λ e. e.cause ≡ Memory → E.may_fail) }
-/// ensures front { Keeps E.seen effect.old effect.new }
-/// ```
-///
-/// Definitions: [`Walks`](crate::definitions::base::walks::Walks), [`after_describes`](crate::definitions::types::rec_types::after_describes), [`Rejects`](crate::definitions::base::decoding::Rejects), [`padded_of`](crate::definitions::base::numbers::padded_of), [`Keeps`](crate::definitions::base::walks::Keeps). [How to read clauses](crate::definitions).
 fn walk_describes_after<'a, A: Allocator + Copy, G: Grammar, E: Effect>(
     tag: u8,
     bytes: &'a [u8],
@@ -186,23 +120,6 @@ fn walk_describes_after<'a, A: Allocator + Copy, G: Grammar, E: Effect>(
 }
 
 /// Walks over a composite type after its first byte, `tag`, which was put.
-///
-/// # Proved
-///
-/// After `Ok`: `found`, the bytes begin with an encoding, the effect takes the minimal one, and the returned bytes follow it. After an error: `none`, the bytes do not begin with such an encoding, unless the cause is `Memory`; `no_memory`, the cause is `Memory` only with an effect whose calls may fail. In any case: `front`, the effect keeps what it took before.
-///
-/// ```text
-/// ensures found { IfOk result
-///     (λ rest. Walks E.seen G.grammar
-///         (after_composite tag) bytes.now rest.now effect.old effect.new) }
-/// ensures none { IfErr result
-///     (λ e. e.cause ≢ Memory → Rejects (after_composite tag)
-///         (padded_of G.grammar) bytes.now) }
-/// ensures no_memory { IfErr result (λ e. e.cause ≡ Memory → E.may_fail) }
-/// ensures front { Keeps E.seen effect.old effect.new }
-/// ```
-///
-/// Definitions: [`Walks`](crate::definitions::base::walks::Walks), [`after_composite`](crate::definitions::types::rec_types::after_composite), [`Rejects`](crate::definitions::base::decoding::Rejects), [`padded_of`](crate::definitions::base::numbers::padded_of), [`Keeps`](crate::definitions::base::walks::Keeps). [How to read clauses](crate::definitions).
 fn walk_composite_after<'a, A: Allocator + Copy, G: Grammar, E: Effect>(
     tag: u8,
     bytes: &'a [u8],
@@ -219,22 +136,6 @@ fn walk_composite_after<'a, A: Allocator + Copy, G: Grammar, E: Effect>(
 }
 
 /// Walks over a composite type.
-///
-/// # Proved
-///
-/// After `Ok`: `found`, the bytes begin with an encoding, the effect takes the minimal one, and the returned bytes follow it. After an error: `none`, the bytes do not begin with such an encoding, unless the cause is `Memory`; `no_memory`, the cause is `Memory` only with an effect whose calls may fail. In any case: `front`, the effect keeps what it took before.
-///
-/// ```text
-/// ensures found { IfOk result
-///     (λ rest. Walks E.seen G.grammar composite_type bytes.now rest.now effect.old
-///         effect.new) }
-/// ensures none { IfErr result
-///     (λ e. e.cause ≢ Memory → Rejects composite_type (padded_of G.grammar) bytes.now) }
-/// ensures no_memory { IfErr result (λ e. e.cause ≡ Memory → E.may_fail) }
-/// ensures front { Keeps E.seen effect.old effect.new }
-/// ```
-///
-/// Definitions: [`Walks`](crate::definitions::base::walks::Walks), [`composite_type`](crate::definitions::types::rec_types::composite_type), [`Rejects`](crate::definitions::base::decoding::Rejects), [`padded_of`](crate::definitions::base::numbers::padded_of), [`Keeps`](crate::definitions::base::walks::Keeps). [How to read clauses](crate::definitions).
 fn walk_composite<'a, A: Allocator + Copy, G: Grammar, E: Effect>(
     bytes: &'a [u8],
     alloc: A,
@@ -246,22 +147,6 @@ fn walk_composite<'a, A: Allocator + Copy, G: Grammar, E: Effect>(
 }
 
 /// Walks over supertypes and a composite type.
-///
-/// # Proved
-///
-/// After `Ok`: `found`, the bytes begin with an encoding, the effect takes the minimal one, and the returned bytes follow it. After an error: `none`, the bytes do not begin with such an encoding, unless the cause is `Memory`; `no_memory`, the cause is `Memory` only with an effect whose calls may fail. In any case: `front`, the effect keeps what it took before.
-///
-/// ```text
-/// ensures found { IfOk result
-///     (λ rest. Walks E.seen G.grammar supertypes_and bytes.now rest.now effect.old
-///         effect.new) }
-/// ensures none { IfErr result
-///     (λ e. e.cause ≢ Memory → Rejects supertypes_and (padded_of G.grammar) bytes.now) }
-/// ensures no_memory { IfErr result (λ e. e.cause ≡ Memory → E.may_fail) }
-/// ensures front { Keeps E.seen effect.old effect.new }
-/// ```
-///
-/// Definitions: [`Walks`](crate::definitions::base::walks::Walks), [`supertypes_and`](crate::definitions::types::rec_types::supertypes_and), [`Rejects`](crate::definitions::base::decoding::Rejects), [`padded_of`](crate::definitions::base::numbers::padded_of), [`Keeps`](crate::definitions::base::walks::Keeps). [How to read clauses](crate::definitions).
 fn walk_supertypes_and<'a, A: Allocator + Copy, G: Grammar, E: Effect>(
     bytes: &'a [u8],
     alloc: A,
@@ -273,26 +158,6 @@ fn walk_supertypes_and<'a, A: Allocator + Copy, G: Grammar, E: Effect>(
 
 /// Walks over a final subtype whose first byte, 0x4F, precedes the bytes, and was not put. Without
 /// supertypes, which only the standard's grammar admits here, the composite type alone is put.
-///
-/// # Proved
-///
-/// - After `Ok`, `found`: A value decodes from the front of the bytes in this grammar, and `rest` follows it. The state takes the minimal encoding of the value in this grammar.
-/// - After an error, `none`: the bytes do not begin with such an encoding, unless the cause is `Memory`.
-/// - After an error, `no_memory`: the cause is `Memory` only with an effect whose calls may fail.
-/// - `front`: the effect keeps what it took before.
-///
-/// ```text
-/// ensures found { IfOk result
-///     (λ rest. Walks E.seen G.grammar sub_type
-///         (0x4F ∷ bytes.now) rest.now effect.old effect.new) }
-/// ensures none { IfErr result
-///     (λ e. e.cause ≢ Memory → Rejects sub_type (padded_of G.grammar) (0x4F ∷ bytes.now))
-///     }
-/// ensures no_memory { IfErr result (λ e. e.cause ≡ Memory → E.may_fail) }
-/// ensures front { Keeps E.seen effect.old effect.new }
-/// ```
-///
-/// Definitions: [`Walks`](crate::definitions::base::walks::Walks), [`sub_type`](crate::definitions::types::rec_types::sub_type), [`Rejects`](crate::definitions::base::decoding::Rejects), [`padded_of`](crate::definitions::base::numbers::padded_of), [`Keeps`](crate::definitions::base::walks::Keeps). [How to read clauses](crate::definitions).
 fn walk_final<'a, A: Allocator + Copy, G: Grammar, E: Effect>(
     bytes: &'a [u8],
     alloc: A,

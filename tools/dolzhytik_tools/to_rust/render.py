@@ -7,6 +7,7 @@ from typing import Union
 from ..definitions.layout import laid_out
 from .glosses import asked, gloss
 from .source import Notes, Source
+from .tables import LIBRARIES
 from .words import line_of_links
 
 
@@ -15,8 +16,11 @@ OTHERWISE = '[What happens otherwise](crate::fallible#what-is-asked).'
 
 def documentation(source: Source, place: int) -> list[str]:
     """Returns the lines of documentation of the clauses before a token: in libraries with words
-    above them, and with links to the definitions that they name."""
+    above them, and with links to the definitions that they name. Private functions of libraries,
+    of which rustdoc has no page, have none."""
     notes = source.notes[place]
+    if source.crate.name in LIBRARIES and not has_page(source, place):
+        return []
     lines = beside(notes)
     for heading in ('Asks', 'Proved', 'Defined'):
         if heading not in notes:
@@ -29,6 +33,20 @@ def documentation(source: Source, place: int) -> list[str]:
         if paths is not None:
             lines += ['', line_of_links(paths)]
     return [f'/// {line}'.rstrip() for line in lines]
+
+
+def has_page(source: Source, place: int) -> bool:
+    """Returns whether rustdoc shows the item that begins at a token: other items than functions,
+    functions of a trait or an impl of one, and public ones."""
+    words = []
+    while (at := source.skip(place)) < len(source.tokens) and source.tokens[at] in ('#', 'pub', '(', 'crate', 'self', 'super', ')', 'const', 'unsafe', 'extern', '"C"'):
+        words.append(source.tokens[at])
+        place = source.closing(source.skip(at + 1)) if source.tokens[at] == '#' else at + 1
+    if at == len(source.tokens) or source.tokens[at] != 'fn':
+        return True
+    header = source.header_around(at)
+    around = [] if header is None else source.solid(header.begin, header.end)
+    return 'trait' in around or 'for' in around or ('pub' in words and '(' not in words)
 
 
 def words_above(source: Source, heading: str, clauses: list[str]) -> str:
