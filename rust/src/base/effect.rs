@@ -14,13 +14,15 @@ use crate::base::shorten::Shorten;
 /// # Examples
 ///
 /// ```
-/// use dolzhytik::fallible::RefType;
+/// use dolzhytik::fallible::{AbstractHeapType, HeapType, RefType};
 /// use dolzhytik::reader::{EncodeIn, Padded, Standard};
 ///
 /// // `anyref` has one byte in the standard's grammar, and builders write two.
+/// let heap_type = HeapType::Abstract { shared: false, ty: AbstractHeapType::Any };
+/// let any = RefType { nullable: true, heap_type };
 /// let mut bytes = Vec::new();
-/// <RefType as EncodeIn<Standard>>::encode_in(&RefType::ANYREF, &mut bytes)?;
-/// <RefType as EncodeIn<Padded>>::encode_in(&RefType::ANYREF, &mut bytes)?;
+/// <RefType as EncodeIn<Standard>>::encode_in(&any, &mut bytes)?;
+/// <RefType as EncodeIn<Padded>>::encode_in(&any, &mut bytes)?;
 /// assert_eq!(bytes, [0x6E, 0x63, 0x6E]);
 /// # Ok::<(), dolzhytik::fallible::Refused>(())
 /// ```
