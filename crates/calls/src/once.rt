@@ -9,3 +9,4 @@ mod objects;
 mod reader;
 mod sections;
 mod types;
+mod walks;

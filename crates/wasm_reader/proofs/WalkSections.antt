@@ -8,17 +8,17 @@ use Rattle.wasm_reader.specs.declared.kinds.SectionKind.{SectionKind}
 use Rattle.wasm_reader.specs.declared.kinds.SectionKind.TheVariants as kinds
 use Rattle.wasm_reader.proofs.KindLaws.{custom_read}
 
+-- The payload of a section of the kind `k` encodes the image by `f`.
+pub walks_as : {E X : Type 0} (seen : E → List ℕ → Type 0) (w : Grammar) (f : X → Contents) {F : Format X} {k : SectionKind} → content k ≡ mapped f F → (kind : SectionKind) (bytes : List ℕ) (old new : E) (r : Result (Unit {0}) Failure) → kind ≡ k → OnOk r (WalksWhole seen w F bytes old new) → OnOk r (WalksWhole seen w (content kind) bytes old new)
+walks_as seen w f {F} is kind bytes old new r e found = on_ok r _ _ found λ h.
+    let same : mapped f F ≡ content kind = sym (ap content e ∙ is) in
+    let whole : WalksWhole seen w (mapped f F) bytes old new = record { value = f h.value; decoded = (h.value, refl, h.decoded); encoding = h.encoding; encodes = (h.value, refl, h.encodes); taken = h.taken } in
+    subst (λ G. WalksWhole seen w G bytes old new) same whole
+
+pub kind_walks : {E : Type 0} (seen : E → List ℕ → Type 0) (w : Grammar) (k kind : SectionKind) (bytes : List ℕ) (old new : E) (r : Result (Unit {0}) Failure) → kind ≡ k → OnOk r (WalksWhole seen w (content k) bytes old new) → OnOk r (WalksWhole seen w (content kind) bytes old new)
+kind_walks seen w k kind bytes old new r e found = subst (λ k. OnOk r (WalksWhole seen w (content k) bytes old new)) (sym e) found
+
 module _ {E : Type 0} {seen : E → List ℕ → Type 0} {w : Grammar} where
-  -- The payload of a section of the kind `k` encodes the image by `f`.
-  pub walks_as : {X : Type 0} (f : X → Contents) {F : Format X} {k : SectionKind} → content k ≡ mapped f F → (kind : SectionKind) (bytes : List ℕ) (old new : E) (r : Result (Unit {0}) Failure) → kind ≡ k → OnOk r (WalksWhole seen w F bytes old new) → OnOk r (WalksWhole seen w (content kind) bytes old new)
-  walks_as f {F} is kind bytes old new r e found = on_ok r _ _ found λ h.
-      let same : mapped f F ≡ content kind = sym (ap content e ∙ is) in
-      let whole : WalksWhole seen w (mapped f F) bytes old new = record { value = f h.value; decoded = (h.value, refl, h.decoded); encoding = h.encoding; encodes = (h.value, refl, h.encodes); taken = h.taken } in
-      subst (λ G. WalksWhole seen w G bytes old new) same whole
-
-  pub kind_walks : (k kind : SectionKind) (bytes : List ℕ) (old new : E) (r : Result (Unit {0}) Failure) → kind ≡ k → OnOk r (WalksWhole seen w (content k) bytes old new) → OnOk r (WalksWhole seen w (content kind) bytes old new)
-  kind_walks k kind bytes old new r e found = subst (λ k. OnOk r (WalksWhole seen w (content k) bytes old new)) (sym e) found
-
   -- A name, then any bytes.
   pub custom_walks : (bytes rest : List ℕ) (old middle new : E) → Walks seen w name bytes rest old middle → TakesBytes seen rest middle new → WalksWhole seen w (content kinds.Custom) bytes old new
   custom_walks bytes rest old middle new h t = record {

@@ -1,14 +1,13 @@
-// Kinds of sections: the reader and the minimizer of each.
+// Kinds of sections: the reader of each, and the encoder of its items.
 ghost use Rattle.std.specs.Prelude.{◌≡◌, ◌≢◌, Err, IfOk, IfErr, OnOk, OnErr};
 ghost use Rattle.wasm_base.specs.Continuing.{RejectsWhole};
 ghost use Rattle.wasm_base.specs.Numbers.{padded_of};
 ghost use Rattle.wasm_base.specs.Minimal.{AppendsMinimal, HasEncoding, both_grammars};
 ghost use Rattle.wasm_base.specs.declared.fault.ReadFault.TheVariants.{Memory};
 ghost use Rattle.wasm_base.specs.declared.refused.Refused.TheVariants.{TooLong};
-ghost use Rattle.wasm_reader.specs.Kinds.{Contents, Custom, content, contents_of, grammars_of, kind_among_names, kind_in, kind_named, known_names, kind_numbered, kind_of_id as kind_among_ids, number_in};
+ghost use Rattle.wasm_reader.specs.Kinds.{Contents, Custom, content, contents_of, grammars_of, kind_among_names, kind_in, kind_named, known_names, kind_numbered, kind_of_id as kind_among_ids};
 ghost use Rattle.wasm_reader.specs.declared.kinds.SectionKind.TheVariants as kinds;
 
-use crate::counts::count_skipped;
 use std::alloc::{Allocator, Global};
 use wasm_base::{DecodeError, Encode, Grammar, Readable, Result, Shorten, read_whole};
 use wasm_code::Body;
