@@ -4,7 +4,7 @@
 //! of a block, or 0 where memory is refused. The caller frees both by `dz_free`.
 use crate::answers::{self, Answer};
 use crate::heap::{ALIGNMENT, Heap, Memory};
-use crate::items;
+use crate::{instructions, items};
 use core::alloc::{GlobalAlloc, Layout};
 use core::arch::wasm32::{memory_grow, memory_size, unreachable};
 use core::cell::UnsafeCell;
@@ -178,4 +178,6 @@ calls! {
     dz_minimize(drops_offsets) => answers::minimize;
     dz_assemble() => answers::module_of;
     dz_items(index limit) => items::items;
+    dz_dump(index limit) => items::dump;
+    dz_instructions(limit) => instructions::instructions;
 }

@@ -6,9 +6,11 @@
 mod answers;
 mod block;
 mod failure;
+mod fields;
 #[path = "../../src/bin/dolzhytik/found.rs"]
 mod found;
 mod heap;
+mod instructions;
 mod items;
 #[path = "../../src/bin/dolzhytik/kind_name.rs"]
 mod kind_name;
