@@ -140,7 +140,7 @@ fn body<'a>(number: u32, part: Part<'a>, list: &mut List) -> Result<Part<'a>, Re
         rest.bytes,
         &format_args!("body {number}: {locals}, {instructions}"),
         &format_args!(
-            "{{\"body\":{},\"locals\":{},\"instructions\":{count}}}",
+            "{{\"body\":{},\"locals\":{},\"instruction_count\":{count}}}",
             framed.bytes.len(),
             Locals(&runs)
         ),

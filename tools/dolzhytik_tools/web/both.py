@@ -86,11 +86,21 @@ class Both:
             return same([*words], path, answer, {'message': message})
         return same([*words], path, answer, {'result': None}) and same([*words], path, first.read_bytes(), second.read_bytes())
 
+    def stripped(self, path: pathlib.Path, options: dict, words: tuple[str, ...]) -> bool:
+        """Compares stripped modules. The messages differ, since the options do."""
+        first, second = self.outputs
+        answer = self.of_package(call='strip', options=options, input=str(path), output=str(first))
+        _, message = self.of_program(path, 'strip', *words, path, '-o', second)
+        if 'message' in answer or message is not None:
+            return same(['strip', *words], path, 'message' in answer, message is not None)
+        return same(['strip', *words], path, first.read_bytes(), second.read_bytes())
+
     def module(self, path: pathlib.Path) -> bool:
         """Compares the answers of all calls for a module."""
+        stripped = [self.stripped(path, {name: True} if name else {}, (f'--{name}',) if name else ()) for name in ('', 'all', 'debug')]
         minimal = self.written(path, {'call': 'minimize'}, ('shorten',))
         without_offsets = self.written(path, {'call': 'minimize', 'dropOffsets': True}, ('shorten', '--drop-offsets'))
-        return self.outline(path) and self.list(path) and minimal and without_offsets
+        return self.outline(path) and self.list(path) and minimal and without_offsets and all(stripped)
 
     def recipe(self, path: pathlib.Path) -> bool:
         """Compares the modules of a recipe."""

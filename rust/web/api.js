@@ -1,0 +1,5 @@
+// What the package exports, but for `init`.
+export { DolzhytikError, assemble, items, list, minimize, outline } from './calls.js';
+export { disassemble, dump } from './dump.js';
+export { size } from './sizes.js';
+export { strip } from './strip.js';
