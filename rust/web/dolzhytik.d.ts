@@ -50,6 +50,11 @@ export interface MinimizeOptions {
    * `sourceMappingURL`.
    */
   dropOffsets?: boolean;
+  /**
+   * Keeps code, data and the sections that offsets point into byte for byte, so that all offsets
+   * stay right. A section that itself holds offsets may stay too.
+   */
+  keepCode?: boolean;
 }
 
 /**

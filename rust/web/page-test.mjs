@@ -434,14 +434,24 @@ const opening = {
   },
 };
 
+const facts = (page) => page.run(() => [...document.querySelectorAll('#damage-facts > span')].map((it) => it.textContent));
+
 const damaged = {
   async 'a module that ends in a section'(page, library) {
     const cut = PADDED.subarray(0, PADDED.length - 16);
     const error = thrown(() => library.outline(cut));
     await page.choose(fileOf('cut.wasm', cut));
     assert.equal(await page.text('damage-message'), error.message);
-    const facts = `Cause: ${error.cause} · Offset: ${hex(error.offset)} (${number(error.offset)})`;
-    assert.equal(await page.text('damage-facts'), facts);
+    const [, wrong] = / at offset (0x[0-9a-f]+)/.exec(error.message);
+    assert.deepEqual(await facts(page), [
+      `Cause: ${error.cause}`, `First wrong byte: ${wrong} (${Number(wrong)})`,
+      `Start of the section: ${hex(error.offset)} (${number(error.offset)})`,
+    ]);
+    await page.click('#damage-facts a');
+    await page.until(() => document.querySelector('#bytes .spot') !== null);
+    // The first wrong byte is behind the end of the file.
+    assert.equal(Number(wrong), cut.length);
+    assert.equal((await bytesShown(page, 'b.spot'))[0][0], cut.length - 1);
     const before = library.outline(PADDED).filter(({ offset }) => offset < error.offset);
     const rest = ['–', '–', 'not decoded', hex(error.offset), number(cut.length - error.offset), '–'];
     assert.deepEqual(await rows(page), [...before.map(rowOf), rest]);
@@ -455,7 +465,12 @@ const damaged = {
     const error = thrown(() => library.outline(cut));
     await page.choose(fileOf('cut-real.wasm', cut));
     assert.equal(await page.text('damage-message'), error.message);
-    assert.ok((await page.text('damage-facts')).includes(`Offset: ${hex(error.offset)} `));
+    assert.ok((await facts(page)).at(-1).startsWith(`Start of the section: ${hex(error.offset)} `));
+    // The section that the file ends in is the code: the functions before its end are listed.
+    await page.until(hasItems);
+    const last = library.dump(whole, { instructions: false }).find(({ id }) => id === 10).entries;
+    const before = last.filter(({ offset, size }) => offset + size <= cut.length);
+    assert.equal(await page.text('items-facts'), `${number(before.length)} before the damage`);
     await page.shot('damaged-real');
   },
 
@@ -464,7 +479,7 @@ const damaged = {
     const error = thrown(() => library.list(broken));
     await page.choose(fileOf('payload.wasm', broken));
     assert.equal(await page.text('damage-message'), error.message);
-    assert.ok((await page.text('damage-facts')).includes(`Offset: ${hex(error.offset)} `));
+    assert.ok((await facts(page)).at(-1).startsWith(`Start of the section: ${hex(error.offset)} `));
     assert.deepEqual(await rows(page), library.outline(broken).map(rowOf));
     assert.equal(await page.count('#sections .flaw'), 1);
     assert.equal(await chosenRow(page), 2);
@@ -474,7 +489,8 @@ const damaged = {
   async 'types that do not decode'(page) {
     await page.choose(fileOf('types.wasm', moduleOf(section(1, [0x01, 0x00]), FUNCTION)));
     assert.equal(await page.text('damage-message'), 'section 1 (type) at offset 0xb: unexpected byte or value');
-    assert.equal(await page.text('damage-facts'), 'Cause: unexpected byte or value · Offset: 0x8 (8)');
+    const expected = ['Cause: unexpected byte or value', 'First wrong byte: 0xb (11)', 'Start of the section: 0x8 (8)'];
+    assert.deepEqual(await facts(page), expected);
     assert.equal(await chosenRow(page), 1);
   },
 
@@ -482,7 +498,7 @@ const damaged = {
     for (const bytes of [Buffer.from('no module'), Buffer.alloc(0)]) {
       await page.choose(fileOf(`text-${bytes.length}.wasm`, bytes));
       assert.equal(await page.text('damage-message'), thrown(() => library.outline(bytes)).message);
-      assert.ok((await page.text('damage-facts')).endsWith('Offset: 0x0 (0)'));
+      assert.equal((await facts(page)).at(-1), 'Start of the file: 0x0 (0)');
       assert.equal((await rows(page)).length, 1);
     }
   },
@@ -510,25 +526,34 @@ const chosen = {
       await page.run((its) => (document.getElementById('items').scrollTop = its * 20 - 40), index);
       await page.until((its) => document.getElementById(`item-${its}`) !== null, index);
       await page.click(`#item-${index}`);
-      const { offset, size, text } = items[index];
+      const { offset, size } = items[index];
       const marked = await bytesShown(page, 'b.on');
       assert.equal(marked[0][0], offset);
       assert.ok(marked.length === size || marked.length > 200);
       marked.forEach(([at, byte]) => assert.ok(at < offset + size && byte === bytes[at]));
-      assert.equal(await page.text('items-note'), text);
+      await page.until(() => !document.getElementById('function').hidden);
+      await page.click('#back');
       assert.ok(await page.run(isInView));
     }
     await page.shotsOfBoth('real');
   },
 
   async 'the items are those of the library'(page, library) {
-    const { items } = await openCode(page, library, modules[0]);
+    const { items, bytes } = await openCode(page, library, modules[0]);
     const shown = await page.run(() =>
       [...document.querySelectorAll('#items .item')].map((row) => [...row.children].map((cell) => cell.textContent)),
     );
-    const expected = items.map(({ offset, size, text }, index) => [String(index), hex(offset), text, number(size)]);
+    const { functions } = library.size(bytes);
+    const nameOf = (index) => functions.find((it) => it.index === index).name ?? `function ${index}`;
+    const expected = items.map(({ offset, size }, index) => [String(index), hex(offset), nameOf(index), number(size)]);
     assert.deepEqual(shown, expected.slice(0, shown.length));
     assert.equal(await page.text('items-facts'), number(items.length));
+    // Other sections have the texts of the library.
+    const exported = library.outline(bytes).findIndex(({ id }) => id === 7);
+    await page.click(`#sections tbody tr[data-index="${exported}"]`);
+    await page.until(() => document.querySelector('#items .text')?.textContent.startsWith('(export'));
+    const texts = await page.run(() => [...document.querySelectorAll('#items .text')].map((it) => it.textContent));
+    assert.deepEqual(texts, library.items(bytes, exported).slice(0, texts.length).map(({ text }) => text));
   },
 
   async 'a byte chooses the item that has it'(page, library) {
@@ -570,17 +595,16 @@ const showSavings = (page) => page.run(() => document.querySelector('.minimize')
 
 const minimizing = {
   async 'the bytes that each section saves, and the download'(page, library) {
-    await page.click('#drop');
     for (const file of [fileOf('padded.wasm', PADDED), ...modules]) {
       const bytes = new Uint8Array(fs.readFileSync(file));
       await page.choose(file);
       await page.until(isMinimized);
-      const minimal = library.minimize(bytes, { dropOffsets: true });
+      const minimal = library.minimize(bytes);
       assert.deepEqual(await savings(page), savingsOf(library, bytes, minimal));
       const its = path.basename(file).replace('.wasm', '.min.wasm');
       assert.deepEqual(await page.download('#download', its), minimal);
+      assert.equal(await page.run(() => document.getElementById('choices').hidden), true);
     }
-    await page.click('#drop');
     await showSavings(page);
     await page.shot('minimized', false);
   },
@@ -600,7 +624,15 @@ const minimizing = {
     assert.deepEqual(await savings(page), savingsOf(library, WITH_OFFSETS, minimal));
     assert.deepEqual(await page.download('#download', 'offsets.min.wasm'), minimal);
     await page.shot('offsets-left-out', false);
-    await page.click('#drop');
+    // The two buttons exclude each other.
+    await page.click('#keep-code');
+    await page.until(() => document.getElementById('saving').textContent.includes('saved'));
+    const pressed = () => [...document.querySelectorAll('#choices [aria-pressed=true]')].map(({ id }) => id);
+    assert.deepEqual(await page.run(pressed), ['keep-code']);
+    const kept = library.minimize(WITH_OFFSETS, { keepCode: true });
+    assert.deepEqual(await page.download('#download', 'offsets.min.wasm'), kept);
+    await page.click('#keep-code');
+    await page.untilText('saving', `Not minimized: ${message}`);
   },
 };
 
@@ -695,13 +727,20 @@ const keyboard = {
   },
 
   async 'every control by Tab, and the download by Enter'(page, library) {
-    await page.choose(fileOf('tabs.wasm', PADDED));
-    await page.until(isMinimized);
+    await page.choose(fileOf('tabs.wasm', WITH_OFFSETS));
+    await page.until(hasAnswer);
     await blur(page);
-    const order = ['#file', '#write', '#bar *', '#sections tr', '#items', '#offset', '#bytes', '#drop', '#download'];
+    const order = [
+      '#file', '#example', '#write', '#compare', '#bar *', '#map .cell', '#sections button', '#sections tr', '#search', '#order',
+      '#items', '#handle', '#offset', '#bytes', '#keep-code', '#drop',
+    ];
     for (const selector of order) await tabTo(page, selector);
     await page.key('Enter');
-    assert.deepEqual(await page.downloaded('tabs.min.wasm'), library.minimize(PADDED));
+    await page.until(isMinimized);
+    await tabTo(page, '#download');
+    await page.key('Enter');
+    const dropped = library.minimize(WITH_OFFSETS, { dropOffsets: true });
+    assert.deepEqual(await page.downloaded('tabs.min.wasm'), dropped);
   },
 };
 
@@ -820,7 +859,7 @@ const large = {
     const { code, bytes } = await openCode(page, library, path.join(room, 'large.wasm'));
     const elements = await page.count('*');
     assert.ok(elements < 6000, `${elements} elements`);
-    assert.equal(await page.text('items-facts'), `the first ${number(MOST_ITEMS)}`);
+    assert.equal(await page.text('items-facts'), number(300_000));
     const last = code.offset + code.size - 1;
     await goTo(page, last);
     assert.deepEqual(await bytesShown(page, 'b.spot'), [[last, bytes[last]]]);
@@ -832,14 +871,12 @@ const large = {
 
   async 'nothing moves while it is minimized'(page) {
     await page.resize(400, 900);
+    await page.choose(path.join(room, 'large.wasm'));
     await showSavings(page);
     await page.run(watchShifts);
-    await page.run(() => document.getElementById('drop').click());
-    await page.until(() => document.getElementById('saving').textContent === 'Minimizing');
     await page.until(hasAnswer);
     await sleep(200);
     assert.deepEqual(await page.run(() => window.shifts), []);
-    await page.run(() => document.getElementById('drop').click());
     await page.resize(1600, 1000);
   },
 

@@ -1,17 +1,11 @@
 // Removes custom sections, by the rules of `dolzhytik strip`.
 import { DolzhytikError, outline } from './calls.js';
-import { entriesOf, Indices } from './dump.js';
+import { highestIndex, isOfRelocations, target, withEntries } from './references.js';
 import { HEADER, wholeSections } from './sizes.js';
 
 /** An empty custom section, `.objcopy.removed`, which keeps the indices of those after it right. */
 const EMPTY = Uint8Array.from([0, 17, 16, ...new TextEncoder().encode('.objcopy.removed')]);
-/** The kind of a section in a COMDAT group. */
-const COMDAT_SECTION = 5;
-/** The subsections of `dylink.0` that the tool conventions have. */
-const DYLINK_IDS = [1, 2, 3, 4, 5];
-
 const isDebug = (name) => name.startsWith('.debug_') || name.startsWith('reloc..debug_');
-const isOfRelocations = ({ name }) => name !== null && name.startsWith('reloc.');
 
 /** Which sections the options remove and keep. */
 class Choice {
@@ -36,29 +30,6 @@ class Choice {
     const isChosen = isAll || (this.debug && isDebug(name)) || this.names.includes(name);
     return isChosen && !this.keeps(name);
   }
-}
-
-/** The items of custom sections that hold the indices of others. */
-function withEntries(module, section, index) {
-  const holds = section.id === 0 && (isOfRelocations(section) || ['linking', 'dylink.0'].includes(section.name));
-  const found = holds ? entriesOf(module, section, index, new Indices()) : { entries: [], isCut: false };
-  return { ...section, ...found };
-}
-
-/** The index of the section that relocations are of, or undefined. */
-const target = (section) => (isOfRelocations(section) ? section.entries[0]?.section : undefined);
-
-/** The highest index that a section holds, or -1. What does not decode may hold any. */
-function highestIndex(section) {
-  if (section.isCut) return Infinity;
-  const { entries, name } = section;
-  const isUnknown = ({ subsection: id }) => id !== undefined && !(name === 'dylink.0' && DYLINK_IDS.includes(id));
-  if (entries.some(isUnknown)) return Infinity;
-  const symbols = entries.flatMap((it) => it.symbols ?? []).filter((it) => it?.kind === 'section');
-  const members = entries.flatMap((it) => it.comdats ?? []).flatMap((group) => group.members);
-  const grouped = members.filter(({ kind }) => kind === COMDAT_SECTION);
-  const held = [target(section) ?? -1, ...symbols.map((it) => it.index), ...grouped.map((it) => it.index)];
-  return held.reduce((a, b) => Math.max(a, b), -1);
 }
 
 function errorOf(section, cause) {
@@ -100,7 +71,8 @@ function obstacle(sections, removed, choice) {
   return broken ? errorOf(broken, whyNot(broken)) : null;
 }
 
-function joined(parts) {
+/** The bytes of all parts, one after another. */
+export function joined(parts) {
   const bytes = new Uint8Array(parts.reduce((sum, part) => sum + part.length, 0));
   let at = 0;
   for (const part of parts) {
