@@ -10,254 +10,19 @@
 // because there is no chromium, or no dolzhytik.wasm.
 import assert from 'node:assert/strict';
 import fs from 'node:fs';
-import http from 'node:http';
 import os from 'node:os';
 import path from 'node:path';
 import { fileURLToPath } from 'node:url';
+import { faultyControls, leastContrast } from './access.mjs';
 import { Browser, findChromium } from './chromium.mjs';
+import { CODE, EXPORT, FUNCTION, HEADER, PADDED, TYPES, WITH_OFFSETS, custom, largeModule, leb, moduleOf, name, section } from './modules.mjs';
+import { CTRL, Page, serve, sleep } from './tab.mjs';
 
 const HERE = path.dirname(fileURLToPath(import.meta.url));
 const [shots, ...words] = process.argv.slice(2);
 const modules = (words.length ? words : [path.join(HERE, 'dolzhytik.wasm')]).map((file) => path.resolve(file));
 const room = fs.mkdtempSync(path.join(os.tmpdir(), 'dolzhytik-page-'));
 const MOST_ITEMS = 100_000;
-const sleep = (ms) => new Promise((resolve) => setTimeout(resolve, ms));
-
-// ---- The server.
-
-const MEDIA_TYPES = { '.html': 'text/html', '.css': 'text/css', '.js': 'text/javascript', '.wasm': 'application/wasm' };
-
-/** Serves the folder, and at /broken the folder without the WebAssembly module. */
-function respond(request, response) {
-  const { pathname } = new URL(request.url, 'http://localhost');
-  const file = path.join(HERE, pathname.replace(/^\/broken\//, '/').replace(/\/$/, '/index.html'));
-  const isMissing = !file.startsWith(HERE + path.sep) || !fs.existsSync(file);
-  if (isMissing || pathname === '/broken/dolzhytik.wasm') return response.writeHead(404).end();
-  response.writeHead(200, { 'content-type': MEDIA_TYPES[path.extname(file)] ?? 'application/octet-stream' });
-  response.end(fs.readFileSync(file));
-}
-
-async function serve() {
-  const server = http.createServer(respond);
-  await new Promise((resolve) => server.listen(0, '127.0.0.1', resolve));
-  return server;
-}
-
-// ---- The tab.
-
-const KEYS = { Tab: 9, Enter: 13, End: 35, Home: 36, ArrowLeft: 37, ArrowUp: 38, ArrowRight: 39, ArrowDown: 40 };
-const CTRL = 2;
-
-/** A tab with the page; the requests of it and its workers, and their errors and messages. */
-class Page {
-  requests = [];
-  complaints = [];
-  /** How many downloads are complete, and how many of them `downloaded` has read. */
-  downloads = 0;
-  #read = 0;
-
-  constructor(browser) {
-    this.browser = browser;
-    browser.onEvent = (event) => this.#hear(event);
-  }
-
-  /** Opens the page at an address, and waits for its first status. */
-  async start(origin, folder = '/', status = 'Ready.') {
-    this.origin = origin;
-    const { targetId } = await this.browser.send('Target.createTarget', { url: 'about:blank' });
-    const { sessionId } = await this.browser.send('Target.attachToTarget', { targetId, flatten: true });
-    this.session = sessionId;
-    await this.#watch(sessionId);
-    await this.send('Page.enable');
-    await this.browser.send('Browser.setDownloadBehavior', { behavior: 'allow', downloadPath: room, eventsEnabled: true });
-    await this.resize(1600, 1000);
-    await this.send('Page.navigate', { url: origin + folder });
-    await this.until((text) => document.getElementById('status')?.textContent.startsWith(text), status);
-  }
-
-  send(method, params) {
-    return this.browser.send(method, params, this.session);
-  }
-
-  /** Watches a target, and the workers that it starts. */
-  async #watch(session) {
-    const send = (method, params) => this.browser.send(method, params, session);
-    const autoAttach = { autoAttach: true, waitForDebuggerOnStart: true, flatten: true };
-    await Promise.all([send('Network.enable'), send('Runtime.enable'), send('Target.setAutoAttach', autoAttach)]);
-    await send('Log.enable').catch(() => {});
-    await send('Runtime.runIfWaitingForDebugger');
-  }
-
-  #hear({ method, params }) {
-    const said = {
-      'Runtime.exceptionThrown': () => params.exceptionDetails.exception?.description ?? params.exceptionDetails.text,
-      'Runtime.consoleAPICalled': () => params.args.map(({ value }) => value).join(' '),
-      'Log.entryAdded': () => params.entry.text,
-    }[method];
-    if (said) this.complaints.push(said());
-    if (method === 'Browser.downloadProgress' && params.state === 'completed') this.downloads += 1;
-    if (method === 'Network.requestWillBeSent') this.requests.push(params.request.url);
-    if (method === 'Target.attachedToTarget') this.#watch(params.sessionId).catch(() => {});
-  }
-
-  /** Calls a function in the page. It has the arguments, and nothing else of this file. */
-  async run(call, ...values) {
-    const expression = `(${call})(...${JSON.stringify(values)})`;
-    const asked = { expression, awaitPromise: true, returnByValue: true, userGesture: true };
-    const { result, exceptionDetails } = await this.send('Runtime.evaluate', asked);
-    if (exceptionDetails) throw new Error(exceptionDetails.exception?.description ?? exceptionDetails.text);
-    return result.value;
-  }
-
-  /** Waits until a function in the page returns true. */
-  async until(call, ...values) {
-    const end = Date.now() + 20_000;
-    while (!(await this.run(call, ...values))) {
-      if (Date.now() > end) throw new Error(`not in 20 s: ${call} ${values}`);
-      await sleep(10);
-    }
-  }
-
-  text(id) {
-    return this.run((its) => document.getElementById(its).textContent, id);
-  }
-
-  untilText(id, text) {
-    return this.until((its, wanted) => document.getElementById(its).textContent === wanted, id, text);
-  }
-
-  focus(selector) {
-    return this.run((it) => document.querySelector(it).focus(), selector);
-  }
-
-  count(selector) {
-    return this.run((it) => document.querySelectorAll(it).length, selector);
-  }
-
-  resize(width, height) {
-    return this.send('Emulation.setDeviceMetricsOverride', { width, height, deviceScaleFactor: 1, mobile: false });
-  }
-
-  dark(isDark) {
-    const features = [{ name: 'prefers-color-scheme', value: isDark ? 'dark' : 'light' }];
-    return this.send('Emulation.setEmulatedMedia', { features });
-  }
-
-  async key(key, modifiers = 0) {
-    const event = { key, code: key, windowsVirtualKeyCode: KEYS[key], modifiers };
-    const isText = key === 'Enter' && modifiers === 0;
-    const down = isText ? { type: 'keyDown', text: '\r' } : { type: 'rawKeyDown' };
-    await this.send('Input.dispatchKeyEvent', { ...event, ...down });
-    await this.send('Input.dispatchKeyEvent', { ...event, type: 'keyUp' });
-  }
-
-  async click(selector) {
-    const { x, y } = await this.run((it) => {
-      const element = document.querySelector(it);
-      element.scrollIntoView({ block: 'nearest' });
-      const box = element.getBoundingClientRect();
-      return { x: box.x + box.width / 2, y: box.y + box.height / 2 };
-    }, selector);
-    for (const type of ['mousePressed', 'mouseReleased']) {
-      await this.send('Input.dispatchMouseEvent', { type, x, y, button: 'left', clickCount: 1 });
-    }
-  }
-
-  /** Sets the file of the input, and waits for the table. */
-  async choose(file) {
-    await this.run(() => (document.getElementById('status').textContent = ''));
-    const { result } = await this.send('Runtime.evaluate', { expression: 'document.getElementById("file")' });
-    await this.send('DOM.setFileInputFiles', { objectId: result.objectId, files: [file] });
-    await this.untilText('status', `${path.basename(file)} is open.`);
-  }
-
-  /** Clicks on a button, and returns the bytes of the file that it downloads. */
-  async download(selector, name) {
-    const file = path.join(room, name);
-    fs.rmSync(file, { force: true });
-    await this.click(selector);
-    return this.downloaded(name);
-  }
-
-  async downloaded(name) {
-    this.#read += 1;
-    for (let turn = 0; turn < 1000 && this.downloads < this.#read; turn += 1) await sleep(10);
-    return new Uint8Array(fs.readFileSync(path.join(room, name)));
-  }
-
-  /** Writes a screenshot of the page from its top, or as far as it is scrolled. */
-  async shot(name, isTop = true) {
-    if (!shots) return;
-    if (isTop) await this.run(() => scrollTo(0, 0));
-    await sleep(150);
-    const { data } = await this.send('Page.captureScreenshot', { format: 'png' });
-    fs.mkdirSync(shots, { recursive: true });
-    fs.writeFileSync(path.join(shots, `${name}.png`), Buffer.from(data, 'base64'));
-  }
-
-  async shotsOfBoth(name) {
-    await this.shot(`${name}-light`);
-    await this.dark(true);
-    await this.shot(`${name}-dark`);
-    await this.dark(false);
-  }
-}
-
-// ---- Modules.
-
-const HEADER = [0x00, 0x61, 0x73, 0x6d, 0x01, 0x00, 0x00, 0x00];
-
-function leb(value) {
-  const bytes = [];
-  let left = value;
-  while (left >= 128) {
-    bytes.push((left % 128) + 128);
-    left = Math.floor(left / 128);
-  }
-  return [...bytes, left];
-}
-
-const name = (text) => [...leb(Buffer.byteLength(text)), ...Buffer.from(text)];
-
-function section(id, ...parts) {
-  const payload = Buffer.concat(parts.map((part) => Buffer.from(part)));
-  return Buffer.concat([Buffer.from([id, ...leb(payload.length)]), payload]);
-}
-
-const custom = (text, ...parts) => section(0, name(text), ...parts);
-const moduleOf = (...sections) => new Uint8Array(Buffer.concat([Buffer.from(HEADER), ...sections]));
-
-/** The number of types is padded. */
-const TYPES = section(1, [0x81, 0x80, 0x00], [0x60, 0x01, 0x7f, 0x01, 0x7f]);
-const FUNCTION = section(3, [0x01, 0x00]);
-const EXPORT = section(7, [0x01], name('f'), [0x00, 0x00]);
-/** The body returns its parameter, whose index is padded. */
-const CODE = section(10, [0x01, 0x06, 0x00, 0x20, 0x80, 0x80, 0x00, 0x0b]);
-const PADDED = moduleOf(TYPES, FUNCTION, EXPORT, CODE, custom('note', [1, 2, 3]));
-const OFFSETS = custom('.debug_info', [0, 0, 0, 0]);
-const WITH_OFFSETS = moduleOf(TYPES, FUNCTION, OFFSETS, EXPORT, CODE, OFFSETS, custom('note', [1]));
-
-/** A body of `i32.const N`, `drop` a few times, and `local.get 0`. */
-function bodyOf(index) {
-  const constants = Array.from({ length: 1 + (index % 9) }, (_, at) => [0x41, ...leb(64 + index + at), 0x1a]);
-  const code = [0x00, ...constants.flat(), 0x20, 0x00, 0x0b];
-  return Buffer.from([...leb(code.length), ...code]);
-}
-
-/** A module of 18 MB, half of it code with very many bodies. */
-function largeModule() {
-  const count = 300_000;
-  const data = Buffer.alloc(8_000_000, 'dolzhytik ');
-  return moduleOf(
-    TYPES,
-    section(3, leb(count), Buffer.alloc(count)),
-    section(5, [0x01, 0x00], leb(200)),
-    EXPORT,
-    section(10, leb(count), Buffer.concat(Array.from({ length: count }, (_, index) => bodyOf(index)))),
-    section(11, [0x01, 0x00, 0x41, 0x00, 0x0b], leb(data.length), data),
-    custom('note', data.subarray(0, 1_500_000)),
-  );
-}
 
 /** Writes bytes to a file, and returns its path. */
 function fileOf(its, bytes) {
@@ -744,33 +509,6 @@ const keyboard = {
   },
 };
 
-/** The least contrast of a text to the colours behind it. Runs in the page. */
-function leastContrast() {
-  const canvas = document.createElement('canvas').getContext('2d', { willReadFrequently: true });
-  const paint = (color) => {
-    canvas.fillStyle = color;
-    canvas.fillRect(0, 0, 1, 1);
-  };
-  const linear = (value) => (value <= 0.04045 ? value / 12.92 : ((value + 0.055) / 1.055) ** 2.4);
-  const luminance = (colors) => {
-    ['white', ...colors].forEach(paint);
-    const [red, green, blue] = [...canvas.getImageData(0, 0, 1, 1).data].map((value) => linear(value / 255));
-    return 0.2126 * red + 0.7152 * green + 0.0722 * blue;
-  };
-  const behind = (element) =>
-    element ? [...behind(element.parentElement), getComputedStyle(element).backgroundColor] : [];
-  const hasText = ({ childNodes }) => [...childNodes].some(({ nodeType, data }) => nodeType === 3 && data.trim());
-  const isShown = (element) => hasText(element) && element.checkVisibility() && !element.closest(':disabled, .unseen');
-  const contrast = (element) => {
-    const backs = behind(element);
-    const [back, text] = [backs, [...backs, getComputedStyle(element).color]].map(luminance);
-    const ratio = (Math.max(back, text) + 0.05) / (Math.min(back, text) + 0.05);
-    return { ratio, what: `${element.tagName} ${element.className} ${element.textContent.slice(0, 20)}` };
-  };
-  const all = [...document.querySelectorAll('body *')].filter(isShown).map(contrast);
-  return all.sort((a, b) => a.ratio - b.ratio)[0];
-}
-
 /**
  * How much wider than the window the page is, and than their pane the bytes are. Runs in the page.
  */
@@ -833,7 +571,7 @@ const looks = {
   async 'nothing moves when items and savings come'(page) {
     await page.choose(modules[0]);
     await page.run(watchShifts);
-    await page.choose(fileOf('still.wasm', fs.readFileSync(modules[0])));
+    await page.choose(fileOf(path.basename(modules[0]), fs.readFileSync(modules[0])));
     await page.until(hasAnswer);
     await page.until(hasItems);
     await sleep(200);
@@ -906,7 +644,7 @@ const quiet = {
   },
 
   async 'a page whose WebAssembly module does not load'(page) {
-    const broken = new Page(page.browser);
+    const broken = new Page(page.browser, room, shots);
     await broken.start(page.origin, '/broken/', 'dolzhytik.wasm does not load: ');
     assert.ok((await broken.text('status')).endsWith('HTTP status 404'));
   },
@@ -933,7 +671,7 @@ async function main(chromium) {
   const library = await import('./dolzhytik.js');
   const server = await serve();
   const browser = new Browser(chromium, room);
-  const page = new Page(browser);
+  const page = new Page(browser, room, shots);
   try {
     await page.start(`http://127.0.0.1:${server.address().port}`);
     const { passed, failed } = await runTests(page, library);
