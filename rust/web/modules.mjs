@@ -53,3 +53,46 @@ export function largeModule() {
     custom('note', data.subarray(0, 1_500_000)),
   );
 }
+
+// Modules with names, for treemaps, comparisons and the benchmark.
+
+/** The body of `call N`, or of as many `nop` as the number says. */
+const calling = (index) => Buffer.from([...leb(3 + leb(index).length), 0x00, 0x10, ...leb(index), 0x0b]);
+const resting = (count) => Buffer.from([...leb(count + 2), 0x00, ...Array(count).fill(0x01), 0x0b]);
+
+/** A name section of functions and, if there are some, of the locals of function 0. */
+export function namesOf(names, locals = []) {
+  const list = (texts) => Buffer.concat([Buffer.from(leb(texts.length)), ...texts.map((text, index) => Buffer.from([...leb(index), ...name(text)]))]);
+  const functions = list(names);
+  const parts = [[1, ...leb(functions.length)], functions];
+  if (locals.length) {
+    const inner = Buffer.concat([Buffer.from([1, 0]), list(locals)]);
+    parts.push([2, ...leb(inner.length)], inner);
+  }
+  return custom('name', ...parts);
+}
+
+/** Functions of these names, of one type, that do nothing for the number of bytes. */
+export function namedModule(functions) {
+  const bodies = functions.map(([, count]) => resting(count));
+  return moduleOf(
+    section(1, [0x01, 0x60, 0x00, 0x00]),
+    section(3, leb(functions.length), Buffer.alloc(functions.length)),
+    section(10, leb(functions.length), ...bodies),
+    namesOf(functions.map(([text]) => text)),
+  );
+}
+
+/** Function 0 calls function 1, which calls function 0. Function 0 has a parameter with a name. */
+export const CALLS = moduleOf(
+  section(1, [0x01, 0x60, 0x01, 0x7f, 0x00]),
+  section(3, [0x02, 0x00, 0x00]),
+  section(10, [0x02], [0x06, 0x00, 0x20, 0x00, 0x10, 0x01, 0x0b], calling(0)),
+  namesOf(['one', 'two'], ['count']),
+);
+
+/** A module of this many functions in groups, and of at least this many bytes. */
+export function groupedModule(count, size) {
+  const each = Math.ceil(size / count);
+  return namedModule(Array.from({ length: count }, (_, index) => [`group${index % 40}::f${index}`, Math.floor(each / 2 + (each * (index % 101)) / 100)]));
+}

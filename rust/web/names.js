@@ -137,3 +137,35 @@ export function prefixOf(name) {
   const first = firstOfPath(name);
   return (first === null ? null : withinBrackets(first)) || null;
 }
+
+// Labels.
+
+/** The identifiers of a mangled name: those behind their lengths. */
+function identifiers(mangled) {
+  const found = [];
+  let rest = mangled;
+  for (let it = /(\d+)_?/.exec(rest); it; it = /(\d+)_?/.exec(rest)) {
+    const begin = it.index + it[1].length;
+    const part = rest.slice(begin, begin + Number(it[1]));
+    if (/^\D/.test(part)) found.push(part);
+    rest = rest.slice(begin + (/^\D/.test(part) ? Number(it[1]) : 0));
+  }
+  return found;
+}
+
+const LEGACY = { LT: '<', GT: '>', RF: '&', BP: '*', C: ',', LP: '(', RP: ')', SP: '@', u20: ' ', u7b: '{', u7d: '}', u5b: '[', u5d: ']', u27: "'" };
+
+/**
+ * A short text for a function's name: the last two parts of its path. It is the name itself if it is
+ * not mangled, or not by a known rule.
+ */
+export function labelOf(name) {
+  if (!/^(_R|_ZN)/.test(name)) return name;
+  // A disambiguator of Rust may have digits.
+  const mangled = name.startsWith('_R') ? name.slice(2).replace(/([CMX])s[0-9A-Za-z]*_/g, '$1') : name.slice(2);
+  const parts = identifiers(mangled).filter((part) => !/^h[0-9a-f]{16}$/.test(part));
+  // Arguments of Rust are behind the path, which has a letter N for each part but the first.
+  const path = name.startsWith('_R') ? /^I?((?:N[A-Za-z])*)C/.exec(mangled) : null;
+  const plain = parts.slice(0, path ? path[1].length / 2 + 1 : undefined).slice(-2).join('::').replace(/^_\$/, '$');
+  return plain.replace(/\$(\w+)\$/g, (all, word) => LEGACY[word] ?? all).replaceAll('..', '::') || name;
+}

@@ -15,10 +15,13 @@ import path from 'node:path';
 import { fileURLToPath } from 'node:url';
 import { faultyControls, leastContrast } from './access.mjs';
 import { Browser, findChromium } from './chromium.mjs';
-import { CODE, EXPORT, FUNCTION, HEADER, PADDED, TYPES, WITH_OFFSETS, custom, largeModule, leb, moduleOf, name, section } from './modules.mjs';
+import {
+  CALLS, EXPORT, FUNCTION, HEADER, PADDED, TYPES, WITH_OFFSETS, custom, groupedModule, largeModule, moduleOf, namedModule, section,
+} from './modules.mjs';
 import { CTRL, Page, serve, sleep } from './tab.mjs';
 
 const HERE = path.dirname(fileURLToPath(import.meta.url));
+const only = process.env.PAGE_TESTS;
 const [shots, ...words] = process.argv.slice(2);
 const modules = (words.length ? words : [path.join(HERE, 'dolzhytik.wasm')]).map((file) => path.resolve(file));
 const room = fs.mkdtempSync(path.join(os.tmpdir(), 'dolzhytik-page-'));
@@ -509,6 +512,239 @@ const keyboard = {
   },
 };
 
+// ---- Treemap, functions, comparisons.
+
+const cellsOf = (page, map = 'map') =>
+  page.run(
+    (id) =>
+      [...document.getElementById(id).children].map((cell) => {
+        const { width, height } = cell.getBoundingClientRect();
+        return { label: cell.ariaLabel, area: (width + 1) * (height + 1), isNamed: cell.textContent !== '' };
+      }),
+    map,
+  );
+
+const path_ = (page) => page.text('map-path');
+const codeLines = (page) =>
+  page.run(() => [...document.querySelectorAll('#code .instruction')].map((row) => [...row.children].map((cell) => cell.textContent)));
+const titleIs = (page, title) => page.untilText('function-title', title);
+const hashOf = (page) => page.run(() => location.hash);
+const hasParts = () => document.querySelectorAll('#map .part').length > 0;
+
+const treemap = {
+  async 'the areas of the treemap are sizes'(page, library) {
+    await page.choose(modules[0]);
+    await page.until(hasParts);
+    const sizes = library.size(new Uint8Array(fs.readFileSync(modules[0]))).sections.map(({ size }) => size);
+    const cells = await cellsOf(page);
+    const [first, ...others] = cells.slice(0, 3);
+    others.forEach(({ area }, index) => assert.ok(Math.abs(area / first.area - sizes[index + 1] / sizes[0]) < 0.01));
+    assert.ok(cells[0].label.startsWith(`code, ${number(sizes[0])} bytes, `), cells[0].label);
+  },
+
+  async 'groups, into one and out again by keys'(page) {
+    const functions = [['a::x', 40], ['a::y', 30], ['b::z', 20], ['main', 8]];
+    await page.choose(fileOf('groups.wasm', namedModule(functions)));
+    await page.until(hasParts);
+    await blur(page);
+    await tabTo(page, '#map .cell');
+    assert.ok((await cellsOf(page))[0].label.startsWith('code, '));
+    await page.key('Enter');
+    const labels = (await cellsOf(page)).map(({ label }) => label.split(', ').slice(0, 2).join(', '));
+    // The size of a body has its size prefix, the number of locals and `end`.
+    assert.deepEqual(labels, ['a::*, 76 bytes', 'b::*, 23 bytes', 'without a prefix, 11 bytes']);
+    await page.key('Enter');
+    assert.equal(await path_(page), 'groups.wasm›code›a::*');
+    await page.key('ArrowRight');
+    await page.shotsOfBoth('treemap');
+    await page.key('Enter');
+    await titleIs(page, 'a::y');
+    await tabTo(page, '#map .cell').catch(() => {});
+    await page.focus('#map .cell');
+    await page.key('Escape');
+    assert.equal(await path_(page), 'groups.wasm›code');
+    await page.click('#map-path button');
+    assert.equal(await path_(page), 'groups.wasm');
+  },
+
+  async 'a function of a damaged module'(page) {
+    const module = namedModule([['a', 40], ['b', 30], ['c', 20]]);
+    const names = module.length - 20;
+    await page.choose(fileOf('cut-names.wasm', module.subarray(0, names - 20)));
+    await page.until(hasItems);
+    await page.click('#item-0');
+    await titleIs(page, 'function 0');
+    assert.equal((await codeLines(page))[0][1], 'nop');
+  },
+};
+
+const functions = {
+  async 'a function has the instructions of the library'(page, library) {
+    const { bytes, items } = await openCode(page, library, modules[0]);
+    const index = items.findIndex(({ size }) => size > 300);
+    await page.run((its) => (document.getElementById('items').scrollTop = its * 20), index);
+    await page.until((its) => document.getElementById(`item-${its}`) !== null, index);
+    await page.click(`#item-${index}`);
+    await page.until(() => document.querySelectorAll('#code .instruction').length > 10);
+    const { instructions } = library.disassemble(bytes, index);
+    const lines = await codeLines(page);
+    lines.forEach(([at, text], row) => {
+      const { offset, name: its, operands } = instructions[row];
+      assert.equal(at, hex(offset));
+      assert.equal(text.split(' ')[0], its);
+      if (operands[0]?.kind === 'local') assert.equal(text, `${its} ${operands[0].index}`);
+    });
+    await page.shotsOfBoth('function');
+  },
+
+  async 'links to callees, and the history'(page) {
+    await page.choose(fileOf('calls.wasm', CALLS));
+    await page.click('#sections tbody tr[data-index="2"]');
+    await page.until(hasItems);
+    await page.click('#item-0');
+    await titleIs(page, 'one');
+    assert.deepEqual((await codeLines(page)).map(([, text]) => text), ['local.get 0 <count>', 'call 1 <two>', 'end']);
+    assert.equal(await hashOf(page), '#function=0');
+    await page.click('#code a');
+    await titleIs(page, 'two');
+    assert.equal(await hashOf(page), '#function=1');
+    await page.run(() => history.back());
+    await titleIs(page, 'one');
+    await page.run(() => history.forward());
+    await titleIs(page, 'two');
+    // By keys: the second instruction of `one` is the call.
+    await page.run(() => history.back());
+    await titleIs(page, 'one');
+    await page.focus('#code');
+    await page.key('ArrowDown');
+    await page.key('ArrowDown');
+    assert.equal((await bytesShown(page, 'b.on')).length, 2);
+    await page.key('Enter');
+    await titleIs(page, 'two');
+    await page.click('#back');
+    assert.equal(await page.run(() => document.getElementById('list').hidden), false);
+  },
+
+  async 'an address with a function or an offset'(page) {
+    await page.choose(fileOf('calls.wasm', CALLS));
+    await page.run(() => (location.hash = '#function=1'));
+    await titleIs(page, 'two');
+    await page.run(() => (location.hash = '#offset=0x9'));
+    await page.until(() => document.querySelector('#bytes .spot')?.dataset.offset === '9');
+    await page.run(() => (location.hash = '#function=7'));
+    await page.untilText('picked', 'The module has no function 7.');
+  },
+
+  async 'the address of a page is shown when a file opens'(page) {
+    const other = new Page(page.browser, room, null);
+    await other.start(page.origin, '/#function=1');
+    await other.choose(fileOf('calls.wasm', CALLS));
+    await titleIs(other, 'two');
+    page.listen();
+  },
+
+  async 'lists are sorted and searched'(page) {
+    const functions = [['beta', 5], ['alpha', 9], ['gamma', 1], ['alpine', 3]];
+    await page.choose(fileOf('sorted.wasm', namedModule(functions)));
+    await page.click('#sections tbody tr[data-index="2"]');
+    await page.until(hasItems);
+    const texts = () => page.run(() => [...document.querySelectorAll('#items .text')].map((it) => it.textContent));
+    const set = (id, value, type) =>
+      page.run((its, text, kind) => {
+        document.getElementById(its).value = text;
+        document.getElementById(its).dispatchEvent(new Event(kind));
+      }, id, value, type);
+    await set('order', 'size', 'change');
+    assert.deepEqual(await texts(), ['alpha', 'beta', 'alpine', 'gamma']);
+    await set('order', 'name', 'change');
+    assert.deepEqual(await texts(), ['alpha', 'alpine', 'beta', 'gamma']);
+    await set('search', 'ALP', 'input');
+    assert.deepEqual(await texts(), ['alpha', 'alpine']);
+    assert.equal(await page.text('items-facts'), '2 of 4');
+    await set('search', 'none', 'input');
+    assert.equal(await page.text('items'), 'No item has "none".');
+    await set('search', '', 'input');
+    await set('order', 'index', 'change');
+    assert.deepEqual(await texts(), functions.map(([text]) => text));
+    // The table of sections.
+    await page.click('#sections [data-order=size]');
+    const sizes = (await rows(page)).map((row) => Number(row[4]));
+    assert.deepEqual(sizes, [...sizes].sort((a, b) => b - a));
+    await page.click('#sections [data-order=name]');
+    assert.deepEqual((await rows(page)).map((row) => row[2]), ['code', 'function', 'name', 'type']);
+    await page.click('#sections [data-order=index]');
+  },
+};
+
+const comparing = {
+  async 'two files: the table and the treemap'(page) {
+    const old = namedModule([['same', 4], ['grows', 10], ['gone', 20]]);
+    const now = namedModule([['same', 4], ['grows', 25], ['new', 7]]);
+    await page.choose(fileOf('old.wasm', old), fileOf('now.wasm', now));
+    await page.until(() => !document.getElementById('comparison').hidden);
+    assert.equal(await page.text('comparison-title'), 'old.wasm → now.wasm');
+    const table = await page.run(() => [...document.querySelectorAll('#changes tr')].map(({ cells }) => [...cells].map((it) => it.textContent)));
+    const ofKind = (kind) => table.filter(([its]) => its === kind).map((row) => row.slice(1, 5));
+    // A body has its size prefix, the number of locals and `end` beside its instructions.
+    assert.deepEqual(ofKind('function'), [
+      ['gone', '23', '–', '−23'], ['grows', '13', '28', '+15'], ['new', '–', '10', '+10'], ['1 other', '7', '7', '0'],
+    ]);
+    const change = (rows_) => rows_.reduce((sum, row) => sum + Number(row[3].replace('−', '-').replace('+', '')), 0);
+    assert.equal(change(ofKind('section')), now.length - old.length);
+    assert.equal(table.at(-1)[3], number(now.length));
+    const cells = await cellsOf(page, 'changes-map');
+    assert.deepEqual(cells.slice(0, 3).map(({ label }) => label), ['gone −23, 23 bytes', 'grows +15, 15 bytes', 'new +10, 10 bytes']);
+    assert.ok(Math.abs(cells[1].area / cells[0].area - 15 / 23) < 0.02);
+    assert.deepEqual((await rows(page)).length, 4);
+    await page.shotsOfBoth('compared');
+  },
+
+  async 'equal files, and the end of a comparison'(page) {
+    await page.choose(fileOf('a.wasm', PADDED), fileOf('b.wasm', PADDED));
+    await page.untilText('comparison-title', 'a.wasm → b.wasm');
+    assert.equal(await page.run(() => document.getElementById('no-changes').hidden), false);
+    await page.click('#comparison-close');
+    assert.equal(await page.run(() => document.getElementById('comparison').hidden), true);
+  },
+};
+
+const handle = {
+  async 'the handle by keys and by dragging'(page, library) {
+    await openCode(page, library, modules[0]);
+    const part = () => page.run(() => {
+      const [list, bytes] = ['items', 'bytes'].map((its) => document.querySelector(`.halves > .${its}`).getBoundingClientRect());
+      return list.height / (list.height + bytes.height);
+    });
+    await page.resize(1280, 900);
+    await page.focus('#handle');
+    for (let turn = 0; turn < 4; turn += 1) await page.key('ArrowDown');
+    assert.ok(Math.abs((await part()) - 0.7) < 0.02);
+    const { x, y } = await page.run(() => {
+      const handle = document.getElementById('handle');
+      handle.scrollIntoView({ block: 'center' });
+      const box = handle.getBoundingClientRect();
+      return { x: box.x + 20, y: box.y + 4 };
+    });
+    const mouse = (type, at) => page.send('Input.dispatchMouseEvent', { type, x, y: at, button: 'left', buttons: 1, clickCount: 1 });
+    await mouse('mousePressed', y);
+    await mouse('mouseMoved', y - 200);
+    await mouse('mouseReleased', y - 200);
+    assert.ok((await part()) < 0.5);
+    await page.resize(1600, 1000);
+  },
+};
+
+const example = {
+  async 'the example of the page'(page, library) {
+    await page.click('#example');
+    await page.untilText('status', 'example.wasm is open.');
+    const bytes = new Uint8Array(fs.readFileSync(path.join(HERE, 'example.wasm')));
+    assert.deepEqual(await rows(page), library.outline(bytes).map(rowOf));
+    assert.ok(bytes.length > 20_000 && bytes.length < 60_000, `${bytes.length} bytes`);
+    assert.ok(library.size(bytes).groups.length > 2);
+  },
+};
+
 /**
  * How much wider than the window the page is, and than their pane the bytes are. Runs in the page.
  */
@@ -532,8 +768,7 @@ function watchShifts() {
 async function backWithContrast(page, isDark) {
   await page.dark(isDark);
   const { ratio, what } = await page.run(leastContrast);
-  console.log(`${isDark ? 'dark' : 'light'}: least contrast ${ratio.toFixed(2)} (${what})`);
-  assert.ok(ratio >= 4.5);
+  assert.ok(ratio >= 4.5, `contrast ${ratio.toFixed(2)}, ${isDark ? 'dark' : 'light'}: ${what}`);
   return page.run(() => getComputedStyle(document.body).backgroundColor);
 }
 
@@ -548,6 +783,35 @@ const looks = {
       assert.notEqual(light, dark);
     }
     await page.dark(false);
+  },
+
+  async 'names, contrast and width at 1280 and 390 pixels'(page) {
+    await page.shot('start');
+    const offsets = fileOf('offsets.wasm', WITH_OFFSETS);
+    const cut = fileOf('cut.wasm', PADDED.subarray(0, 33));
+    const example = path.join(HERE, 'example.wasm');
+    const states = [
+      ['example', [example]], ['offsets', [offsets]], ['cut', [cut]], ['compared', [example, modules[0]]],
+      ['function', [fileOf('calls.wasm', CALLS)], '#function=0'],
+    ];
+    for (const [its, files, hash] of states) {
+      await page.choose(...files);
+      await page.until(hasAnswer);
+      if (hash) await page.run((to) => (location.hash = to), hash);
+      if (hash) await titleIs(page, 'one');
+      if (files.length > 1) await page.until(() => !document.getElementById('comparison').hidden);
+      for (const [width, height] of [[1280, 800], [390, 844]]) {
+        await page.resize(width, height);
+        await sleep(100);
+        assert.deepEqual(await page.run(faultyControls), [], `${its} at ${width}`);
+        assert.ok((await page.run(() => document.scrollingElement.scrollWidth - innerWidth)) <= 0, `${its} at ${width}`);
+        await backWithContrast(page, false);
+        await backWithContrast(page, true);
+        await page.dark(false);
+        await page.shotsOfBoth(`${its}-${width}`);
+      }
+    }
+    await page.resize(1600, 1000);
   },
 
   async '400 to 1600 pixels'(page, library) {
@@ -653,9 +917,10 @@ const quiet = {
 // ---- The run.
 
 async function runTests(page, library) {
-  const groups = [opening, damaged, chosen, minimizing, recipes, keyboard, looks, large, quiet];
+  const groups = [opening, damaged, chosen, treemap, functions, comparing, handle, example, minimizing, recipes, keyboard, looks, large, quiet];
   const counts = { passed: 0, failed: 0 };
   for (const [its, test] of groups.flatMap(Object.entries)) {
+    if (only && !its.includes(only)) continue;
     try {
       await test(page, library);
       counts.passed += 1;

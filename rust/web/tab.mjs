@@ -29,7 +29,7 @@ export async function serve() {
 
 // ---- The tab.
 
-const KEYS = { Tab: 9, Enter: 13, End: 35, Home: 36, ArrowLeft: 37, ArrowUp: 38, ArrowRight: 39, ArrowDown: 40 };
+const KEYS = { Tab: 9, Enter: 13, Escape: 27, End: 35, Home: 36, ArrowLeft: 37, ArrowUp: 38, ArrowRight: 39, ArrowDown: 40 };
 export const CTRL = 2;
 
 /** A tab with the page; the requests of it and its workers, and their errors and messages. */
@@ -43,7 +43,12 @@ export class Page {
   /** Downloads and screenshots are in these folders. Without the second there are none. */
   constructor(browser, room, shots) {
     Object.assign(this, { browser, room, shots });
-    browser.onEvent = (event) => this.#hear(event);
+    this.listen();
+  }
+
+  /** Takes the events of the browser, which another tab may have taken. */
+  listen() {
+    this.browser.onEvent = (event) => this.#hear(event);
   }
 
   /** Opens the page at an address, and waits for its first status. */

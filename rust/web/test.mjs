@@ -892,6 +892,33 @@ test('sizes', () => {
   assert.equal(found.size, module.length);
 });
 
+test('prefixes and labels of names', async () => {
+  const { labelOf, prefixOf } = await import('./names.js');
+  const rows = [
+    ['core::fmt::write', 'core', 'core::fmt::write'],
+    ['<core[846817f741e54dfd]::fmt::Error as core::fmt::Debug>::fmt', 'core'],
+    ['<T as core::convert::Into<U>>::into', 'core'],
+    ['_ZN4core3fmt5write17h0123456789abcdefE', 'core', 'fmt::write'],
+    ['_ZN44_$LT$$RF$T$u20$as$u20$core..fmt..Display$GT$3fmt17h0123456789abcdefE', 'core', '<&T as core::fmt::Display>::fmt'],
+    ['_$LT$core..fmt..Error$u20$as$u20$core..fmt..Debug$GT$::fmt::h0123456789abcdef', 'core'],
+    ['_RNvNtCs846817f741e_4core3fmt5write', 'core', 'fmt::write'],
+    ['_RINvNtC4core3ptr13drop_in_placeNtC5alloc6StringE', 'core', 'ptr::drop_in_place'],
+    ['_RNvMs_NtC4core3fmtNtB2_9Formatter3pad', 'core'],
+    ['<alloc::vec::Vec<T,A> as core::ops::Deref>::deref', 'alloc'],
+    ['int ns::twice<int>(int)', 'ns'], ['ns::operator<(ns::C const&, ns::C const&)', 'ns'],
+    ['std::ostream& ns::operator<< <int>(std::ostream&, int)', 'ns'], ['_ZNK2ns1C3getEv', 'ns', 'C::get'],
+    ['_ZZN2ns1fEvENK3$_0clEv', 'ns'], ['_ZNSt1S1fEv', 'std'], ['_ZSt5move2IiET_S0_', 'std'], ['_ZNKSt3__112basic', 'std'],
+    ['(anonymous namespace)::hidden(int)', '(anonymous namespace)'],
+    ['_ZN12_GLOBAL__N_16hiddenEi', '(anonymous namespace)'],
+    ...['', 'main', 'a.b', '::f', 'f(std::string)', '_Z5takesRN2ns1CE', '_ZN', '_ZN99999999999999999999a', '_R', '_RCs', '<::',
+      '<T as U>::f', '_$LT$T$GT$::f', 'operator new(unsigned long)'].map((name) => [name, null]),
+  ];
+  for (const [name, prefix, label] of rows) {
+    assert.equal(prefixOf(name), prefix, name);
+    if (label) assert.equal(labelOf(name), label);
+  }
+});
+
 test('strip', () => {
   const [note, debug, reloc] = [custom('note', '01'), custom('.debug_info', '00'), custom('reloc..debug_info', '01 00')];
   const type = '01 04 01 60 00 00';

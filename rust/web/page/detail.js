@@ -192,20 +192,22 @@ export function openFunction(index, isByKey = false) {
   showFunction(index, isByKey);
 }
 
-/** Shows the instructions of a function. Returns whether the module has it. */
+/** Shows the instructions of a function, when the functions are known. */
 export async function showFunction(index, isByKey = false) {
-  const it = state.parts?.functions.find((each) => each.index === index);
+  const asked = state.file;
+  await state.ready;
+  if (asked !== state.file) return;
+  const it = state.parts.functions.find((each) => each.index === index);
   if (!it) {
     noteMissing(index);
-    return false;
+    return;
   }
-  const asked = state.file;
   showSectionAt(indexAt(it.offset));
   shown = it;
   itemList.mark(itemList.items.findIndex((item) => item.index === index));
   byteView.mark(it.offset, it.offset + it.size);
   const found = await reader.call('instructions', it);
-  if (asked !== state.file || shown !== it) return true;
+  if (asked !== state.file || shown !== it) return;
   byId('list').hidden = true;
   byId('function').hidden = false;
   byId('function-title').textContent = functionName(it);
@@ -215,7 +217,6 @@ export async function showFunction(index, isByKey = false) {
   notePicked(`Function ${index}`, it);
   byId('items-note').textContent = signature(it);
   if (isByKey) byId('code').focus();
-  return true;
 }
 
 /** The type of a function, and its runs of locals. */
@@ -225,7 +226,7 @@ function signature({ type, locals }) {
 }
 
 function noteMissing(index) {
-  const name = state.parts?.imported[index];
+  const name = state.parts.imported[index];
   const text = name ? `Function ${index} is imported: ${escaped(name)}` : `The module has no function ${index}.`;
   byId('items-note').textContent = text;
   byId('picked').textContent = text;

@@ -221,7 +221,7 @@ function listen() {
 }
 
 async function start() {
-  const describe = ({ label, size }) => `${label}, ${counted(size, 'byte')}, ${shareOf(size)}`;
+  const describe = ({ label, title = label, size }) => `${title}, ${counted(size, 'byte')}, ${shareOf(size)}`;
   map = new Treemap(byId('map'), byId('map-path'), describe);
   listen();
   say('Loading dolzhytik.wasm');

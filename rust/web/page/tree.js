@@ -1,5 +1,5 @@
 // The parts of the module as nodes of a treemap.
-import { prefixOf } from '../names.js';
+import { labelOf, prefixOf } from '../names.js';
 import { escaped } from './elements.js';
 import { functionName, kindClass, shortName, state, wholeSize } from './state.js';
 
@@ -16,11 +16,14 @@ function functionNodes(functions, openFunction) {
   }
   const sums = [...groups].map(([prefix, its]) => ({ prefix, its, size: its.reduce((sum, { size }) => sum + size, 0) }));
   sums.sort((a, b) => b.size - a.size);
-  const node = (kind) => (it) => ({ label: functionName(it), size: it.size, kind, open: () => openFunction(it.index) });
+  const label = (it) => (it.name === null ? functionName(it) : escaped(labelOf(it.name)));
+  const node = (kind) => (it) => ({
+    label: label(it), title: functionName(it), size: it.size, kind, open: () => openFunction(it.index),
+  });
   if (sums.length === 1) return functions.map(node(hueClass(0)));
   return sums.map(({ prefix, its, size }, index) => {
-    const label = prefix === null ? 'without a prefix' : `${escaped(prefix)}::*`;
-    return { label, size, kind: hueClass(index), children: () => its.map(node(hueClass(index))) };
+    const groupLabel = prefix === null ? 'without a prefix' : `${escaped(prefix)}::*`;
+    return { label: groupLabel, size, kind: hueClass(index), children: () => its.map(node(hueClass(index))) };
   });
 }
 
