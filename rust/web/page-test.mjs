@@ -639,8 +639,10 @@ const functions = {
     const other = new Page(page.browser, room, null);
     await other.start(page.origin, '/#function=1');
     await other.choose(fileOf('calls.wasm', CALLS));
-    await titleIs(other, 'two');
-    page.listen();
+    await titleIs(other, 'two').finally(async () => {
+      await other.close();
+      await page.show();
+    });
   },
 
   async 'lists are sorted and searched'(page) {

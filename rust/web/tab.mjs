@@ -56,13 +56,23 @@ export class Page {
     this.origin = origin;
     const { targetId } = await this.browser.send('Target.createTarget', { url: 'about:blank' });
     const { sessionId } = await this.browser.send('Target.attachToTarget', { targetId, flatten: true });
-    this.session = sessionId;
+    Object.assign(this, { session: sessionId, target: targetId });
     await this.#watch(sessionId);
     await this.send('Page.enable');
     await this.browser.send('Browser.setDownloadBehavior', { behavior: 'allow', downloadPath: this.room, eventsEnabled: true });
     await this.resize(1600, 1000);
     await this.send('Page.navigate', { url: origin + folder });
     await this.until((text) => document.getElementById('status')?.textContent.startsWith(text), status);
+  }
+
+  close() {
+    return this.browser.send('Target.closeTarget', { targetId: this.target });
+  }
+
+  /** Shows the tab, which another one was before: a tab that is not shown is not painted. */
+  async show() {
+    this.listen();
+    await this.send('Page.bringToFront');
   }
 
   send(method, params) {
