@@ -127,7 +127,8 @@ function ofItanium(mangled) {
 function ofRust(mangled) {
   const [path] = /^(N[A-Za-z]|I|[MX](s[^_]*_)?)*/.exec(mangled);
   const crate = /^C(?:s[^_]*_)?(.*)$/s.exec(mangled.slice(path.length));
-  return crate ? counted(crate[1]) : null;
+  // An underscore is before an identifier that begins with one.
+  return crate ? counted(crate[1].replace(/^(\d+)_/, '$1')) : null;
 }
 
 /** The prefix of a function's name, or null. */
@@ -140,12 +141,16 @@ export function prefixOf(name) {
 
 // Labels.
 
-/** The identifiers of a mangled name: those behind their lengths. */
-function identifiers(mangled) {
+/**
+ * The identifiers of a mangled name: those behind their lengths. In Rust an underscore is before one
+ * that begins with an underscore.
+ */
+function identifiers(mangled, isRust) {
   const found = [];
+  const length = isRust ? /(\d+)_?/ : /(\d+)/;
   let rest = mangled;
-  for (let it = /(\d+)_?/.exec(rest); it; it = /(\d+)_?/.exec(rest)) {
-    const begin = it.index + it[1].length;
+  for (let it = length.exec(rest); it; it = length.exec(rest)) {
+    const begin = it.index + it[0].length;
     const part = rest.slice(begin, begin + Number(it[1]));
     if (/^\D/.test(part)) found.push(part);
     rest = rest.slice(begin + (/^\D/.test(part) ? Number(it[1]) : 0));
@@ -163,7 +168,7 @@ export function labelOf(name) {
   if (!/^(_R|_ZN)/.test(name)) return name;
   // A disambiguator of Rust may have digits.
   const mangled = name.startsWith('_R') ? name.slice(2).replace(/([CMX])s[0-9A-Za-z]*_/g, '$1') : name.slice(2);
-  const parts = identifiers(mangled).filter((part) => !/^h[0-9a-f]{16}$/.test(part));
+  const parts = identifiers(mangled, name.startsWith('_R')).filter((part) => !/^h[0-9a-f]{16}$/.test(part));
   // Arguments of Rust are behind the path, which has a letter N for each part but the first.
   const path = name.startsWith('_R') ? /^I?((?:N[A-Za-z])*)C/.exec(mangled) : null;
   const plain = parts.slice(0, path ? path[1].length / 2 + 1 : undefined).slice(-2).join('::').replace(/^_\$/, '$');

@@ -903,7 +903,7 @@ test('prefixes and labels of names', async () => {
     ['_$LT$core..fmt..Error$u20$as$u20$core..fmt..Debug$GT$::fmt::h0123456789abcdef', 'core'],
     ['_RNvNtCs846817f741e_4core3fmt5write', 'core', 'fmt::write'],
     ['_RINvNtC4core3ptr13drop_in_placeNtC5alloc6StringE', 'core', 'ptr::drop_in_place'],
-    ['_RNvMs_NtC4core3fmtNtB2_9Formatter3pad', 'core'],
+    ['_RNvMs_NtC4core3fmtNtB2_9Formatter3pad', 'core'], ['_RNvCs1_7___rustc12___rust_alloc', '__rustc', '__rustc::__rust_alloc'],
     ['<alloc::vec::Vec<T,A> as core::ops::Deref>::deref', 'alloc'],
     ['int ns::twice<int>(int)', 'ns'], ['ns::operator<(ns::C const&, ns::C const&)', 'ns'],
     ['std::ostream& ns::operator<< <int>(std::ostream&, int)', 'ns'], ['_ZNK2ns1C3getEv', 'ns', 'C::get'],

@@ -6,7 +6,7 @@ import { reader } from './engine.js';
 import { ItemList } from './items.js';
 import { HEADER_SIZE, MOST_ITEMS } from './limits.js';
 import * as links from './links.js';
-import { endOf, functionName, indexAt, isFlawed, state, titleOf } from './state.js';
+import { endOf, functionName, functionsIn, indexAt, isFlawed, state, titleOf } from './state.js';
 
 /** The section whose items were asked for last, and whether a worker is at such a call. */
 let wanted = null;
@@ -92,9 +92,7 @@ async function itemsOf(section) {
 
 /** The functions that are in the section, as items with their names. */
 function functionItems(section) {
-  const end = endOf(section);
-  const its = state.parts.functions.filter(({ offset }) => section.start <= offset && offset < end);
-  const items = its.map((it) => ({ ...it, text: functionName(it), title: `${functionName(it)}: ${counted(it.count, 'instruction')}` }));
+  const items = functionsIn(section).map((it) => ({ ...it, text: functionName(it), title: `${functionName(it)}: ${counted(it.count, 'instruction')}` }));
   return { section, items, isCut: section.isUndecoded || isFlawed(section), error: null };
 }
 
@@ -107,6 +105,7 @@ function whyNoItems(section, error) {
 }
 
 function showItems({ section, items, isCut, error }) {
+  byId('items-title').textContent = isCode(section) || items[0]?.body ? 'Functions' : 'Items';
   const isFull = !items[0]?.body && items.length === MOST_ITEMS;
   const count = items.length ? number(items.length) : '';
   const cut = isCut && items.length ? `${count} before the damage` : count;
@@ -185,6 +184,9 @@ function goToOffset(event) {
 }
 
 // Functions.
+
+/** Scrolls the chosen section into view, where it is below the treemap. */
+export const revealDetail = () => byId('detail').scrollIntoView({ block: 'nearest' });
 
 /** Shows a function by its index, and adds it to the history. */
 export function openFunction(index, isByKey = false) {

@@ -1,6 +1,6 @@
 // The page over the package. Workers make all calls of it, so that the page stays responsive.
 import { listenToComparison, showComparison } from './comparison.js';
-import { choose, focusItems, listenToDetail, openFunction, showFunction, showNoSection, showOffset, stopListing } from './detail.js';
+import { choose, focusItems, listenToDetail, openFunction, revealDetail, showFunction, showNoSection, showOffset, stopListing } from './detail.js';
 import { byId, counted, download, hex, make, number, painted, say } from './elements.js';
 import { reader } from './engine.js';
 import * as links from './links.js';
@@ -88,7 +88,11 @@ async function showParts(ready, link) {
 }
 
 function showMap() {
-  map.show(treeOf({ openSection: choose, openFunction, openItem: showItem }));
+  const revealing = (call) => (value) => {
+    call(value);
+    revealDetail();
+  };
+  map.show(treeOf({ openSection: revealing(choose), openFunction: revealing(openFunction), openItem: revealing(showItem) }));
 }
 
 function showItem(offset) {
@@ -103,6 +107,7 @@ function follow(link) {
   if (kind === 'function') showFunction(value);
   if (kind === 'offset') showOffset(value);
   if (kind === 'section' && value >= 1 && value <= state.file.sections.length) choose(value - 1);
+  if (kind !== 'section') revealDetail();
 }
 
 function showFile(count) {

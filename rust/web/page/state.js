@@ -62,7 +62,7 @@ export const shortName = (section) => (section.name === null ? kindText(section)
 
 /** The section in words: its number, kind and name. */
 export function titleOf(section) {
-  if (section.isUndecoded) return 'Bytes that are not decoded';
+  if (section.isUndecoded) return 'The bytes from the damage on';
   const name = section.name === null ? '' : ` "${escaped(section.name)}"`;
   return `Section ${section.number}: ${section.kind}${name}`;
 }
@@ -84,3 +84,10 @@ export function nameCell(tag, section) {
 
 /** A function by its name, or by its index if it has none. */
 export const functionName = ({ index, name }) => (name === null ? `function ${index}` : escaped(name));
+
+/** The functions that are in a section, if they are known. */
+export function functionsIn(section) {
+  if (section.id !== 10 && !section.isUndecoded) return [];
+  const isIn = ({ offset }) => section.start <= offset && offset < endOf(section);
+  return state.parts?.functions.filter(isIn) ?? [];
+}

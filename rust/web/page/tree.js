@@ -1,7 +1,7 @@
 // The parts of the module as nodes of a treemap.
 import { labelOf, prefixOf } from '../names.js';
 import { escaped } from './elements.js';
-import { functionName, kindClass, shortName, state, wholeSize } from './state.js';
+import { functionName, functionsIn, kindClass, shortName, state, wholeSize } from './state.js';
 
 /** The hue of the n-th group, so that neighbours differ. */
 const hueClass = (index) => `kind hue-${index % 8}`;
@@ -39,9 +39,8 @@ export function treeOf({ openSection, openFunction, openItem }) {
   const { file, parts } = state;
   const node = (section, index) => {
     const base = { label: shortName(section), size: wholeSize(section), kind: kindClass(section) };
-    if (section.id === 10 && parts?.functions.length) {
-      return { ...base, children: () => functionNodes(parts.functions, openFunction) };
-    }
+    const functions = functionsIn(section);
+    if (functions.length) return { ...base, children: () => functionNodes(functions, openFunction) };
     if (section.id === 11 && parts?.data.length > 1) return { ...base, children: () => segmentNodes(parts.data, openItem) };
     return { ...base, open: () => openSection(index) };
   };
