@@ -91,8 +91,8 @@ export const CALLS = moduleOf(
   namesOf(['one', 'two'], ['count']),
 );
 
-/** A module of this many functions in groups, and of at least this many bytes. */
-export function groupedModule(count, size) {
+/** A module of this many functions in groups, of about this many bytes. */
+export function groupedModule(count, size, groups = 40) {
   const each = Math.ceil(size / count);
-  return namedModule(Array.from({ length: count }, (_, index) => [`group${index % 40}::f${index}`, Math.floor(each / 2 + (each * (index % 101)) / 100)]));
+  return namedModule(Array.from({ length: count }, (_, index) => [`group${index % groups}::f${index}`, Math.floor(each / 2 + (each * (index % 101)) / 100)]));
 }

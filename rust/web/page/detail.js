@@ -3,7 +3,7 @@ import { ByteView } from './bytes.js';
 import { CodeView, codeFacts } from './code.js';
 import { byId, counted, escaped, hex, number, range } from './elements.js';
 import { reader } from './engine.js';
-import { ItemList } from './items.js';
+import { ItemList, titleOfItem } from './items.js';
 import { HEADER_SIZE, MOST_ITEMS } from './limits.js';
 import * as links from './links.js';
 import { endOf, functionName, functionsIn, indexAt, isFlawed, state, titleOf } from './state.js';
@@ -92,7 +92,7 @@ async function itemsOf(section) {
 
 /** The functions that are in the section, as items with their names. */
 function functionItems(section) {
-  const items = functionsIn(section).map((it) => ({ ...it, text: functionName(it), title: `${functionName(it)}: ${counted(it.count, 'instruction')}` }));
+  const items = functionsIn(section).map((it) => ({ ...it, text: it.name ?? `function ${it.index}` }));
   return { section, items, isCut: section.isUndecoded || isFlawed(section), error: null };
 }
 
@@ -118,7 +118,7 @@ function showItems({ section, items, isCut, error }) {
 
 function chooseItem(item) {
   byteView.mark(item.offset, item.offset + item.size);
-  byId('items-note').textContent = escaped(item.title ?? item.text);
+  byId('items-note').textContent = escaped(titleOfItem(item));
   notePicked(`${item.body ? 'Function' : 'Item'} ${item.index}`, item);
 }
 
@@ -144,7 +144,7 @@ function markItemAt(offset) {
   const isKnown = itemList.items.length > 0 && (isOfFunctions || itemList.items.length < MOST_ITEMS);
   const word = isOfFunctions ? 'function' : 'item';
   const inItem = item ? `in ${word} ${item.index}` : isKnown ? `in no ${word}` : '';
-  byId('items-note').textContent = item ? escaped(item.title ?? item.text) : '';
+  byId('items-note').textContent = item ? escaped(titleOfItem(item)) : '';
   byId('picked').textContent = [`Byte ${hex(offset)}: ${hex(byte)}, ${byte}`, inItem].filter(Boolean).join(', ');
 }
 

@@ -1,5 +1,5 @@
 // The items of a section: sorted by index, size or name, and those that a search finds.
-import { escaped, hasModifier, hex, make, moved, number } from './elements.js';
+import { counted, escaped, hasModifier, hex, make, moved, number } from './elements.js';
 import { Rows } from './rows.js';
 
 const ORDERS = {
@@ -7,6 +7,9 @@ const ORDERS = {
   size: (a, b) => b.size - a.size,
   name: (a, b) => (a.text < b.text ? -1 : a.text > b.text ? 1 : 0),
 };
+
+/** The text of an item; that of a function has the number of its instructions. */
+export const titleOfItem = ({ text, count }) => (count === undefined ? text : `${text}: ${counted(count, 'instruction')}`);
 
 export class ItemList {
   /** The position of the chosen item among all, or -1. */
@@ -103,7 +106,7 @@ export class ItemList {
   #row(shown) {
     const at = this.#shown[shown];
     const item = this.items[at];
-    const row = make('div', { className: 'item', id: `item-${at}`, role: 'option', title: escaped(item.title ?? item.text) });
+    const row = make('div', { className: 'item', id: `item-${at}`, role: 'option', title: escaped(titleOfItem(item)) });
     row.dataset.index = at;
     row.setAttribute('aria-selected', at === this.chosen);
     row.setAttribute('aria-posinset', shown + 1);

@@ -2,13 +2,14 @@
 import { make } from './elements.js';
 
 /** The rows that are made above and below those in view. */
-const SPARE_ROWS = 16;
+const SPARE_ROWS = 8;
 
 /** Rows of one height, of which those in view are made. */
 export class Rows {
   #first = 0;
   #last = 0;
   #count = 0;
+  #height = 0;
 
   constructor(scroller, makeRow) {
     this.scroller = scroller;
@@ -17,11 +18,13 @@ export class Rows {
     this.canvas = make('div', { className: 'canvas', role: 'presentation' }, this.made);
     scroller.append(this.canvas);
     scroller.addEventListener('scroll', () => this.#drawWhereNeeded());
-    new ResizeObserver(() => this.#drawWhereNeeded()).observe(scroller);
+    new ResizeObserver(() => this.#resized()).observe(scroller);
   }
 
+  /** The height of a row. It is measured when rows are shown: it takes the style of the page. */
   get height() {
-    return parseFloat(getComputedStyle(this.scroller).lineHeight);
+    if (!this.#height) this.#height = parseFloat(getComputedStyle(this.scroller).lineHeight) || 0;
+    return this.#height || 1;
   }
 
   /** How many rows are in view. */
@@ -36,6 +39,7 @@ export class Rows {
   /** Shows this number of rows, or a text where it is 0. */
   show(count, text = '', isWaiting = false) {
     this.#count = count;
+    this.#height = 0;
     this.canvas.style.height = count ? `${count * this.height}px` : '100%';
     this.scroller.scrollTop = 0;
     this.draw();
@@ -68,6 +72,11 @@ export class Rows {
     const isNear = last - 2 * height <= scrollTop && scrollTop <= first + 2 * height;
     const nearest = scrollTop > first ? first : last;
     scroller.scrollTop = isNear ? nearest : first - clientHeight / 3;
+    this.#drawWhereNeeded();
+  }
+
+  #resized() {
+    this.#height = 0;
     this.#drawWhereNeeded();
   }
 

@@ -3,7 +3,9 @@
 import { hasModifier, make, moved, number } from './elements.js';
 
 /** The most rectangles of a level, and the least area of one, in square pixels. */
-const [MOST_RECTANGLES, LEAST_AREA] = [400, 30];
+const [MOST_RECTANGLES, LEAST_AREA] = [600, 20];
+/** The most rectangles for nodes that are too small, and how many nodes each has at least. */
+const [MOST_CHUNKS, LEAST_CHUNK] = [30, 200];
 /** The least area of a rectangle that shows its children, and the most that it shows. */
 const [NESTED_AREA, MOST_NESTED] = [6000, 150];
 const HEAD = 20;
@@ -46,7 +48,19 @@ export function squarified(areas, box) {
   return boxes;
 }
 
-/** The largest nodes, and one for the others if there are too many or too small ones. */
+/** Nodes that are too small as one, or as a few if there are many. */
+function chunksOf(nodes) {
+  const count = Math.max(1, Math.min(MOST_CHUNKS, Math.floor(nodes.length / LEAST_CHUNK)));
+  const length = Math.ceil(nodes.length / count);
+  return Array.from({ length: count }, (_, index) => {
+    const its = nodes.slice(index * length, (index + 1) * length);
+    const size = its.reduce((sum, it) => sum + it.size, 0);
+    const label = `${number(its.length)} of at most ${number(its[0]?.size ?? 0)} bytes`;
+    return { label, size, kind: its[0]?.kind, children: () => its };
+  }).filter(({ size }) => size > 0);
+}
+
+/** The largest nodes, and some for the others if there are too many or too small ones. */
 function visible(nodes, area, most) {
   const sorted = nodes.filter(({ size }) => size > 0).sort((a, b) => b.size - a.size);
   const sum = sorted.reduce((all, { size }) => all + size, 0);
@@ -54,11 +68,8 @@ function visible(nodes, area, most) {
   const small = sorted.findIndex(isSmall);
   const count = Math.min(small < 0 ? sorted.length : small, most);
   if (sorted.length - count < 2) return { nodes: sorted, sum };
-  const others = sorted.slice(count);
-  const size = others.reduce((all, it) => all + it.size, 0);
-  const label = `${number(others.length)} smaller`;
-  const rest = { label, size, kind: others[0].kind, isRest: true, children: () => others };
-  return { nodes: [...sorted.slice(0, count), rest].sort((a, b) => b.size - a.size), sum };
+  const rest = chunksOf(sorted.slice(count));
+  return { nodes: [...sorted.slice(0, count), ...rest].sort((a, b) => b.size - a.size), sum };
 }
 
 function placed(nodes, box, most = MOST_RECTANGLES) {

@@ -298,7 +298,9 @@ fn append(section: Section<'_>, list: &mut List) -> Result<(), ReadFault> {
         0 => custom(part, list),
         1 => all::<TypeEntry>(part, list),
         2 => all::<Imports<'_>>(part, list),
-        3 => counted(part, |_, rest| index(rest, list, ["(func (type ", "))"], "type")),
+        3 => counted(part, |_, rest| {
+            index(rest, list, ["(func (type ", "))"], "type")
+        }),
         4 => all::<TableItem>(part, list),
         5 => all::<MemoryType>(part, list),
         6 => all::<GlobalItem>(part, list),
@@ -342,7 +344,11 @@ fn listed<'a>(module: &'a [u8], index: u32, mut list: List) -> Result<(List, boo
 /// The first items of the section at this index, or none where it does not decode.
 pub fn items(module: &[u8], index: u32, limit: u32) -> Answer<'_> {
     let (list, is_cut) = listed(module, index, List::new(limit, false)?)?;
-    let list = if is_cut { List::new(limit, false)? } else { list };
+    let list = if is_cut {
+        List::new(limit, false)?
+    } else {
+        list
+    };
     Ok(list.finish()?)
 }
 
