@@ -236,3 +236,8 @@ export function itemsWithFields(module, index, limit = NONE) {
 export function decodedBody(body, limit = NONE) {
   return called(json, 'dz_instructions', body, limit);
 }
+
+/** The minimal encoding of a module of one section, whatever offsets it holds. */
+export function minimizeSection(module) {
+  return called(rest, 'dz_minimize', module, 2);
+}

@@ -52,7 +52,7 @@ export interface MinimizeOptions {
   dropOffsets?: boolean;
   /**
    * Keeps code, data and the sections that offsets point into byte for byte, so that all offsets
-   * stay right. A section that itself holds offsets may stay too.
+   * stay right. With `dropOffsets` it is an error.
    */
   keepCode?: boolean;
 }

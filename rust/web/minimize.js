@@ -1,5 +1,5 @@
 // Minimizes modules, by one call, or section by section where the code stays.
-import { DolzhytikError, minimize as minimizeAll, outline } from './calls.js';
+import { DolzhytikError, minimize as minimizeAll, minimizeSection, outline } from './calls.js';
 import { hasUnknownSubsection, sectionIndices, withEntries } from './references.js';
 import { HEADER, wholeSections } from './sizes.js';
 import { joined } from './strip.js';
@@ -25,17 +25,6 @@ function keptOf(sections) {
   return kept;
 }
 
-/** The minimal encoding of a section, as a module of its own without the header. */
-function minimalSection(header, whole) {
-  try {
-    return minimizeAll(joined([header, whole])).subarray(HEADER);
-  } catch (error) {
-    // The section itself holds offsets, and stays.
-    if (error instanceof DolzhytikError && error.offset !== null) return whole;
-    throw error;
-  }
-}
-
 function minimizeKeepingCode(module) {
   const outlined = outline(module);
   const wholes = wholeSections(outlined);
@@ -50,7 +39,7 @@ function minimizeKeepingCode(module) {
   const header = module.subarray(0, HEADER);
   const parts = wholes.map(({ offset, size }, index) => {
     const whole = module.subarray(offset, offset + size);
-    return kept[index] ? whole : minimalSection(header, whole);
+    return kept[index] ? whole : minimizeSection(joined([header, whole])).subarray(HEADER);
   });
   return joined([header, ...parts]);
 }

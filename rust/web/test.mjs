@@ -161,6 +161,20 @@ test('custom sections that hold offsets', () => {
   assert.deepEqual(minimize(minimal, {}), minimal);
 });
 
+test('custom sections that hold offsets, and the code stays', () => {
+  const [types, code] = ['01 85 00 01 60 01 7f 00', '0a 84 00 01 02 00 0b'];
+  const debug = '00 08 072e64656275675f';
+  assert.deepEqual(minimize(moduleOf(types, code, debug), { keepCode: true }), moduleOf('01 05 01 60 01 7f 00', code, debug));
+  // All before the code stay with a source map, which counts from the first byte.
+  const map = custom('sourceMappingURL', '0161');
+  assert.deepEqual(minimize(moduleOf(types, code, map), { keepCode: true }), moduleOf(types, code, map));
+  // Relocations of types: these stay. Their own numbers are minimal.
+  const [padded, minimal] = ['8000 00', '00 00'].map((numbers) => custom('reloc.TYPE', numbers));
+  const linking = custom('linking', '02');
+  assert.deepEqual(minimize(moduleOf(types, linking, padded), { keepCode: true }), moduleOf(types, linking, minimal));
+  assert.throws(() => minimize(ADD, { dropOffsets: true, keepCode: true }), TypeError);
+});
+
 test('the argument is not changed, and a result has its own bytes', () => {
   const argument = ADD.slice();
   const result = minimize(argument);
@@ -626,7 +640,8 @@ test('nothing leaks', async () => {
   const bad = ADD.subarray(0, 20);
   const calls = [
     () => dz.outline(ADD), () => dz.list(ADD), () => dz.minimize(ADD), () => dz.assemble('func 1\nbody 0b'),
-    () => dz.items(ADD, 3), () => outcome(() => dz.outline(bad), dz.DolzhytikError),
+    () => dz.items(ADD, 3), () => dz.dump(ADD), () => dz.disassemble(ADD, 0), () => dz.strip(ADD), () => dz.size(ADD),
+    () => dz.minimize(ADD, { keepCode: true }), () => outcome(() => dz.outline(bad), dz.DolzhytikError),
     () => outcome(() => dz.assemble('x'), dz.DolzhytikError),
   ];
   calls.forEach((call) => call());
@@ -662,6 +677,7 @@ test('each request for memory is refused in turn', async () => {
   const calls = [
     () => dz.outline(ADD), () => dz.list(ADD), () => dz.minimize(ADD), () => dz.assemble(recipe),
     () => dz.items(ADD, 0), () => dz.items(ADD, 3), () => dz.minimize(offsets), () => dz.outline(hex('')),
+    () => dz.dump(ADD), () => dz.disassemble(ADD, 0), () => dz.strip(offsets), () => dz.minimize(offsets, { keepCode: true }),
   ];
   const expected = calls.map((call) => outcome(call, dz.DolzhytikError));
   const refused = calls.map(() => 0);

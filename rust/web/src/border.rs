@@ -180,7 +180,7 @@ calls! {
 calls! {
     dz_outline() => answers::outline;
     dz_list() => answers::list;
-    dz_minimize(drops_offsets) => answers::minimize;
+    dz_minimize(choice) => answers::minimize;
     dz_items(index limit) => crate::items::items;
     dz_dump(index limit) => crate::items::dump;
     dz_instructions(limit) => crate::instructions::instructions;
