@@ -1,5 +1,5 @@
-// What keeps a page from being used: low contrast, and controls without a name. The functions run in
-// the page, and have nothing else of this file.
+// What keeps a page from being used: low contrast, and controls without a name. The functions run
+// in the page, and have nothing else of this file.
 
 /** The least contrast of a text to the colours behind it. */
 export function leastContrast() {
@@ -34,10 +34,12 @@ export function leastContrast() {
  */
 export function faultyControls() {
   const CONTROLS =
-    'a[href], button, input, select, textarea, [tabindex], [role=button], [role=listbox], [role=option], [role=grid], [role=separator], [role=region], table';
+    'a[href], button, input, select, textarea, table, [tabindex], [role=button], [role=listbox], [role=option], '
+    + '[role=grid], [role=separator], [role=region]';
+  const UNTITLED = 'input, select, textarea, table, [role=listbox], [role=grid], [role=region]';
   const textOf = (ids) => ids.split(/\s+/).map((id) => document.getElementById(id)?.textContent ?? '').join(' ');
   const labels = (element) => [...(element.labels ?? [])].map(({ textContent }) => textContent).join(' ');
-  const hasOwnText = (element) => !element.matches('input, select, textarea, table, [role=listbox], [role=grid], [role=region]');
+  const hasOwnText = (element) => !element.matches(UNTITLED);
   const nameOf = (element) => {
     const by = element.getAttribute('aria-labelledby');
     const own = hasOwnText(element) ? element.textContent : element.caption?.textContent ?? '';
@@ -46,7 +48,8 @@ export function faultyControls() {
   const isReached = (element) => {
     if (element.tabIndex >= 0 || element.matches('table:not([role])')) return true;
     const group = element.closest('[role=listbox], [role=grid]');
-    return group !== null && (group.tabIndex >= 0 || group.querySelector('[tabindex="0"]') !== null || group.childElementCount === 0);
+    if (group === null) return false;
+    return group.tabIndex >= 0 || group.querySelector('[tabindex="0"]') !== null || group.childElementCount === 0;
   };
   const isShown = (element) => element.checkVisibility() && !element.closest('[aria-hidden=true], [hidden]');
   // A button opens this one.

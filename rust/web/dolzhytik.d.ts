@@ -136,7 +136,7 @@ export interface Clause {
   label: number | null;
 }
 
-/** An operand of an instruction. Types are in the text format, and bits and bytes in hexadecimal. */
+/** An operand of an instruction. Types are in the text format, bits and bytes in hexadecimal. */
 export type Operand =
   | Index
   | { kind: 'length' | 'i32'; value: number }
@@ -256,10 +256,10 @@ export interface StripOptions {
 }
 
 /**
- * Returns the module without custom sections: all of them if no option says which. If a section that
- * stays holds indices of sections, an empty section is in the place of a removed one.
- * @throws {DolzhytikError} if a linker needs a removed section, if a section that stays would become
- * wrong, or as {@link outline} does.
+ * Returns the module without custom sections: all of them if no option says which. If a section
+ * that stays holds indices of sections, an empty section is in the place of a removed one.
+ * @throws {DolzhytikError} if a linker needs a removed section, if a section that stays would
+ * become wrong, or as {@link outline} does.
  */
 export function strip(module: Uint8Array, options?: StripOptions): Uint8Array;
 

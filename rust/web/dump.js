@@ -5,7 +5,9 @@ import { decoded } from './operands.js';
 const CODE = 10;
 
 /** The spaces of the sections whose items have an index. */
-const SPACES = { 1: 'type', 3: 'func', 4: 'table', 5: 'memory', 6: 'global', 9: 'element', 10: 'code', 11: 'data', 13: 'tag' };
+const SPACES = {
+  1: 'type', 3: 'func', 4: 'table', 5: 'memory', 6: 'global', 9: 'element', 10: 'code', 11: 'data', 13: 'tag',
+};
 
 /** Counts the indices of items. Imports come before what the module defines. */
 export class Indices {
@@ -47,8 +49,8 @@ function entryOf(section, item, fields, indices) {
 }
 
 /**
- * The items of the section at an index up to the first that does not decode. Members of a group have
- * the offset and the size of the group.
+ * The items of the section at an index up to the first that does not decode. Members of a group
+ * have the offset and the size of the group.
  */
 export function entriesOf(module, section, index, indices, limit = NONE) {
   const found = itemsWithFields(module, index, limit);

@@ -62,7 +62,8 @@ const resting = (count) => Buffer.from([...leb(count + 2), 0x00, ...Array(count)
 
 /** A name section of functions and, if there are some, of the locals of function 0. */
 export function namesOf(names, locals = []) {
-  const list = (texts) => Buffer.concat([Buffer.from(leb(texts.length)), ...texts.map((text, index) => Buffer.from([...leb(index), ...name(text)]))]);
+  const entry = (text, index) => Buffer.from([...leb(index), ...name(text)]);
+  const list = (texts) => Buffer.concat([Buffer.from(leb(texts.length)), ...texts.map(entry)]);
   const functions = list(names);
   const parts = [[1, ...leb(functions.length)], functions];
   if (locals.length) {
@@ -94,5 +95,6 @@ export const CALLS = moduleOf(
 /** A module of this many functions in groups, of about this many bytes. */
 export function groupedModule(count, size, groups = 40) {
   const each = Math.ceil(size / count);
-  return namedModule(Array.from({ length: count }, (_, index) => [`group${index % groups}::f${index}`, Math.floor(each / 2 + (each * (index % 101)) / 100)]));
+  const sizeOf = (index) => Math.floor(each / 2 + (each * (index % 101)) / 100);
+  return namedModule(Array.from({ length: count }, (_, index) => [`group${index % groups}::f${index}`, sizeOf(index)]));
 }

@@ -142,8 +142,8 @@ export function prefixOf(name) {
 // Labels.
 
 /**
- * The identifiers of a mangled name: those behind their lengths. In Rust an underscore is before one
- * that begins with an underscore.
+ * The identifiers of a mangled name: those behind their lengths. In Rust an underscore is before
+ * one that begins with an underscore.
  */
 function identifiers(mangled, isRust) {
   const found = [];
@@ -158,11 +158,15 @@ function identifiers(mangled, isRust) {
   return found;
 }
 
-const LEGACY = { LT: '<', GT: '>', RF: '&', BP: '*', C: ',', LP: '(', RP: ')', SP: '@', u20: ' ', u7b: '{', u7d: '}', u5b: '[', u5d: ']', u27: "'" };
+/** The characters that legacy names of Rust have between dollar signs. */
+const LEGACY = {
+  LT: '<', GT: '>', RF: '&', BP: '*', C: ',', LP: '(', RP: ')', SP: '@', u20: ' ', u7b: '{', u7d: '}', u5b: '[',
+  u5d: ']', u27: "'",
+};
 
 /**
- * A short text for a function's name: the last two parts of its path. It is the name itself if it is
- * not mangled, or not by a known rule.
+ * A short text for a function's name: the last two parts of its path. It is the name itself if it
+ * is not mangled, or not by a known rule.
  */
 export function labelOf(name) {
   if (!/^(_R|_ZN)/.test(name)) return name;

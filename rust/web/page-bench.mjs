@@ -4,8 +4,8 @@
 //
 //     rust/web/page-bench.mjs
 //
-// It prints a line for each, and fails at none. The exit status is 77 if there is no chromium, or no
-// dolzhytik.wasm.
+// It prints a line for each, and fails at none. The exit status is 77 if there is no chromium, or
+// no dolzhytik.wasm.
 import fs from 'node:fs';
 import os from 'node:os';
 import path from 'node:path';
@@ -42,7 +42,8 @@ async function drawCode() {
   document.getElementById('map').getBoundingClientRect();
   const drawn = performance.now() - start;
   await new Promise((done) => requestAnimationFrame(() => setTimeout(done)));
-  return { drawn, painted: performance.now() - start, cells: document.querySelectorAll('#map .cell, #map .part').length };
+  const cells = document.querySelectorAll('#map .cell, #map .part').length;
+  return { drawn, painted: performance.now() - start, cells };
 }
 
 /**

@@ -251,6 +251,8 @@ const damaged = {
     assert.deepEqual(await rows(page), library.outline(broken).map(rowOf));
     assert.equal(await page.count('#sections .flaw'), 1);
     assert.equal(await chosenRow(page), 2);
+    await page.until(hasItems);
+    assert.equal(await page.text('items-facts'), '1 before the damage');
     await page.shot('damaged-payload');
   },
 
@@ -701,8 +703,11 @@ const comparing = {
     await page.shotsOfBoth('compared');
   },
 
-  async 'equal files, and the end of a comparison'(page) {
-    await page.choose(fileOf('a.wasm', PADDED), fileOf('b.wasm', PADDED));
+  async 'two equal files are dropped, and the end of a comparison'(page) {
+    const files = [fileOf('a.wasm', PADDED), fileOf('b.wasm', PADDED)];
+    for (const type of ['dragEnter', 'dragOver', 'drop']) {
+      await page.send('Input.dispatchDragEvent', { type, x: 800, y: 500, data: { items: [], files, dragOperationsMask: 1 } });
+    }
     await page.untilText('comparison-title', 'a.wasm → b.wasm');
     assert.equal(await page.run(() => document.getElementById('no-changes').hidden), false);
     await page.click('#comparison-close');

@@ -45,7 +45,7 @@ function linkerError(names) {
   return new DolzhytikError(cause, { cause, offset: null, line: null });
 }
 
-/** The names of the removed sections that a linker needs: symbols, and relocations of what stays. */
+/** The names of removed sections that a linker needs: symbols, and relocations of what stays. */
 function lostOf(sections, removed) {
   const losesTarget = (section) => removed[target(section)] === true;
   const isNeeded = (section) => section.name === 'linking' || (isOfRelocations(section) && !losesTarget(section));

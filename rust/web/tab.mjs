@@ -29,7 +29,9 @@ export async function serve() {
 
 // ---- The tab.
 
-const KEYS = { Tab: 9, Enter: 13, Escape: 27, End: 35, Home: 36, ArrowLeft: 37, ArrowUp: 38, ArrowRight: 39, ArrowDown: 40 };
+const KEYS = {
+  Tab: 9, Enter: 13, Escape: 27, End: 35, Home: 36, ArrowLeft: 37, ArrowUp: 38, ArrowRight: 39, ArrowDown: 40,
+};
 export const CTRL = 2;
 
 /** A tab with the page; the requests of it and its workers, and their errors and messages. */
@@ -59,7 +61,8 @@ export class Page {
     Object.assign(this, { session: sessionId, target: targetId });
     await this.#watch(sessionId);
     await this.send('Page.enable');
-    await this.browser.send('Browser.setDownloadBehavior', { behavior: 'allow', downloadPath: this.room, eventsEnabled: true });
+    const downloads = { behavior: 'allow', downloadPath: this.room, eventsEnabled: true };
+    await this.browser.send('Browser.setDownloadBehavior', downloads);
     await this.resize(1600, 1000);
     await this.send('Page.navigate', { url: origin + folder });
     await this.until((text) => document.getElementById('status')?.textContent.startsWith(text), status);

@@ -45,7 +45,8 @@ function nodesOf({ sections, functions, data }) {
     kind: `change ${sign(part.change)}`,
   });
   const others = sections.filter(({ kind }) => kind !== 'code' && kind !== 'data');
-  return [...functions.map(node(labels.functions)), ...data.map(node(labels.data)), ...others.map(node(labels.sections))];
+  const parts = [...functions.map(node(labels.functions)), ...data.map(node(labels.data))];
+  return [...parts, ...others.map(node(labels.sections))];
 }
 
 function showTable(found) {
@@ -68,7 +69,8 @@ export function showComparison(before, after, found) {
   byId('comparison-facts').textContent =
     `${number(found.before)} → ${counted(found.after, 'byte')}: ${signed(change)}${change ? share : ''}`;
   showTable(found);
-  map ??= new Treemap(byId('changes-map'), byId('changes-path'), ({ label, size }) => `${label}, ${counted(size, 'byte')}`);
+  const describe = ({ label, size }) => `${label}, ${counted(size, 'byte')}`;
+  map ??= new Treemap(byId('changes-map'), byId('changes-path'), describe);
   const nodes = nodesOf(found);
   const hasChanges = nodes.some(({ size }) => size > 0);
   byId('changes-map').hidden = !hasChanges;

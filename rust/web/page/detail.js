@@ -272,7 +272,8 @@ export function listenToDetail(its) {
   byId('offset').addEventListener('input', ({ target }) => target.setCustomValidity(''));
   byId('search').addEventListener('input', ({ target }) => {
     itemList.search(target.value);
-    const found = target.value.trim() ? `${number(itemList.count)} of ${number(itemList.items.length)}` : number(itemList.items.length);
+    const all = number(itemList.items.length);
+    const found = target.value.trim() ? `${number(itemList.count)} of ${all}` : all;
     byId('items-facts').textContent = itemList.items.length ? found : '';
   });
   byId('order').addEventListener('change', ({ target }) => itemList.sort(target.value));

@@ -9,7 +9,9 @@ const ORDERS = {
 };
 
 /** The text of an item; that of a function has the number of its instructions. */
-export const titleOfItem = ({ text, count }) => (count === undefined ? text : `${text}: ${counted(count, 'instruction')}`);
+export function titleOfItem({ text, count }) {
+  return count === undefined ? text : `${text}: ${counted(count, 'instruction')}`;
+}
 
 export class ItemList {
   /** The position of the chosen item among all, or -1. */

@@ -1,6 +1,8 @@
 // The page over the package. Workers make all calls of it, so that the page stays responsive.
 import { listenToComparison, showComparison } from './comparison.js';
-import { choose, focusItems, listenToDetail, openFunction, revealDetail, showFunction, showNoSection, showOffset, stopListing } from './detail.js';
+import {
+  choose, focusItems, listenToDetail, openFunction, revealDetail, showFunction, showNoSection, showOffset, stopListing,
+} from './detail.js';
 import { byId, counted, download, hex, make, number, painted, say } from './elements.js';
 import { reader } from './engine.js';
 import * as links from './links.js';
@@ -36,7 +38,8 @@ function showDamage(error, note) {
   const facts = [];
   if (error.cause) facts.push(make('span', { textContent: `Cause: ${error.cause}` }));
   if (wrong !== null) facts.push(offsetFact('First wrong byte', wrong));
-  if (error.offset !== null) facts.push(offsetFact(error.offset === 0 ? 'Start of the file' : 'Start of the section', error.offset));
+  const start = error.offset === 0 ? 'Start of the file' : 'Start of the section';
+  if (error.offset !== null) facts.push(offsetFact(start, error.offset));
   byId('damage-message').textContent = error.message;
   byId('damage-facts').replaceChildren(...facts);
   byId('damage-note').textContent = note;
@@ -47,11 +50,13 @@ function damageNote(count) {
   const { file } = state;
   const { kind } = file.sections.find(({ start }) => start === file.flaw?.offset) ?? {};
   if (file.flaw) {
-    return `The payload does not decode as a ${kind} section. Its items before the wrong byte are listed, and the sections after it are in the table too.`;
+    const what = `The payload does not decode as a ${kind} section. Its items before the wrong byte are listed.`;
+    return `${what} The sections after it are in the table too.`;
   }
   if (count === 0) return 'The table has no sections; the bytes are below.';
   const before = count === 1 ? 'section' : `${number(count)} sections`;
-  return `The table has the ${before} before the damage. The bytes from there on are its last row, with the items that decode.`;
+  const rest = 'The bytes from there on are its last row, with the items that decode.';
+  return `The table has the ${before} before the damage. ${rest}`;
 }
 
 // Opening.
@@ -92,7 +97,8 @@ function showMap() {
     call(value);
     revealDetail();
   };
-  map.show(treeOf({ openSection: revealing(choose), openFunction: revealing(openFunction), openItem: revealing(showItem) }));
+  const [openSection, openBody, openItem] = [choose, openFunction, showItem].map(revealing);
+  map.show(treeOf({ openSection, openFunction: openBody, openItem }));
 }
 
 function showItem(offset) {

@@ -5,6 +5,14 @@ import { HEADER_SIZE } from './limits.js';
 import { PAGE_SECTIONS } from './sections.js';
 import { nameCell, sectionsOf, state, wholeSize } from './state.js';
 
+/** The custom sections that hold offsets into other sections. */
+const NAMES = ['linking', '.gdb_index', 'external_debug_info', 'build_id', 'sourceMappingURL'];
+const PREFIXES = ['reloc.', '.debug_', '.apple_', 'metadata.code.'];
+const holdsOffsets = (name) => NAMES.includes(name) || PREFIXES.some((prefix) => name.startsWith(prefix));
+
+/** The most names of these that are listed. */
+const MOST_NAMES = 12;
+
 /** The minimized module and, for each section, the section of it or null. */
 let minimal = null;
 let page = 0;
@@ -88,19 +96,13 @@ export function clearMinimal() {
 
 /** Shows the choices that say what is lost, if the module has custom sections that hold offsets. */
 export function showChoices() {
-  const holding = state.file.sections.filter(({ name }) => name !== null && OFFSETS.test(name));
+  const holding = state.file.sections.filter(({ name }) => name !== null && holdsOffsets(name));
   const names = [...new Set(holding.map(({ name }) => escaped(name)))];
   press(null);
   byId('choices').hidden = names.length === 0;
   const more = names.length > MOST_NAMES ? ` and ${number(names.length - MOST_NAMES)} more` : '';
   byId('choices-names').textContent = names.slice(0, MOST_NAMES).join(', ') + more;
 }
-
-/** The most names of sections that are listed. */
-const MOST_NAMES = 12;
-
-const OFFSETS =
-  /^(linking|reloc\..*|\.debug_.*|\.gdb_index|\.apple_.*|metadata\.code\..*|external_debug_info|build_id|sourceMappingURL)$/s;
 
 export async function minimize() {
   const asked = state.file;

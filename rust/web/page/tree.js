@@ -14,7 +14,8 @@ function functionNodes(functions, openFunction) {
     if (!groups.has(prefix)) groups.set(prefix, []);
     groups.get(prefix).push(it);
   }
-  const sums = [...groups].map(([prefix, its]) => ({ prefix, its, size: its.reduce((sum, { size }) => sum + size, 0) }));
+  const sumOf = (its) => its.reduce((sum, { size }) => sum + size, 0);
+  const sums = [...groups].map(([prefix, its]) => ({ prefix, its, size: sumOf(its) }));
   sums.sort((a, b) => b.size - a.size);
   const label = (it) => (it.name === null ? functionName(it) : escaped(labelOf(it.name)));
   const node = (kind) => (it) => ({
@@ -41,7 +42,8 @@ export function treeOf({ openSection, openFunction, openItem }) {
     const base = { label: shortName(section), size: wholeSize(section), kind: kindClass(section) };
     const functions = functionsIn(section);
     if (functions.length) return { ...base, children: () => functionNodes(functions, openFunction) };
-    if (section.id === 11 && parts?.data.length > 1) return { ...base, children: () => segmentNodes(parts.data, openItem) };
+    const hasSegments = section.id === 11 && parts?.data.length > 1;
+    if (hasSegments) return { ...base, children: () => segmentNodes(parts.data, openItem) };
     return { ...base, open: () => openSection(index) };
   };
   const nodes = file.sections.map(node);

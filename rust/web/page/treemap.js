@@ -38,7 +38,8 @@ export function squarified(areas, box) {
     let at = isWide ? y : x;
     for (const area of areas.slice(from, end)) {
       const length = area / Math.max(1e-9, thickness);
-      boxes.push(isWide ? { x, y: at, width: thickness, height: length } : { x: at, y, width: length, height: thickness });
+      if (isWide) boxes.push({ x, y: at, width: thickness, height: length });
+      else boxes.push({ x: at, y, width: length, height: thickness });
       at += length;
     }
     if (isWide) [x, width] = [x + thickness, width - thickness];
@@ -80,8 +81,11 @@ function placed(nodes, box, most = MOST_RECTANGLES) {
 }
 
 function setBox({ style }, { x, y, width, height }) {
-  Object.assign(style, { left: `${x}px`, top: `${y}px`, width: `${Math.max(1, width - 1)}px`, height: `${Math.max(1, height - 1)}px` });
+  const less = (length) => `${Math.max(1, length - 1)}px`;
+  Object.assign(style, { left: `${x}px`, top: `${y}px`, width: less(width), height: less(height) });
 }
+
+const labelOf = ({ label }) => make('span', { className: 'label', textContent: label });
 
 export class Treemap {
   /** The nodes from the root to the one that is shown. */
@@ -124,7 +128,7 @@ export class Treemap {
     cell.setAttribute('aria-selected', false);
     cell.node = node;
     setBox(cell, box);
-    if (box.width > 34 && box.height > 17) cell.append(make('span', { className: 'label', textContent: node.label }));
+    if (box.width > 34 && box.height > 17) cell.append(labelOf(node));
     if (node.children && box.width * box.height > NESTED_AREA) cell.append(...this.#nested(node, box));
     return cell;
   }
@@ -136,7 +140,7 @@ export class Treemap {
     return placed(node.children(), inner, MOST_NESTED).map(({ node: child, box }) => {
       const part = make('div', { className: 'part', 'aria-hidden': true });
       setBox(part, box);
-      if (box.width > 44 && box.height > 17) part.append(make('span', { className: 'label', textContent: child.label }));
+      if (box.width > 44 && box.height > 17) part.append(labelOf(child));
       return part;
     });
   }
@@ -172,7 +176,8 @@ export class Treemap {
       button.addEventListener('click', () => this.#leave(index + 1));
       return button;
     });
-    const separated = crumbs.flatMap((crumb, index) => (index ? [make('span', { textContent: '›', 'aria-hidden': true }), crumb] : [crumb]));
+    const separator = () => make('span', { textContent: '›', 'aria-hidden': true });
+    const separated = crumbs.flatMap((crumb, index) => (index ? [separator(), crumb] : [crumb]));
     this.crumbs.replaceChildren(...separated);
   }
 

@@ -114,8 +114,8 @@ fn minimize_section(module: &[u8]) -> Answer<'_> {
     Ok(block.finish()?)
 }
 
-/// The minimal encoding of a module. `choice` is 0 to fail if offsets would become wrong, 1 to leave
-/// them out, or 2 for a module of one section that has offsets.
+/// The minimal encoding of a module. `choice` is 0 to fail if offsets would become wrong, 1 to
+/// leave them out, or 2 for a module of one section that has offsets.
 pub fn minimize(module: &[u8], choice: u32) -> Answer<'_> {
     let offsets = match choice {
         0 => Offsets::Refuse,
