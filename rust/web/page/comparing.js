@@ -51,7 +51,9 @@ function grouped(parts, key) {
   return groups;
 }
 
-const textOf = (bytes) => String.fromCharCode(...bytes.subarray(0, 4096)) + (bytes.length > 4096 ? bytes.length : '');
+/** Bytes as a text, which differs where they do. */
+const latin = new TextDecoder('latin1');
+const textOf = (bytes) => latin.decode(bytes);
 const byChange = (a, b) => Math.abs(b.change) - Math.abs(a.change);
 
 export function compared(oldModule, newModule) {

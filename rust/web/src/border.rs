@@ -171,13 +171,15 @@ macro_rules! calls {
     };
 }
 
+// The example of the page has one call.
+#[cfg(feature = "example")]
 calls! {
-    dz_assemble() => answers::module_of;
+    dz_assemble() => answers::module_of_version_1;
 }
 
-// The example of the page has one call.
 #[cfg(not(feature = "example"))]
 calls! {
+    dz_assemble() => answers::module_of;
     dz_outline() => answers::outline;
     dz_list() => answers::list;
     dz_minimize(choice) => answers::minimize;
