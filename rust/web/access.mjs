@@ -18,7 +18,17 @@ export function leastContrast() {
     element ? [...behind(element.parentElement), getComputedStyle(element).backgroundColor] : [];
   const hasText = ({ childNodes }) => [...childNodes].some(({ nodeType, data }) => nodeType === 3 && data.trim());
   const isShown = (element) => hasText(element) && element.checkVisibility() && !element.closest(':disabled, .unseen');
+  // Text on an image or a gradient has no contrast that is known.
+  const isOnImage = (element) => {
+    for (let it = element; it; it = it.parentElement) {
+      const { backgroundColor, backgroundImage } = getComputedStyle(it);
+      if (backgroundImage !== 'none') return true;
+      if (!/transparent|[,/] 0(\.\d+)?\)$/.test(backgroundColor)) return false;
+    }
+    return false;
+  };
   const contrast = (element) => {
+    if (isOnImage(element)) return { ratio: 0, what: `on an image: ${element.tagName} ${element.className}` };
     const backs = behind(element);
     const [back, text] = [backs, [...backs, getComputedStyle(element).color]].map(luminance);
     const ratio = (Math.max(back, text) + 0.05) / (Math.min(back, text) + 0.05);

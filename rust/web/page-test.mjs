@@ -4,7 +4,7 @@
 //     rust/web/page-test.mjs [FOLDER [MODULE..]]
 //
 // Writes screenshots to FOLDER. Compares the page with dolzhytik.js in node for each MODULE, or for
-// dolzhytik.wasm.
+// dolzhytik.wasm. If the variable PAGE_TESTS is set, only the tests run whose names have its text.
 //
 // The last line is 'N passed, M failed'. Exit status: 0 all passed, 1 a failed test, 77 not run
 // because there is no chromium, or no dolzhytik.wasm.
@@ -16,7 +16,7 @@ import { fileURLToPath } from 'node:url';
 import { faultyControls, leastContrast } from './access.mjs';
 import { Browser, findChromium } from './chromium.mjs';
 import {
-  CALLS, EXPORT, FUNCTION, HEADER, PADDED, TYPES, WITH_OFFSETS, custom, groupedModule, largeModule, moduleOf, namedModule, section,
+  CALLS, EXPORT, FUNCTION, HEADER, PADDED, TYPES, WITH_OFFSETS, custom, largeModule, moduleOf, namedModule, section,
 } from './modules.mjs';
 import { CTRL, Page, serve, sleep } from './tab.mjs';
 
@@ -202,7 +202,10 @@ const opening = {
   },
 };
 
-const facts = (page) => page.run(() => [...document.querySelectorAll('#damage-facts > span')].map((it) => it.textContent));
+/** The texts of the elements that match. */
+const textsOf = (page, selector) =>
+  page.run((its) => [...document.querySelectorAll(its)].map((it) => it.textContent), selector);
+const facts = (page) => textsOf(page, '#damage-facts > span');
 
 const damaged = {
   async 'a module that ends in a section'(page, library) {
@@ -501,8 +504,8 @@ const keyboard = {
     await page.until(hasAnswer);
     await blur(page);
     const order = [
-      '#file', '#example', '#write', '#compare', '#bar *', '#map .cell', '#sections button', '#sections tr', '#search', '#order',
-      '#items', '#handle', '#offset', '#bytes', '#keep-code', '#drop',
+      '#file', '#example', '#write', '#compare', '#bar *', '#map .cell', '#sections button', '#sections tr', '#search',
+      '#order', '#items', '#handle', '#offset', '#bytes', '#keep-code', '#drop',
     ];
     for (const selector of order) await tabTo(page, selector);
     await page.key('Enter');
@@ -526,9 +529,12 @@ const cellsOf = (page, map = 'map') =>
     map,
   );
 
-const path_ = (page) => page.text('map-path');
+const mapPath = (page) => page.text('map-path');
 const codeLines = (page) =>
-  page.run(() => [...document.querySelectorAll('#code .instruction')].map((row) => [...row.children].map((cell) => cell.textContent)));
+  page.run(() => {
+    const found = [...document.querySelectorAll('#code .instruction')];
+    return found.map((row) => [...row.children].map((cell) => cell.textContent));
+  });
 const titleIs = (page, title) => page.untilText('function-title', title);
 const hashOf = (page) => page.run(() => location.hash);
 const hasParts = () => document.querySelectorAll('#map .part').length > 0;
@@ -556,7 +562,7 @@ const treemap = {
     // The size of a body has its size prefix, the number of locals and `end`.
     assert.deepEqual(labels, ['a::*, 76 bytes', 'b::*, 23 bytes', 'without a prefix, 11 bytes']);
     await page.key('Enter');
-    assert.equal(await path_(page), 'groups.wasm›code›a::*');
+    assert.equal(await mapPath(page), 'groups.wasm›code›a::*');
     await page.key('ArrowRight');
     await page.shotsOfBoth('treemap');
     await page.key('Enter');
@@ -564,9 +570,9 @@ const treemap = {
     await tabTo(page, '#map .cell').catch(() => {});
     await page.focus('#map .cell');
     await page.key('Escape');
-    assert.equal(await path_(page), 'groups.wasm›code');
+    assert.equal(await mapPath(page), 'groups.wasm›code');
     await page.click('#map-path button');
-    assert.equal(await path_(page), 'groups.wasm');
+    assert.equal(await mapPath(page), 'groups.wasm');
   },
 
   async 'a function of a damaged module'(page) {
@@ -687,17 +693,22 @@ const comparing = {
     await page.choose(fileOf('old.wasm', old), fileOf('now.wasm', now));
     await page.until(() => !document.getElementById('comparison').hidden);
     assert.equal(await page.text('comparison-title'), 'old.wasm → now.wasm');
-    const table = await page.run(() => [...document.querySelectorAll('#changes tr')].map(({ cells }) => [...cells].map((it) => it.textContent)));
+    const table = await page.run(() => {
+      const found = [...document.querySelectorAll('#changes tr')];
+      return found.map(({ cells }) => [...cells].map((it) => it.textContent));
+    });
     const ofKind = (kind) => table.filter(([its]) => its === kind).map((row) => row.slice(1, 5));
     // A body has its size prefix, the number of locals and `end` beside its instructions.
     assert.deepEqual(ofKind('function'), [
-      ['gone', '23', '–', '−23'], ['grows', '13', '28', '+15'], ['new', '–', '10', '+10'], ['1 other', '7', '7', '0'],
+      ['gone', '23', '–', '−23'], ['grows', '13', '28', '+15'], ['new', '–', '10', '+10'],
+      ['1 other', '7', '7', '0'],
     ]);
-    const change = (rows_) => rows_.reduce((sum, row) => sum + Number(row[3].replace('−', '-').replace('+', '')), 0);
+    const change = (found) => found.reduce((sum, row) => sum + Number(row[3].replace('−', '-').replace('+', '')), 0);
     assert.equal(change(ofKind('section')), now.length - old.length);
     assert.equal(table.at(-1)[3], number(now.length));
     const cells = await cellsOf(page, 'changes-map');
-    assert.deepEqual(cells.slice(0, 3).map(({ label }) => label), ['gone −23, 23 bytes', 'grows +15, 15 bytes', 'new +10, 10 bytes']);
+    const labels = cells.slice(0, 3).map(({ label }) => label);
+    assert.deepEqual(labels, ['gone −23, 23 bytes', 'grows +15, 15 bytes', 'new +10, 10 bytes']);
     assert.ok(Math.abs(cells[1].area / cells[0].area - 15 / 23) < 0.02);
     assert.deepEqual((await rows(page)).length, 4);
     await page.shotsOfBoth('compared');
@@ -705,8 +716,9 @@ const comparing = {
 
   async 'two equal files are dropped, and the end of a comparison'(page) {
     const files = [fileOf('a.wasm', PADDED), fileOf('b.wasm', PADDED)];
+    const data = { items: [], files, dragOperationsMask: 1 };
     for (const type of ['dragEnter', 'dragOver', 'drop']) {
-      await page.send('Input.dispatchDragEvent', { type, x: 800, y: 500, data: { items: [], files, dragOperationsMask: 1 } });
+      await page.send('Input.dispatchDragEvent', { type, x: 800, y: 500, data });
     }
     await page.untilText('comparison-title', 'a.wasm → b.wasm');
     assert.equal(await page.run(() => document.getElementById('no-changes').hidden), false);
@@ -719,7 +731,8 @@ const handle = {
   async 'the handle by keys and by dragging'(page, library) {
     await openCode(page, library, modules[0]);
     const part = () => page.run(() => {
-      const [list, bytes] = ['items', 'bytes'].map((its) => document.querySelector(`.halves > .${its}`).getBoundingClientRect());
+      const boxOf = (its) => document.querySelector(`.halves > .${its}`).getBoundingClientRect();
+      const [list, bytes] = ['items', 'bytes'].map(boxOf);
       return list.height / (list.height + bytes.height);
     });
     await page.resize(1280, 900);
@@ -732,7 +745,8 @@ const handle = {
       const box = handle.getBoundingClientRect();
       return { x: box.x + 20, y: box.y + 4 };
     });
-    const mouse = (type, at) => page.send('Input.dispatchMouseEvent', { type, x, y: at, button: 'left', buttons: 1, clickCount: 1 });
+    const pressed = { button: 'left', buttons: 1, clickCount: 1 };
+    const mouse = (type, at) => page.send('Input.dispatchMouseEvent', { type, x, y: at, ...pressed });
     await mouse('mousePressed', y);
     await mouse('mouseMoved', y - 200);
     await mouse('mouseReleased', y - 200);
@@ -797,8 +811,9 @@ const looks = {
     const offsets = fileOf('offsets.wasm', WITH_OFFSETS);
     const cut = fileOf('cut.wasm', PADDED.subarray(0, 33));
     const example = path.join(HERE, 'example.wasm');
+    const cutExample = fileOf('cut-example.wasm', fs.readFileSync(example).subarray(0, 15_000));
     const states = [
-      ['example', [example]], ['offsets', [offsets]], ['cut', [cut]], ['compared', [example, modules[0]]],
+      ['example', [example]], ['offsets', [offsets]], ['cut', [cut]], ['cut-example', [cutExample]], ['compared', [example, modules[0]]],
       ['function', [fileOf('calls.wasm', CALLS)], '#function=0'],
     ];
     for (const [its, files, hash] of states) {
@@ -811,7 +826,8 @@ const looks = {
         await page.resize(width, height);
         await sleep(100);
         assert.deepEqual(await page.run(faultyControls), [], `${its} at ${width}`);
-        assert.ok((await page.run(() => document.scrollingElement.scrollWidth - innerWidth)) <= 0, `${its} at ${width}`);
+        const over = await page.run(() => document.scrollingElement.scrollWidth - innerWidth);
+        assert.ok(over <= 0, `${its} at ${width}`);
         await backWithContrast(page, false);
         await backWithContrast(page, true);
         await page.dark(false);
@@ -924,7 +940,10 @@ const quiet = {
 // ---- The run.
 
 async function runTests(page, library) {
-  const groups = [opening, damaged, chosen, treemap, functions, comparing, handle, example, minimizing, recipes, keyboard, looks, large, quiet];
+  const groups = [
+    opening, damaged, chosen, treemap, functions, comparing, handle, example, minimizing, recipes, keyboard, looks, large,
+    quiet,
+  ];
   const counts = { passed: 0, failed: 0 };
   for (const [its, test] of groups.flatMap(Object.entries)) {
     if (only && !its.includes(only)) continue;

@@ -164,7 +164,8 @@ test('custom sections that hold offsets', () => {
 test('custom sections that hold offsets, and the code stays', () => {
   const [types, code] = ['01 85 00 01 60 01 7f 00', '0a 84 00 01 02 00 0b'];
   const debug = '00 08 072e64656275675f';
-  assert.deepEqual(minimize(moduleOf(types, code, debug), { keepCode: true }), moduleOf('01 05 01 60 01 7f 00', code, debug));
+  const minimalTypes = '01 05 01 60 01 7f 00';
+  assert.deepEqual(minimize(moduleOf(types, code, debug), { keepCode: true }), moduleOf(minimalTypes, code, debug));
   // All before the code stay with a source map, which counts from the first byte.
   const map = custom('sourceMappingURL', '0161');
   assert.deepEqual(minimize(moduleOf(types, code, map), { keepCode: true }), moduleOf(types, code, map));
@@ -677,7 +678,8 @@ test('each request for memory is refused in turn', async () => {
   const calls = [
     () => dz.outline(ADD), () => dz.list(ADD), () => dz.minimize(ADD), () => dz.assemble(recipe),
     () => dz.items(ADD, 0), () => dz.items(ADD, 3), () => dz.minimize(offsets), () => dz.outline(hex('')),
-    () => dz.dump(ADD), () => dz.disassemble(ADD, 0), () => dz.strip(offsets), () => dz.minimize(offsets, { keepCode: true }),
+    () => dz.dump(ADD), () => dz.disassemble(ADD, 0), () => dz.strip(offsets),
+    () => dz.minimize(offsets, { keepCode: true }),
   ];
   const expected = calls.map((call) => outcome(call, dz.DolzhytikError));
   const refused = calls.map(() => 0);
@@ -821,7 +823,10 @@ test('operands', () => {
     ['fc0c 03 01', 'table.init', operand('table', 1), operand('element', 3)],
     ['d0 70', 'ref.null', { kind: 'heap type', type: 'func' }],
     ['fb15 6e', 'ref.test', { kind: 'reference type', type: '(ref null any)' }],
-    ['fd0c 000102030405060708090a0b0c0d0e0f', 'v128.const', { kind: 'v128', bytes: '000102030405060708090a0b0c0d0e0f' }],
+    [
+      'fd0c 000102030405060708090a0b0c0d0e0f', 'v128.const',
+      { kind: 'v128', bytes: '000102030405060708090a0b0c0d0e0f' },
+    ],
     ['fd15 07', 'i8x16.extract_lane_s', operand('lane', 7)],
     ['1c 01 7c', 'select', { kind: 'result types', types: ['f64'] }],
     ['fb02 01 04', 'struct.get', operand('type', 1), operand('field', 4)],
@@ -844,7 +849,8 @@ test('operands', () => {
 /** The lines of llvm-objdump: the offset in the code section, how many bytes, name and operand. */
 function linesOfLlvm(output) {
   const lines = [...output.matchAll(/^ +([0-9a-f]+): ((?:[0-9a-f]{2} ?)+)\s*\t(\S+) *(?:\t([^#\n]*?) *(?:#.*)?)?$/gm)];
-  return lines.map(([, at, bytes, name, operands = '']) => [parseInt(at, 16), bytes.trim().split(' ').length, name, operands]);
+  const sizeOf = (bytes) => bytes.trim().split(' ').length;
+  return lines.map(([, at, bytes, name, operands = '']) => [parseInt(at, 16), sizeOf(bytes), name, operands]);
 }
 
 const hasLlvm = (() => {
@@ -915,19 +921,24 @@ test('prefixes and labels of names', async () => {
     ['<core[846817f741e54dfd]::fmt::Error as core::fmt::Debug>::fmt', 'core'],
     ['<T as core::convert::Into<U>>::into', 'core'],
     ['_ZN4core3fmt5write17h0123456789abcdefE', 'core', 'fmt::write'],
-    ['_ZN44_$LT$$RF$T$u20$as$u20$core..fmt..Display$GT$3fmt17h0123456789abcdefE', 'core', '<&T as core::fmt::Display>::fmt'],
+    [
+      '_ZN44_$LT$$RF$T$u20$as$u20$core..fmt..Display$GT$3fmt17h0123456789abcdefE', 'core',
+      '<&T as core::fmt::Display>::fmt',
+    ],
     ['_$LT$core..fmt..Error$u20$as$u20$core..fmt..Debug$GT$::fmt::h0123456789abcdef', 'core'],
     ['_RNvNtCs846817f741e_4core3fmt5write', 'core', 'fmt::write'],
     ['_RINvNtC4core3ptr13drop_in_placeNtC5alloc6StringE', 'core', 'ptr::drop_in_place'],
-    ['_RNvMs_NtC4core3fmtNtB2_9Formatter3pad', 'core'], ['_RNvCs1_7___rustc12___rust_alloc', '__rustc', '__rustc::__rust_alloc'],
+    ['_RNvMs_NtC4core3fmtNtB2_9Formatter3pad', 'core'],
+    ['_RNvCs1_7___rustc12___rust_alloc', '__rustc', '__rustc::__rust_alloc'],
     ['<alloc::vec::Vec<T,A> as core::ops::Deref>::deref', 'alloc'],
     ['int ns::twice<int>(int)', 'ns'], ['ns::operator<(ns::C const&, ns::C const&)', 'ns'],
     ['std::ostream& ns::operator<< <int>(std::ostream&, int)', 'ns'], ['_ZNK2ns1C3getEv', 'ns', 'C::get'],
-    ['_ZZN2ns1fEvENK3$_0clEv', 'ns'], ['_ZNSt1S1fEv', 'std'], ['_ZSt5move2IiET_S0_', 'std'], ['_ZNKSt3__112basic', 'std'],
+    ['_ZZN2ns1fEvENK3$_0clEv', 'ns'], ['_ZNSt1S1fEv', 'std'], ['_ZSt5move2IiET_S0_', 'std'],
+    ['_ZNKSt3__112basic', 'std'],
     ['(anonymous namespace)::hidden(int)', '(anonymous namespace)'],
     ['_ZN12_GLOBAL__N_16hiddenEi', '(anonymous namespace)'],
-    ...['', 'main', 'a.b', '::f', 'f(std::string)', '_Z5takesRN2ns1CE', '_ZN', '_ZN99999999999999999999a', '_R', '_RCs', '<::',
-      '<T as U>::f', '_$LT$T$GT$::f', 'operator new(unsigned long)'].map((name) => [name, null]),
+    ...['', 'main', 'a.b', '::f', 'f(std::string)', '_Z5takesRN2ns1CE', '_ZN', '_ZN99999999999999999999a', '_R', '_RCs',
+      '<::', '<T as U>::f', '_$LT$T$GT$::f', 'operator new(unsigned long)'].map((name) => [name, null]),
   ];
   for (const [name, prefix, label] of rows) {
     assert.equal(prefixOf(name), prefix, name);
@@ -936,7 +947,8 @@ test('prefixes and labels of names', async () => {
 });
 
 test('strip', () => {
-  const [note, debug, reloc] = [custom('note', '01'), custom('.debug_info', '00'), custom('reloc..debug_info', '01 00')];
+  const [note, debug] = [custom('note', '01'), custom('.debug_info', '00')];
+  const reloc = custom('reloc..debug_info', '01 00');
   const type = '01 04 01 60 00 00';
   assert.deepEqual(strip(moduleOf(note, type, debug)), moduleOf(type));
   assert.deepEqual(strip(moduleOf(note, type, debug), { debug: true }), moduleOf(note, type));
@@ -951,7 +963,8 @@ test('strip', () => {
   // Relocations that stay hold the index of a section: an empty one is in the place of `note`.
   const kept = custom('reloc.CODE', '01 00');
   const empty = custom('.objcopy.removed', '');
-  assert.deepEqual(strip(moduleOf(note, type, linking, kept), { names: ['note'] }), moduleOf(empty, type, linking, kept));
+  const withNote = moduleOf(note, type, linking, kept);
+  assert.deepEqual(strip(withNote, { names: ['note'] }), moduleOf(empty, type, linking, kept));
   const late = moduleOf(type, linking, custom('reloc.T', '00 00'), note);
   assert.deepEqual(strip(late, { names: ['note'] }), late.subarray(0, late.length - 8));
   const map = custom('sourceMappingURL', '0161');
