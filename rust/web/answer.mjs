@@ -2,12 +2,13 @@
 // output its answer.
 import { readFileSync, writeFileSync } from 'node:fs';
 import { createInterface } from 'node:readline';
-import { DolzhytikError, assemble, list, minimize, outline } from './dolzhytik.js';
+import { DolzhytikError, assemble, list, minimize, outline, strip } from './dolzhytik.js';
 
 const CALLS = {
   outline: ({ input }) => outline(readFileSync(input)),
   list: ({ input }) => list(readFileSync(input)),
-  minimize: ({ input, output, dropOffsets }) => writeFileSync(output, minimize(readFileSync(input), { dropOffsets })),
+  minimize: ({ input, output, ...options }) => writeFileSync(output, minimize(readFileSync(input), options)),
+  strip: ({ input, output, options }) => writeFileSync(output, strip(readFileSync(input), options)),
   assemble: ({ input, output }) => writeFileSync(output, assemble(readFileSync(input, 'utf8'))),
 };
 

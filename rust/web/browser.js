@@ -2,7 +2,7 @@
 // bundlers can write a classic script, in which import.meta.url is undefined.
 import { isLoaded, use } from './calls.js';
 
-export { DolzhytikError, assemble, items, list, minimize, outline } from './calls.js';
+export * from './api.js';
 
 /** The address of a classic script: of a page's while it starts, of a worker's always. */
 const script = globalThis.document?.currentScript?.src || globalThis.location?.href;

@@ -5,7 +5,7 @@ const KINDS = [
   'data count', 'tag',
 ];
 /** Stands for a number that is not there. */
-const NONE = 0xffffffff;
+export const NONE = 0xffffffff;
 const OUT_OF_MEMORY = 'out of memory';
 
 /** Why a call fails. */
@@ -164,6 +164,15 @@ function itemsOf(block) {
   return Array.from({ length: block.word() }, () => item(block));
 }
 
+function dumped(block) {
+  const list = Array.from({ length: block.word() }, () => ({ ...item(block), fields: block.text() }));
+  return { list, isCut: block.word() === 1 };
+}
+
+function json(block) {
+  return JSON.parse(decoder.decode(block.rest()));
+}
+
 function checkBytes(module) {
   if (!(module instanceof Uint8Array)) {
     throw new TypeError('the module must be a Uint8Array');
@@ -194,13 +203,41 @@ export function assemble(recipe) {
   return called(rest, 'dz_assemble', new TextEncoder().encode(recipe));
 }
 
-export function items(module, index, limit = NONE) {
-  checkBytes(module);
+export function checkIndex(index) {
   if (!Number.isInteger(index) || index < 0) {
     throw new RangeError('the index must be an integer that is not negative');
   }
+}
+
+export function items(module, index, limit = NONE) {
+  checkBytes(module);
+  checkIndex(index);
   if (!(limit >= 0)) {
     throw new RangeError('the limit must be a number that is not negative');
   }
   return called(itemsOf, 'dz_items', module, Math.min(index, NONE), Math.min(limit, NONE));
+}
+
+// What the other scripts of the package call.
+
+/**
+ * The items of a section up to the first that does not decode, each with its fields in JSON, and
+ * whether there is such an item.
+ */
+export function itemsWithFields(module, index, limit = NONE) {
+  checkBytes(module);
+  return called(dumped, 'dz_dump', module, index, limit);
+}
+
+/**
+ * The locals and instructions of a body without its size prefix, and the offset in the body and the
+ * cause where they end early. An instruction is a list: offset, size, prefix, number, arguments.
+ */
+export function decodedBody(body, limit = NONE) {
+  return called(json, 'dz_instructions', body, limit);
+}
+
+/** The minimal encoding of a module of one section, whatever offsets it holds. */
+export function minimizeSection(module) {
+  return called(rest, 'dz_minimize', module, 2);
 }

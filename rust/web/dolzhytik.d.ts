@@ -50,6 +50,11 @@ export interface MinimizeOptions {
    * `sourceMappingURL`.
    */
   dropOffsets?: boolean;
+  /**
+   * Keeps code, data and the sections that offsets point into byte for byte, so that all offsets
+   * stay right. With `dropOffsets` it is an error.
+   */
+  keepCode?: boolean;
 }
 
 /**
@@ -105,6 +110,158 @@ export function assemble(recipe: string): Uint8Array;
  * @throws {RangeError} if the index is no integer, or either number is negative.
  */
 export function items(module: Uint8Array, index: number, limit?: number): Item[];
+
+/** Bytes of a module: the offset from its start, and the size. */
+export interface Range {
+  offset: number;
+  size: number;
+}
+
+/** A run of locals of one type. */
+export interface Locals {
+  count: number;
+  type: string;
+}
+
+/** An index, and what it is the index of. */
+export interface Index {
+  kind: 'function' | 'table' | 'memory' | 'global' | 'tag' | 'type' | 'element' | 'data' | 'local' | 'label' | 'field' | 'lane';
+  index: number;
+}
+
+/** A clause of `try_table`, or a handler. */
+export interface Clause {
+  kind: 'catch' | 'catch_ref' | 'catch_all' | 'catch_all_ref' | 'label' | 'switch';
+  tag: number | null;
+  label: number | null;
+}
+
+/** An operand of an instruction. Types are in the text format, bits and bytes in hexadecimal. */
+export type Operand =
+  | Index
+  | { kind: 'length' | 'i32'; value: number }
+  | { kind: 'i64'; value: bigint }
+  | { kind: 'f32' | 'f64'; value: number; bits: string }
+  | { kind: 'v128'; bytes: string }
+  | {
+      kind: 'memory argument';
+      of: Index;
+      ordering: 'acq_rel' | 'seq_cst' | null;
+      /** A bigint if it is above 2 to the power of 53. */
+      offset: number | bigint;
+      align_log2: number;
+    }
+  | { kind: 'lanes' | 'labels'; indices: number[] }
+  | { kind: 'block type'; type: number }
+  | { kind: 'block type'; results: string[] }
+  | { kind: 'heap type' | 'reference type'; type: string }
+  | { kind: 'result types'; types: string[] }
+  | { kind: 'ordering'; ordering: 'acq_rel' | 'seq_cst' }
+  | { kind: 'catch clauses' | 'handlers'; clauses: Clause[] };
+
+/** An instruction, with its name in the text format and its operands in the order of that. */
+export interface Instruction extends Range {
+  name: string;
+  operands: Operand[];
+}
+
+/** A function that has a body. */
+export interface FunctionBody extends Item {
+  /** The index of the function. */
+  index: number;
+  locals: Locals[];
+  instruction_count: number;
+  /** The body without its size prefix. */
+  body: Range;
+  instructions?: Instruction[];
+}
+
+/**
+ * An item with its fields, which depend on the section:
+ *
+ * - types: `index`, `form` (`func`, `struct`, `array`, `cont`), and of functions `params` and
+ *   `results`
+ * - imports: `module`, `name`, `kind`, `index`, and the fields of what is imported
+ * - functions: `index`, `type`
+ * - tables, memories: `index`, `address`, `minimum`, `maximum`, `shared`; of tables `type`, `init`
+ * - globals: `index`, `type`, `mutable`, `shared`, `init`
+ * - exports: `name`, `kind`, `index`
+ * - start: `function`
+ * - element segments: `index`, `mode`, `table`, `start`, `type`, `functions` or `expressions`
+ * - code: {@link FunctionBody}
+ * - data segments: `index`, `mode`, `memory`, `start`, `bytes` as a {@link Range}
+ * - names: `space`, `index`, `name`; of names in a function or type also `of`, its index
+ *
+ * Types and constant expressions are in the text format. A member of a group has the offset and the
+ * size of the group. A limit above 2 to the power of 53 is rounded.
+ */
+export interface Entry extends Item {
+  [field: string]: any;
+}
+
+export interface DumpedSection extends Section {
+  entries: Entry[];
+}
+
+/**
+ * Returns the sections with their items and the instructions of the functions, or without
+ * instructions.
+ * @throws {DolzhytikError} as {@link list} does.
+ */
+export function dump(module: Uint8Array, options?: { instructions?: boolean }): DumpedSection[];
+
+/**
+ * Returns the function of this index, with its instructions.
+ * @throws {DolzhytikError} if the module has no body for it, or it does not decode, or as
+ * {@link outline} does.
+ * @throws {RangeError} if the index is no integer, or is negative.
+ */
+export function disassemble(module: Uint8Array, index: number): FunctionBody & { instructions: Instruction[] };
+
+/** A function with a body or a data segment. The size of a body has its size prefix. */
+export interface SizedPart extends Range {
+  index: number;
+  name: string | null;
+}
+
+/** Sizes of a module in bytes. Each list has the largest part first. */
+export interface Sizes {
+  size: number;
+  /** The size of the header. */
+  header: number;
+  /** The sections with their ids and size prefixes. */
+  sections: (Range & { number: number; id: number; kind: string; name: string | null })[];
+  functions: SizedPart[];
+  /** The functions by the prefixes of their names: the crate, or the namespace or class of C++. */
+  groups: { prefix: string | null; functions: number; size: number }[];
+  data: SizedPart[];
+}
+
+/**
+ * Returns the sizes of the sections, functions and data segments. Names are from the name section,
+ * symbols, exports and imports.
+ * @throws {DolzhytikError} as {@link list} does.
+ */
+export function size(module: Uint8Array): Sizes;
+
+export interface StripOptions {
+  /** Removes the custom sections of these names. */
+  names?: string[];
+  /** Removes DWARF, with its relocations. */
+  debug?: boolean;
+  /** Removes all custom sections, also those that a linker needs. */
+  all?: boolean;
+  /** Keeps the custom sections of these names, with their relocations. */
+  keep?: string[];
+}
+
+/**
+ * Returns the module without custom sections: all of them if no option says which. If a section
+ * that stays holds indices of sections, an empty section is in the place of a removed one.
+ * @throws {DolzhytikError} if a linker needs a removed section, if a section that stays would
+ * become wrong, or as {@link outline} does.
+ */
+export function strip(module: Uint8Array, options?: StripOptions): Uint8Array;
 
 /** Where `dolzhytik.wasm` is from: compiled, its bytes, a response of `fetch`, or an address. */
 export type Source = WebAssembly.Module | ArrayBufferView | ArrayBuffer | Response | URL | string;

@@ -4,7 +4,7 @@ import { readFile } from 'node:fs/promises';
 import { init as initAnywhere } from './browser.js';
 import { use } from './calls.js';
 
-export { DolzhytikError, assemble, items, list, minimize, outline } from './calls.js';
+export * from './api.js';
 
 /** Where a bundler writes CommonJS, import.meta.url is undefined. */
 function besideScript() {

@@ -85,6 +85,16 @@ test('init of Node takes each source', () => {
   assert.equal(run('node', 'init.mjs'), `${EXPECTED}\n`.repeat(sources.length));
 });
 
+test('dump, disassemble, size and strip of the package', () => {
+  write('calls.mjs', `
+    import { assemble, disassemble, dump, size, strip } from 'dolzhytik';
+    const module = assemble('type 600000\\nfunc 0\\nbody 010b\\nname n');
+    const names = disassemble(module, 0).instructions.map(({ name }) => name);
+    console.log(dump(module).length, names.join(), size(module).functions[0].size, strip(module).length);`);
+  // Types, functions, code and names. The header has 8 bytes, the first sections 6, 4 and 7.
+  assert.equal(run('node', 'calls.mjs'), '4 nop,end 4 25\n');
+});
+
 test('each script exports the same names', () => {
   write('names.mjs', `
     for (const script of ['node', 'browser', 'dolzhytik']) {
@@ -283,11 +293,17 @@ test('a page and a worker in Chromium without a bundler', { skip: !chromium && '
 
 test('the types, with the library dom and without', { skip: lacks('tsc') }, () => {
   write('types.mts', `
-    import { type Section, init, minimize, outline } from 'dolzhytik';
+    import {
+      type DumpedSection, type Instruction, type Section, disassemble, dump, init, minimize, outline, size, strip,
+    } from 'dolzhytik';
     declare const response: Promise<Response>;
     const loaded: Promise<void> = init(response);
     loaded.then(() => init(new Uint8Array(8))).then(() => init());
-    export const sections: Section[] = outline(minimize(new Uint8Array(8), { dropOffsets: true }));`);
+    export const sections: Section[] = outline(minimize(new Uint8Array(8), { dropOffsets: true, keepCode: false }));
+    export const dumped: DumpedSection[] = dump(strip(new Uint8Array(8), { debug: true, keep: ['name'] }));
+    export const [first]: Instruction[] = disassemble(new Uint8Array(8), 0).instructions;
+    export const names: (string | null)[] = size(new Uint8Array(8)).functions.map(({ name }) => name);
+    export const called: number[] = first.operands.flatMap((it) => (it.kind === 'function' ? [it.index] : []));`);
   for (const lib of ['es2020', 'es2020,dom']) {
     run('tsc', '--strict', '--noEmit', '--skipDefaultLibCheck', '--module', 'node16', '--lib', lib, 'types.mts');
   }

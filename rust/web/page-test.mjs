@@ -4,260 +4,28 @@
 //     rust/web/page-test.mjs [FOLDER [MODULE..]]
 //
 // Writes screenshots to FOLDER. Compares the page with dolzhytik.js in node for each MODULE, or for
-// dolzhytik.wasm.
+// dolzhytik.wasm. If the variable PAGE_TESTS is set, only the tests run whose names have its text.
 //
 // The last line is 'N passed, M failed'. Exit status: 0 all passed, 1 a failed test, 77 not run
 // because there is no chromium, or no dolzhytik.wasm.
 import assert from 'node:assert/strict';
 import fs from 'node:fs';
-import http from 'node:http';
 import os from 'node:os';
 import path from 'node:path';
 import { fileURLToPath } from 'node:url';
+import { faultyControls, leastContrast } from './access.mjs';
 import { Browser, findChromium } from './chromium.mjs';
+import {
+  CALLS, EXPORT, FUNCTION, HEADER, PADDED, TYPES, WITH_OFFSETS, custom, largeModule, moduleOf, namedModule, section,
+} from './modules.mjs';
+import { CTRL, Page, serve, sleep } from './tab.mjs';
 
 const HERE = path.dirname(fileURLToPath(import.meta.url));
+const only = process.env.PAGE_TESTS;
 const [shots, ...words] = process.argv.slice(2);
 const modules = (words.length ? words : [path.join(HERE, 'dolzhytik.wasm')]).map((file) => path.resolve(file));
 const room = fs.mkdtempSync(path.join(os.tmpdir(), 'dolzhytik-page-'));
 const MOST_ITEMS = 100_000;
-const sleep = (ms) => new Promise((resolve) => setTimeout(resolve, ms));
-
-// ---- The server.
-
-const MEDIA_TYPES = { '.html': 'text/html', '.css': 'text/css', '.js': 'text/javascript', '.wasm': 'application/wasm' };
-
-/** Serves the folder, and at /broken the folder without the WebAssembly module. */
-function respond(request, response) {
-  const { pathname } = new URL(request.url, 'http://localhost');
-  const file = path.join(HERE, pathname.replace(/^\/broken\//, '/').replace(/\/$/, '/index.html'));
-  const isMissing = !file.startsWith(HERE + path.sep) || !fs.existsSync(file);
-  if (isMissing || pathname === '/broken/dolzhytik.wasm') return response.writeHead(404).end();
-  response.writeHead(200, { 'content-type': MEDIA_TYPES[path.extname(file)] ?? 'application/octet-stream' });
-  response.end(fs.readFileSync(file));
-}
-
-async function serve() {
-  const server = http.createServer(respond);
-  await new Promise((resolve) => server.listen(0, '127.0.0.1', resolve));
-  return server;
-}
-
-// ---- The tab.
-
-const KEYS = { Tab: 9, Enter: 13, End: 35, Home: 36, ArrowLeft: 37, ArrowUp: 38, ArrowRight: 39, ArrowDown: 40 };
-const CTRL = 2;
-
-/** A tab with the page; the requests of it and its workers, and their errors and messages. */
-class Page {
-  requests = [];
-  complaints = [];
-  /** How many downloads are complete, and how many of them `downloaded` has read. */
-  downloads = 0;
-  #read = 0;
-
-  constructor(browser) {
-    this.browser = browser;
-    browser.onEvent = (event) => this.#hear(event);
-  }
-
-  /** Opens the page at an address, and waits for its first status. */
-  async start(origin, folder = '/', status = 'Ready.') {
-    this.origin = origin;
-    const { targetId } = await this.browser.send('Target.createTarget', { url: 'about:blank' });
-    const { sessionId } = await this.browser.send('Target.attachToTarget', { targetId, flatten: true });
-    this.session = sessionId;
-    await this.#watch(sessionId);
-    await this.send('Page.enable');
-    await this.browser.send('Browser.setDownloadBehavior', { behavior: 'allow', downloadPath: room, eventsEnabled: true });
-    await this.resize(1600, 1000);
-    await this.send('Page.navigate', { url: origin + folder });
-    await this.until((text) => document.getElementById('status')?.textContent.startsWith(text), status);
-  }
-
-  send(method, params) {
-    return this.browser.send(method, params, this.session);
-  }
-
-  /** Watches a target, and the workers that it starts. */
-  async #watch(session) {
-    const send = (method, params) => this.browser.send(method, params, session);
-    const autoAttach = { autoAttach: true, waitForDebuggerOnStart: true, flatten: true };
-    await Promise.all([send('Network.enable'), send('Runtime.enable'), send('Target.setAutoAttach', autoAttach)]);
-    await send('Log.enable').catch(() => {});
-    await send('Runtime.runIfWaitingForDebugger');
-  }
-
-  #hear({ method, params }) {
-    const said = {
-      'Runtime.exceptionThrown': () => params.exceptionDetails.exception?.description ?? params.exceptionDetails.text,
-      'Runtime.consoleAPICalled': () => params.args.map(({ value }) => value).join(' '),
-      'Log.entryAdded': () => params.entry.text,
-    }[method];
-    if (said) this.complaints.push(said());
-    if (method === 'Browser.downloadProgress' && params.state === 'completed') this.downloads += 1;
-    if (method === 'Network.requestWillBeSent') this.requests.push(params.request.url);
-    if (method === 'Target.attachedToTarget') this.#watch(params.sessionId).catch(() => {});
-  }
-
-  /** Calls a function in the page. It has the arguments, and nothing else of this file. */
-  async run(call, ...values) {
-    const expression = `(${call})(...${JSON.stringify(values)})`;
-    const asked = { expression, awaitPromise: true, returnByValue: true, userGesture: true };
-    const { result, exceptionDetails } = await this.send('Runtime.evaluate', asked);
-    if (exceptionDetails) throw new Error(exceptionDetails.exception?.description ?? exceptionDetails.text);
-    return result.value;
-  }
-
-  /** Waits until a function in the page returns true. */
-  async until(call, ...values) {
-    const end = Date.now() + 20_000;
-    while (!(await this.run(call, ...values))) {
-      if (Date.now() > end) throw new Error(`not in 20 s: ${call} ${values}`);
-      await sleep(10);
-    }
-  }
-
-  text(id) {
-    return this.run((its) => document.getElementById(its).textContent, id);
-  }
-
-  untilText(id, text) {
-    return this.until((its, wanted) => document.getElementById(its).textContent === wanted, id, text);
-  }
-
-  focus(selector) {
-    return this.run((it) => document.querySelector(it).focus(), selector);
-  }
-
-  count(selector) {
-    return this.run((it) => document.querySelectorAll(it).length, selector);
-  }
-
-  resize(width, height) {
-    return this.send('Emulation.setDeviceMetricsOverride', { width, height, deviceScaleFactor: 1, mobile: false });
-  }
-
-  dark(isDark) {
-    const features = [{ name: 'prefers-color-scheme', value: isDark ? 'dark' : 'light' }];
-    return this.send('Emulation.setEmulatedMedia', { features });
-  }
-
-  async key(key, modifiers = 0) {
-    const event = { key, code: key, windowsVirtualKeyCode: KEYS[key], modifiers };
-    const isText = key === 'Enter' && modifiers === 0;
-    const down = isText ? { type: 'keyDown', text: '\r' } : { type: 'rawKeyDown' };
-    await this.send('Input.dispatchKeyEvent', { ...event, ...down });
-    await this.send('Input.dispatchKeyEvent', { ...event, type: 'keyUp' });
-  }
-
-  async click(selector) {
-    const { x, y } = await this.run((it) => {
-      const element = document.querySelector(it);
-      element.scrollIntoView({ block: 'nearest' });
-      const box = element.getBoundingClientRect();
-      return { x: box.x + box.width / 2, y: box.y + box.height / 2 };
-    }, selector);
-    for (const type of ['mousePressed', 'mouseReleased']) {
-      await this.send('Input.dispatchMouseEvent', { type, x, y, button: 'left', clickCount: 1 });
-    }
-  }
-
-  /** Sets the file of the input, and waits for the table. */
-  async choose(file) {
-    await this.run(() => (document.getElementById('status').textContent = ''));
-    const { result } = await this.send('Runtime.evaluate', { expression: 'document.getElementById("file")' });
-    await this.send('DOM.setFileInputFiles', { objectId: result.objectId, files: [file] });
-    await this.untilText('status', `${path.basename(file)} is open.`);
-  }
-
-  /** Clicks on a button, and returns the bytes of the file that it downloads. */
-  async download(selector, name) {
-    const file = path.join(room, name);
-    fs.rmSync(file, { force: true });
-    await this.click(selector);
-    return this.downloaded(name);
-  }
-
-  async downloaded(name) {
-    this.#read += 1;
-    for (let turn = 0; turn < 1000 && this.downloads < this.#read; turn += 1) await sleep(10);
-    return new Uint8Array(fs.readFileSync(path.join(room, name)));
-  }
-
-  /** Writes a screenshot of the page from its top, or as far as it is scrolled. */
-  async shot(name, isTop = true) {
-    if (!shots) return;
-    if (isTop) await this.run(() => scrollTo(0, 0));
-    await sleep(150);
-    const { data } = await this.send('Page.captureScreenshot', { format: 'png' });
-    fs.mkdirSync(shots, { recursive: true });
-    fs.writeFileSync(path.join(shots, `${name}.png`), Buffer.from(data, 'base64'));
-  }
-
-  async shotsOfBoth(name) {
-    await this.shot(`${name}-light`);
-    await this.dark(true);
-    await this.shot(`${name}-dark`);
-    await this.dark(false);
-  }
-}
-
-// ---- Modules.
-
-const HEADER = [0x00, 0x61, 0x73, 0x6d, 0x01, 0x00, 0x00, 0x00];
-
-function leb(value) {
-  const bytes = [];
-  let left = value;
-  while (left >= 128) {
-    bytes.push((left % 128) + 128);
-    left = Math.floor(left / 128);
-  }
-  return [...bytes, left];
-}
-
-const name = (text) => [...leb(Buffer.byteLength(text)), ...Buffer.from(text)];
-
-function section(id, ...parts) {
-  const payload = Buffer.concat(parts.map((part) => Buffer.from(part)));
-  return Buffer.concat([Buffer.from([id, ...leb(payload.length)]), payload]);
-}
-
-const custom = (text, ...parts) => section(0, name(text), ...parts);
-const moduleOf = (...sections) => new Uint8Array(Buffer.concat([Buffer.from(HEADER), ...sections]));
-
-/** The number of types is padded. */
-const TYPES = section(1, [0x81, 0x80, 0x00], [0x60, 0x01, 0x7f, 0x01, 0x7f]);
-const FUNCTION = section(3, [0x01, 0x00]);
-const EXPORT = section(7, [0x01], name('f'), [0x00, 0x00]);
-/** The body returns its parameter, whose index is padded. */
-const CODE = section(10, [0x01, 0x06, 0x00, 0x20, 0x80, 0x80, 0x00, 0x0b]);
-const PADDED = moduleOf(TYPES, FUNCTION, EXPORT, CODE, custom('note', [1, 2, 3]));
-const OFFSETS = custom('.debug_info', [0, 0, 0, 0]);
-const WITH_OFFSETS = moduleOf(TYPES, FUNCTION, OFFSETS, EXPORT, CODE, OFFSETS, custom('note', [1]));
-
-/** A body of `i32.const N`, `drop` a few times, and `local.get 0`. */
-function bodyOf(index) {
-  const constants = Array.from({ length: 1 + (index % 9) }, (_, at) => [0x41, ...leb(64 + index + at), 0x1a]);
-  const code = [0x00, ...constants.flat(), 0x20, 0x00, 0x0b];
-  return Buffer.from([...leb(code.length), ...code]);
-}
-
-/** A module of 18 MB, half of it code with very many bodies. */
-function largeModule() {
-  const count = 300_000;
-  const data = Buffer.alloc(8_000_000, 'dolzhytik ');
-  return moduleOf(
-    TYPES,
-    section(3, leb(count), Buffer.alloc(count)),
-    section(5, [0x01, 0x00], leb(200)),
-    EXPORT,
-    section(10, leb(count), Buffer.concat(Array.from({ length: count }, (_, index) => bodyOf(index)))),
-    section(11, [0x01, 0x00, 0x41, 0x00, 0x0b], leb(data.length), data),
-    custom('note', data.subarray(0, 1_500_000)),
-  );
-}
 
 /** Writes bytes to a file, and returns its path. */
 function fileOf(its, bytes) {
@@ -434,14 +202,27 @@ const opening = {
   },
 };
 
+/** The texts of the elements that match. */
+const textsOf = (page, selector) =>
+  page.run((its) => [...document.querySelectorAll(its)].map((it) => it.textContent), selector);
+const facts = (page) => textsOf(page, '#damage-facts > span');
+
 const damaged = {
   async 'a module that ends in a section'(page, library) {
     const cut = PADDED.subarray(0, PADDED.length - 16);
     const error = thrown(() => library.outline(cut));
     await page.choose(fileOf('cut.wasm', cut));
     assert.equal(await page.text('damage-message'), error.message);
-    const facts = `Cause: ${error.cause} · Offset: ${hex(error.offset)} (${number(error.offset)})`;
-    assert.equal(await page.text('damage-facts'), facts);
+    const [, wrong] = / at offset (0x[0-9a-f]+)/.exec(error.message);
+    assert.deepEqual(await facts(page), [
+      `Cause: ${error.cause}`, `First wrong byte: ${wrong} (${Number(wrong)})`,
+      `Start of the section: ${hex(error.offset)} (${number(error.offset)})`,
+    ]);
+    await page.click('#damage-facts a');
+    await page.until(() => document.querySelector('#bytes .spot') !== null);
+    // The first wrong byte is behind the end of the file.
+    assert.equal(Number(wrong), cut.length);
+    assert.equal((await bytesShown(page, 'b.spot'))[0][0], cut.length - 1);
     const before = library.outline(PADDED).filter(({ offset }) => offset < error.offset);
     const rest = ['–', '–', 'not decoded', hex(error.offset), number(cut.length - error.offset), '–'];
     assert.deepEqual(await rows(page), [...before.map(rowOf), rest]);
@@ -455,7 +236,12 @@ const damaged = {
     const error = thrown(() => library.outline(cut));
     await page.choose(fileOf('cut-real.wasm', cut));
     assert.equal(await page.text('damage-message'), error.message);
-    assert.ok((await page.text('damage-facts')).includes(`Offset: ${hex(error.offset)} `));
+    assert.ok((await facts(page)).at(-1).startsWith(`Start of the section: ${hex(error.offset)} `));
+    // The section that the file ends in is the code: the functions before its end are listed.
+    await page.until(hasItems);
+    const last = library.dump(whole, { instructions: false }).find(({ id }) => id === 10).entries;
+    const before = last.filter(({ offset, size }) => offset + size <= cut.length);
+    assert.equal(await page.text('items-facts'), `${number(before.length)} before the damage`);
     await page.shot('damaged-real');
   },
 
@@ -464,17 +250,20 @@ const damaged = {
     const error = thrown(() => library.list(broken));
     await page.choose(fileOf('payload.wasm', broken));
     assert.equal(await page.text('damage-message'), error.message);
-    assert.ok((await page.text('damage-facts')).includes(`Offset: ${hex(error.offset)} `));
+    assert.ok((await facts(page)).at(-1).startsWith(`Start of the section: ${hex(error.offset)} `));
     assert.deepEqual(await rows(page), library.outline(broken).map(rowOf));
     assert.equal(await page.count('#sections .flaw'), 1);
     assert.equal(await chosenRow(page), 2);
+    await page.until(hasItems);
+    assert.equal(await page.text('items-facts'), '1 before the damage');
     await page.shot('damaged-payload');
   },
 
   async 'types that do not decode'(page) {
     await page.choose(fileOf('types.wasm', moduleOf(section(1, [0x01, 0x00]), FUNCTION)));
     assert.equal(await page.text('damage-message'), 'section 1 (type) at offset 0xb: unexpected byte or value');
-    assert.equal(await page.text('damage-facts'), 'Cause: unexpected byte or value · Offset: 0x8 (8)');
+    const expected = ['Cause: unexpected byte or value', 'First wrong byte: 0xb (11)', 'Start of the section: 0x8 (8)'];
+    assert.deepEqual(await facts(page), expected);
     assert.equal(await chosenRow(page), 1);
   },
 
@@ -482,7 +271,7 @@ const damaged = {
     for (const bytes of [Buffer.from('no module'), Buffer.alloc(0)]) {
       await page.choose(fileOf(`text-${bytes.length}.wasm`, bytes));
       assert.equal(await page.text('damage-message'), thrown(() => library.outline(bytes)).message);
-      assert.ok((await page.text('damage-facts')).endsWith('Offset: 0x0 (0)'));
+      assert.equal((await facts(page)).at(-1), 'Start of the file: 0x0 (0)');
       assert.equal((await rows(page)).length, 1);
     }
   },
@@ -510,25 +299,34 @@ const chosen = {
       await page.run((its) => (document.getElementById('items').scrollTop = its * 20 - 40), index);
       await page.until((its) => document.getElementById(`item-${its}`) !== null, index);
       await page.click(`#item-${index}`);
-      const { offset, size, text } = items[index];
+      const { offset, size } = items[index];
       const marked = await bytesShown(page, 'b.on');
       assert.equal(marked[0][0], offset);
       assert.ok(marked.length === size || marked.length > 200);
       marked.forEach(([at, byte]) => assert.ok(at < offset + size && byte === bytes[at]));
-      assert.equal(await page.text('items-note'), text);
+      await page.until(() => !document.getElementById('function').hidden);
+      await page.click('#back');
       assert.ok(await page.run(isInView));
     }
     await page.shotsOfBoth('real');
   },
 
   async 'the items are those of the library'(page, library) {
-    const { items } = await openCode(page, library, modules[0]);
+    const { items, bytes } = await openCode(page, library, modules[0]);
     const shown = await page.run(() =>
       [...document.querySelectorAll('#items .item')].map((row) => [...row.children].map((cell) => cell.textContent)),
     );
-    const expected = items.map(({ offset, size, text }, index) => [String(index), hex(offset), text, number(size)]);
+    const { functions } = library.size(bytes);
+    const nameOf = (index) => functions.find((it) => it.index === index).name ?? `function ${index}`;
+    const expected = items.map(({ offset, size }, index) => [String(index), hex(offset), nameOf(index), number(size)]);
     assert.deepEqual(shown, expected.slice(0, shown.length));
     assert.equal(await page.text('items-facts'), number(items.length));
+    // Other sections have the texts of the library.
+    const exported = library.outline(bytes).findIndex(({ id }) => id === 7);
+    await page.click(`#sections tbody tr[data-index="${exported}"]`);
+    await page.until(() => document.querySelector('#items .text')?.textContent.startsWith('(export'));
+    const texts = await page.run(() => [...document.querySelectorAll('#items .text')].map((it) => it.textContent));
+    assert.deepEqual(texts, library.items(bytes, exported).slice(0, texts.length).map(({ text }) => text));
   },
 
   async 'a byte chooses the item that has it'(page, library) {
@@ -570,17 +368,16 @@ const showSavings = (page) => page.run(() => document.querySelector('.minimize')
 
 const minimizing = {
   async 'the bytes that each section saves, and the download'(page, library) {
-    await page.click('#drop');
     for (const file of [fileOf('padded.wasm', PADDED), ...modules]) {
       const bytes = new Uint8Array(fs.readFileSync(file));
       await page.choose(file);
       await page.until(isMinimized);
-      const minimal = library.minimize(bytes, { dropOffsets: true });
+      const minimal = library.minimize(bytes);
       assert.deepEqual(await savings(page), savingsOf(library, bytes, minimal));
       const its = path.basename(file).replace('.wasm', '.min.wasm');
       assert.deepEqual(await page.download('#download', its), minimal);
+      assert.equal(await page.run(() => document.getElementById('choices').hidden), true);
     }
-    await page.click('#drop');
     await showSavings(page);
     await page.shot('minimized', false);
   },
@@ -600,7 +397,15 @@ const minimizing = {
     assert.deepEqual(await savings(page), savingsOf(library, WITH_OFFSETS, minimal));
     assert.deepEqual(await page.download('#download', 'offsets.min.wasm'), minimal);
     await page.shot('offsets-left-out', false);
-    await page.click('#drop');
+    // The two buttons exclude each other.
+    await page.click('#keep-code');
+    await page.until(() => document.getElementById('saving').textContent.includes('saved'));
+    const pressed = () => [...document.querySelectorAll('#choices [aria-pressed=true]')].map(({ id }) => id);
+    assert.deepEqual(await page.run(pressed), ['keep-code']);
+    const kept = library.minimize(WITH_OFFSETS, { keepCode: true });
+    assert.deepEqual(await page.download('#download', 'offsets.min.wasm'), kept);
+    await page.click('#keep-code');
+    await page.untilText('saving', `Not minimized: ${message}`);
   },
 };
 
@@ -695,42 +500,271 @@ const keyboard = {
   },
 
   async 'every control by Tab, and the download by Enter'(page, library) {
-    await page.choose(fileOf('tabs.wasm', PADDED));
-    await page.until(isMinimized);
+    await page.choose(fileOf('tabs.wasm', WITH_OFFSETS));
+    await page.until(hasAnswer);
     await blur(page);
-    const order = ['#file', '#write', '#bar *', '#sections tr', '#items', '#offset', '#bytes', '#drop', '#download'];
+    const order = [
+      '#file', '#example', '#write', '#compare', '#bar *', '#map .cell', '#sections button', '#sections tr', '#search',
+      '#order', '#items', '#handle', '#offset', '#bytes', '#keep-code', '#drop',
+    ];
     for (const selector of order) await tabTo(page, selector);
     await page.key('Enter');
-    assert.deepEqual(await page.downloaded('tabs.min.wasm'), library.minimize(PADDED));
+    await page.until(isMinimized);
+    await tabTo(page, '#download');
+    await page.key('Enter');
+    const dropped = library.minimize(WITH_OFFSETS, { dropOffsets: true });
+    assert.deepEqual(await page.downloaded('tabs.min.wasm'), dropped);
   },
 };
 
-/** The least contrast of a text to the colours behind it. Runs in the page. */
-function leastContrast() {
-  const canvas = document.createElement('canvas').getContext('2d', { willReadFrequently: true });
-  const paint = (color) => {
-    canvas.fillStyle = color;
-    canvas.fillRect(0, 0, 1, 1);
-  };
-  const linear = (value) => (value <= 0.04045 ? value / 12.92 : ((value + 0.055) / 1.055) ** 2.4);
-  const luminance = (colors) => {
-    ['white', ...colors].forEach(paint);
-    const [red, green, blue] = [...canvas.getImageData(0, 0, 1, 1).data].map((value) => linear(value / 255));
-    return 0.2126 * red + 0.7152 * green + 0.0722 * blue;
-  };
-  const behind = (element) =>
-    element ? [...behind(element.parentElement), getComputedStyle(element).backgroundColor] : [];
-  const hasText = ({ childNodes }) => [...childNodes].some(({ nodeType, data }) => nodeType === 3 && data.trim());
-  const isShown = (element) => hasText(element) && element.checkVisibility() && !element.closest(':disabled, .unseen');
-  const contrast = (element) => {
-    const backs = behind(element);
-    const [back, text] = [backs, [...backs, getComputedStyle(element).color]].map(luminance);
-    const ratio = (Math.max(back, text) + 0.05) / (Math.min(back, text) + 0.05);
-    return { ratio, what: `${element.tagName} ${element.className} ${element.textContent.slice(0, 20)}` };
-  };
-  const all = [...document.querySelectorAll('body *')].filter(isShown).map(contrast);
-  return all.sort((a, b) => a.ratio - b.ratio)[0];
-}
+// ---- Treemap, functions, comparisons.
+
+const cellsOf = (page, map = 'map') =>
+  page.run(
+    (id) =>
+      [...document.getElementById(id).children].map((cell) => {
+        const { width, height } = cell.getBoundingClientRect();
+        return { label: cell.ariaLabel, area: (width + 1) * (height + 1), isNamed: cell.textContent !== '' };
+      }),
+    map,
+  );
+
+const mapPath = (page) => page.text('map-path');
+const codeLines = (page) =>
+  page.run(() => {
+    const found = [...document.querySelectorAll('#code .instruction')];
+    return found.map((row) => [...row.children].map((cell) => cell.textContent));
+  });
+const titleIs = (page, title) => page.untilText('function-title', title);
+const hashOf = (page) => page.run(() => location.hash);
+const hasParts = () => document.querySelectorAll('#map .part').length > 0;
+
+const treemap = {
+  async 'the areas of the treemap are sizes'(page, library) {
+    await page.choose(modules[0]);
+    await page.until(hasParts);
+    const sizes = library.size(new Uint8Array(fs.readFileSync(modules[0]))).sections.map(({ size }) => size);
+    const cells = await cellsOf(page);
+    const [first, ...others] = cells.slice(0, 3);
+    others.forEach(({ area }, index) => assert.ok(Math.abs(area / first.area - sizes[index + 1] / sizes[0]) < 0.01));
+    assert.ok(cells[0].label.startsWith(`code, ${number(sizes[0])} bytes, `), cells[0].label);
+  },
+
+  async 'groups, into one and out again by keys'(page) {
+    const functions = [['a::x', 40], ['a::y', 30], ['b::z', 20], ['main', 8]];
+    await page.choose(fileOf('groups.wasm', namedModule(functions)));
+    await page.until(hasParts);
+    await blur(page);
+    await tabTo(page, '#map .cell');
+    assert.ok((await cellsOf(page))[0].label.startsWith('code, '));
+    await page.key('Enter');
+    const labels = (await cellsOf(page)).map(({ label }) => label.split(', ').slice(0, 2).join(', '));
+    // The size of a body has its size prefix, the number of locals and `end`.
+    assert.deepEqual(labels, ['a::*, 76 bytes', 'b::*, 23 bytes', 'without a prefix, 11 bytes']);
+    await page.key('Enter');
+    assert.equal(await mapPath(page), 'groups.wasm›code›a::*');
+    await page.key('ArrowRight');
+    await page.shotsOfBoth('treemap');
+    await page.key('Enter');
+    await titleIs(page, 'a::y');
+    await tabTo(page, '#map .cell').catch(() => {});
+    await page.focus('#map .cell');
+    await page.key('Escape');
+    assert.equal(await mapPath(page), 'groups.wasm›code');
+    await page.click('#map-path button');
+    assert.equal(await mapPath(page), 'groups.wasm');
+  },
+
+  async 'a function of a damaged module'(page) {
+    const module = namedModule([['a', 40], ['b', 30], ['c', 20]]);
+    const names = module.length - 20;
+    await page.choose(fileOf('cut-names.wasm', module.subarray(0, names - 20)));
+    await page.until(hasItems);
+    await page.click('#item-0');
+    await titleIs(page, 'function 0');
+    assert.equal((await codeLines(page))[0][1], 'nop');
+  },
+};
+
+const functions = {
+  async 'a function has the instructions of the library'(page, library) {
+    const { bytes, items } = await openCode(page, library, modules[0]);
+    const index = items.findIndex(({ size }) => size > 300);
+    await page.run((its) => (document.getElementById('items').scrollTop = its * 20), index);
+    await page.until((its) => document.getElementById(`item-${its}`) !== null, index);
+    await page.click(`#item-${index}`);
+    await page.until(() => document.querySelectorAll('#code .instruction').length > 10);
+    const { instructions } = library.disassemble(bytes, index);
+    const lines = await codeLines(page);
+    lines.forEach(([at, text], row) => {
+      const { offset, name: its, operands } = instructions[row];
+      assert.equal(at, hex(offset));
+      assert.equal(text.split(' ')[0], its);
+      if (operands[0]?.kind === 'local') assert.equal(text, `${its} ${operands[0].index}`);
+    });
+    await page.shotsOfBoth('function');
+  },
+
+  async 'links to callees, and the history'(page) {
+    await page.choose(fileOf('calls.wasm', CALLS));
+    await page.click('#sections tbody tr[data-index="2"]');
+    await page.until(hasItems);
+    await page.click('#item-0');
+    await titleIs(page, 'one');
+    assert.deepEqual((await codeLines(page)).map(([, text]) => text), ['local.get 0 <count>', 'call 1 <two>', 'end']);
+    assert.equal(await hashOf(page), '#function=0');
+    await page.click('#code a');
+    await titleIs(page, 'two');
+    assert.equal(await hashOf(page), '#function=1');
+    await page.run(() => history.back());
+    await titleIs(page, 'one');
+    await page.run(() => history.forward());
+    await titleIs(page, 'two');
+    // By keys: the second instruction of `one` is the call.
+    await page.run(() => history.back());
+    await titleIs(page, 'one');
+    await page.focus('#code');
+    await page.key('ArrowDown');
+    await page.key('ArrowDown');
+    assert.equal((await bytesShown(page, 'b.on')).length, 2);
+    await page.key('Enter');
+    await titleIs(page, 'two');
+    await page.click('#back');
+    assert.equal(await page.run(() => document.getElementById('list').hidden), false);
+  },
+
+  async 'an address with a function or an offset'(page) {
+    await page.choose(fileOf('calls.wasm', CALLS));
+    await page.run(() => (location.hash = '#function=1'));
+    await titleIs(page, 'two');
+    await page.run(() => (location.hash = '#offset=0x9'));
+    await page.until(() => document.querySelector('#bytes .spot')?.dataset.offset === '9');
+    await page.run(() => (location.hash = '#function=7'));
+    await page.untilText('picked', 'The module has no function 7.');
+  },
+
+  async 'the address of a page is shown when a file opens'(page) {
+    const other = new Page(page.browser, room, null);
+    await other.start(page.origin, '/#function=1');
+    await other.choose(fileOf('calls.wasm', CALLS));
+    await titleIs(other, 'two').finally(async () => {
+      await other.close();
+      await page.show();
+    });
+  },
+
+  async 'lists are sorted and searched'(page) {
+    const functions = [['beta', 5], ['alpha', 9], ['gamma', 1], ['alpine', 3]];
+    await page.choose(fileOf('sorted.wasm', namedModule(functions)));
+    await page.click('#sections tbody tr[data-index="2"]');
+    await page.until(hasItems);
+    const texts = () => page.run(() => [...document.querySelectorAll('#items .text')].map((it) => it.textContent));
+    const set = (id, value, type) =>
+      page.run((its, text, kind) => {
+        document.getElementById(its).value = text;
+        document.getElementById(its).dispatchEvent(new Event(kind));
+      }, id, value, type);
+    await set('order', 'size', 'change');
+    assert.deepEqual(await texts(), ['alpha', 'beta', 'alpine', 'gamma']);
+    await set('order', 'name', 'change');
+    assert.deepEqual(await texts(), ['alpha', 'alpine', 'beta', 'gamma']);
+    await set('search', 'ALP', 'input');
+    assert.deepEqual(await texts(), ['alpha', 'alpine']);
+    assert.equal(await page.text('items-facts'), '2 of 4');
+    await set('search', 'none', 'input');
+    assert.equal(await page.text('items'), 'No item has "none".');
+    await set('search', '', 'input');
+    await set('order', 'index', 'change');
+    assert.deepEqual(await texts(), functions.map(([text]) => text));
+    // The table of sections.
+    await page.click('#sections [data-order=size]');
+    const sizes = (await rows(page)).map((row) => Number(row[4]));
+    assert.deepEqual(sizes, [...sizes].sort((a, b) => b - a));
+    await page.click('#sections [data-order=name]');
+    assert.deepEqual((await rows(page)).map((row) => row[2]), ['code', 'function', 'name', 'type']);
+    await page.click('#sections [data-order=index]');
+  },
+};
+
+const comparing = {
+  async 'two files: the table and the treemap'(page) {
+    const old = namedModule([['same', 4], ['grows', 10], ['gone', 20]]);
+    const now = namedModule([['same', 4], ['grows', 25], ['new', 7]]);
+    await page.choose(fileOf('old.wasm', old), fileOf('now.wasm', now));
+    await page.until(() => !document.getElementById('comparison').hidden);
+    assert.equal(await page.text('comparison-title'), 'old.wasm → now.wasm');
+    const table = await page.run(() => {
+      const found = [...document.querySelectorAll('#changes tr')];
+      return found.map(({ cells }) => [...cells].map((it) => it.textContent));
+    });
+    const ofKind = (kind) => table.filter(([its]) => its === kind).map((row) => row.slice(1, 5));
+    // A body has its size prefix, the number of locals and `end` beside its instructions.
+    assert.deepEqual(ofKind('function'), [
+      ['gone', '23', '–', '−23'], ['grows', '13', '28', '+15'], ['new', '–', '10', '+10'],
+      ['1 other', '7', '7', '0'],
+    ]);
+    const change = (found) => found.reduce((sum, row) => sum + Number(row[3].replace('−', '-').replace('+', '')), 0);
+    assert.equal(change(ofKind('section')), now.length - old.length);
+    assert.equal(table.at(-1)[3], number(now.length));
+    const cells = await cellsOf(page, 'changes-map');
+    const labels = cells.slice(0, 3).map(({ label }) => label);
+    assert.deepEqual(labels, ['gone −23, 23 bytes', 'grows +15, 15 bytes', 'new +10, 10 bytes']);
+    assert.ok(Math.abs(cells[1].area / cells[0].area - 15 / 23) < 0.02);
+    assert.deepEqual((await rows(page)).length, 4);
+    await page.shotsOfBoth('compared');
+  },
+
+  async 'two equal files are dropped, and the end of a comparison'(page) {
+    const files = [fileOf('a.wasm', PADDED), fileOf('b.wasm', PADDED)];
+    const data = { items: [], files, dragOperationsMask: 1 };
+    for (const type of ['dragEnter', 'dragOver', 'drop']) {
+      await page.send('Input.dispatchDragEvent', { type, x: 800, y: 500, data });
+    }
+    await page.untilText('comparison-title', 'a.wasm → b.wasm');
+    assert.equal(await page.run(() => document.getElementById('no-changes').hidden), false);
+    await page.click('#comparison-close');
+    assert.equal(await page.run(() => document.getElementById('comparison').hidden), true);
+  },
+};
+
+const handle = {
+  async 'the handle by keys and by dragging'(page, library) {
+    await openCode(page, library, modules[0]);
+    const part = () => page.run(() => {
+      const boxOf = (its) => document.querySelector(`.halves > .${its}`).getBoundingClientRect();
+      const [list, bytes] = ['items', 'bytes'].map(boxOf);
+      return list.height / (list.height + bytes.height);
+    });
+    await page.resize(1280, 900);
+    await page.focus('#handle');
+    for (let turn = 0; turn < 4; turn += 1) await page.key('ArrowDown');
+    assert.ok(Math.abs((await part()) - 0.7) < 0.02);
+    const { x, y } = await page.run(() => {
+      const handle = document.getElementById('handle');
+      handle.scrollIntoView({ block: 'center' });
+      const box = handle.getBoundingClientRect();
+      return { x: box.x + 20, y: box.y + 4 };
+    });
+    const pressed = { button: 'left', buttons: 1, clickCount: 1 };
+    const mouse = (type, at) => page.send('Input.dispatchMouseEvent', { type, x, y: at, ...pressed });
+    await mouse('mousePressed', y);
+    await mouse('mouseMoved', y - 200);
+    await mouse('mouseReleased', y - 200);
+    assert.ok((await part()) < 0.5);
+    await page.resize(1600, 1000);
+  },
+};
+
+const example = {
+  async 'the example of the page'(page, library) {
+    await page.click('#example');
+    await page.untilText('status', 'example.wasm is open.');
+    const bytes = new Uint8Array(fs.readFileSync(path.join(HERE, 'example.wasm')));
+    assert.deepEqual(await rows(page), library.outline(bytes).map(rowOf));
+    assert.ok(bytes.length > 20_000 && bytes.length < 60_000, `${bytes.length} bytes`);
+    assert.ok(library.size(bytes).groups.length > 2);
+  },
+};
 
 /**
  * How much wider than the window the page is, and than their pane the bytes are. Runs in the page.
@@ -755,8 +789,7 @@ function watchShifts() {
 async function backWithContrast(page, isDark) {
   await page.dark(isDark);
   const { ratio, what } = await page.run(leastContrast);
-  console.log(`${isDark ? 'dark' : 'light'}: least contrast ${ratio.toFixed(2)} (${what})`);
-  assert.ok(ratio >= 4.5);
+  assert.ok(ratio >= 4.5, `contrast ${ratio.toFixed(2)}, ${isDark ? 'dark' : 'light'}: ${what}`);
   return page.run(() => getComputedStyle(document.body).backgroundColor);
 }
 
@@ -771,6 +804,37 @@ const looks = {
       assert.notEqual(light, dark);
     }
     await page.dark(false);
+  },
+
+  async 'names, contrast and width at 1280 and 390 pixels'(page) {
+    await page.shot('start');
+    const offsets = fileOf('offsets.wasm', WITH_OFFSETS);
+    const cut = fileOf('cut.wasm', PADDED.subarray(0, 33));
+    const example = path.join(HERE, 'example.wasm');
+    const cutExample = fileOf('cut-example.wasm', fs.readFileSync(example).subarray(0, 15_000));
+    const states = [
+      ['example', [example]], ['offsets', [offsets]], ['cut', [cut]], ['cut-example', [cutExample]], ['compared', [example, modules[0]]],
+      ['function', [fileOf('calls.wasm', CALLS)], '#function=0'],
+    ];
+    for (const [its, files, hash] of states) {
+      await page.choose(...files);
+      await page.until(hasAnswer);
+      if (hash) await page.run((to) => (location.hash = to), hash);
+      if (hash) await titleIs(page, 'one');
+      if (files.length > 1) await page.until(() => !document.getElementById('comparison').hidden);
+      for (const [width, height] of [[1280, 800], [390, 844]]) {
+        await page.resize(width, height);
+        await sleep(100);
+        assert.deepEqual(await page.run(faultyControls), [], `${its} at ${width}`);
+        const over = await page.run(() => document.scrollingElement.scrollWidth - innerWidth);
+        assert.ok(over <= 0, `${its} at ${width}`);
+        await backWithContrast(page, false);
+        await backWithContrast(page, true);
+        await page.dark(false);
+        await page.shotsOfBoth(`${its}-${width}`);
+      }
+    }
+    await page.resize(1600, 1000);
   },
 
   async '400 to 1600 pixels'(page, library) {
@@ -794,7 +858,7 @@ const looks = {
   async 'nothing moves when items and savings come'(page) {
     await page.choose(modules[0]);
     await page.run(watchShifts);
-    await page.choose(fileOf('still.wasm', fs.readFileSync(modules[0])));
+    await page.choose(fileOf(path.basename(modules[0]), fs.readFileSync(modules[0])));
     await page.until(hasAnswer);
     await page.until(hasItems);
     await sleep(200);
@@ -820,7 +884,7 @@ const large = {
     const { code, bytes } = await openCode(page, library, path.join(room, 'large.wasm'));
     const elements = await page.count('*');
     assert.ok(elements < 6000, `${elements} elements`);
-    assert.equal(await page.text('items-facts'), `the first ${number(MOST_ITEMS)}`);
+    assert.equal(await page.text('items-facts'), number(300_000));
     const last = code.offset + code.size - 1;
     await goTo(page, last);
     assert.deepEqual(await bytesShown(page, 'b.spot'), [[last, bytes[last]]]);
@@ -832,14 +896,12 @@ const large = {
 
   async 'nothing moves while it is minimized'(page) {
     await page.resize(400, 900);
+    await page.choose(path.join(room, 'large.wasm'));
     await showSavings(page);
     await page.run(watchShifts);
-    await page.run(() => document.getElementById('drop').click());
-    await page.until(() => document.getElementById('saving').textContent === 'Minimizing');
     await page.until(hasAnswer);
     await sleep(200);
     assert.deepEqual(await page.run(() => window.shifts), []);
-    await page.run(() => document.getElementById('drop').click());
     await page.resize(1600, 1000);
   },
 
@@ -869,7 +931,7 @@ const quiet = {
   },
 
   async 'a page whose WebAssembly module does not load'(page) {
-    const broken = new Page(page.browser);
+    const broken = new Page(page.browser, room, shots);
     await broken.start(page.origin, '/broken/', 'dolzhytik.wasm does not load: ');
     assert.ok((await broken.text('status')).endsWith('HTTP status 404'));
   },
@@ -878,9 +940,13 @@ const quiet = {
 // ---- The run.
 
 async function runTests(page, library) {
-  const groups = [opening, damaged, chosen, minimizing, recipes, keyboard, looks, large, quiet];
+  const groups = [
+    opening, damaged, chosen, treemap, functions, comparing, handle, example, minimizing, recipes, keyboard, looks, large,
+    quiet,
+  ];
   const counts = { passed: 0, failed: 0 };
   for (const [its, test] of groups.flatMap(Object.entries)) {
+    if (only && !its.includes(only)) continue;
     try {
       await test(page, library);
       counts.passed += 1;
@@ -896,7 +962,7 @@ async function main(chromium) {
   const library = await import('./dolzhytik.js');
   const server = await serve();
   const browser = new Browser(chromium, room);
-  const page = new Page(browser);
+  const page = new Page(browser, room, shots);
   try {
     await page.start(`http://127.0.0.1:${server.address().port}`);
     const { passed, failed } = await runTests(page, library);

@@ -1,6 +1,7 @@
 // The tests of the package, which tools/web runs. Expected bytes are from the WebAssembly format,
 // by hand.
 import assert from 'node:assert/strict';
+import { execFileSync } from 'node:child_process';
 import { copyFile, mkdtemp, readFile, rm, writeFile } from 'node:fs/promises';
 import { tmpdir } from 'node:os';
 import { join } from 'node:path';
@@ -23,7 +24,7 @@ WebAssembly.Instance = class extends Instance {
 };
 
 const dz = await import('./dolzhytik.js');
-const { DolzhytikError, assemble, items, list, minimize, outline } = dz;
+const { DolzhytikError, assemble, disassemble, dump, items, list, minimize, outline, size, strip } = dz;
 
 function hex(text) {
   return Uint8Array.from(text.match(/[0-9a-f]{2}/gi) ?? [], (digits) => parseInt(digits, 16));
@@ -158,6 +159,21 @@ test('custom sections that hold offsets', () => {
   assert.deepEqual(minimize(module, { dropOffsets: 'yes' }), moduleOf('0a 04 01 02 00 0b'));
   const minimal = moduleOf('0a 04 01 02 00 0b', '00 08 072e64656275675f');
   assert.deepEqual(minimize(minimal, {}), minimal);
+});
+
+test('custom sections that hold offsets, and the code stays', () => {
+  const [types, code] = ['01 85 00 01 60 01 7f 00', '0a 84 00 01 02 00 0b'];
+  const debug = '00 08 072e64656275675f';
+  const minimalTypes = '01 05 01 60 01 7f 00';
+  assert.deepEqual(minimize(moduleOf(types, code, debug), { keepCode: true }), moduleOf(minimalTypes, code, debug));
+  // All before the code stay with a source map, which counts from the first byte.
+  const map = custom('sourceMappingURL', '0161');
+  assert.deepEqual(minimize(moduleOf(types, code, map), { keepCode: true }), moduleOf(types, code, map));
+  // Relocations of types: these stay. Their own numbers are minimal.
+  const [padded, minimal] = ['8000 00', '00 00'].map((numbers) => custom('reloc.TYPE', numbers));
+  const linking = custom('linking', '02');
+  assert.deepEqual(minimize(moduleOf(types, linking, padded), { keepCode: true }), moduleOf(types, linking, minimal));
+  assert.throws(() => minimize(ADD, { dropOffsets: true, keepCode: true }), TypeError);
 });
 
 test('the argument is not changed, and a result has its own bytes', () => {
@@ -580,7 +596,8 @@ function withMost(module, pages) {
 async function limited(pages) {
   const folder = await mkdtemp(join(tmpdir(), 'dolzhytik-'));
   try {
-    for (const name of ['package.json', 'browser.js', 'calls.js', 'dolzhytik.js']) {
+    const { files } = JSON.parse(await readFile(path('package.json'), 'utf8'));
+    for (const name of ['package.json', ...files.filter((file) => file.endsWith('.js'))]) {
       await copyFile(path(name), join(folder, name));
     }
     await writeFile(join(folder, 'dolzhytik.wasm'), withMost(await readFile(path('dolzhytik.wasm')), pages));
@@ -624,7 +641,8 @@ test('nothing leaks', async () => {
   const bad = ADD.subarray(0, 20);
   const calls = [
     () => dz.outline(ADD), () => dz.list(ADD), () => dz.minimize(ADD), () => dz.assemble('func 1\nbody 0b'),
-    () => dz.items(ADD, 3), () => outcome(() => dz.outline(bad), dz.DolzhytikError),
+    () => dz.items(ADD, 3), () => dz.dump(ADD), () => dz.disassemble(ADD, 0), () => dz.strip(ADD), () => dz.size(ADD),
+    () => dz.minimize(ADD, { keepCode: true }), () => outcome(() => dz.outline(bad), dz.DolzhytikError),
     () => outcome(() => dz.assemble('x'), dz.DolzhytikError),
   ];
   calls.forEach((call) => call());
@@ -660,6 +678,8 @@ test('each request for memory is refused in turn', async () => {
   const calls = [
     () => dz.outline(ADD), () => dz.list(ADD), () => dz.minimize(ADD), () => dz.assemble(recipe),
     () => dz.items(ADD, 0), () => dz.items(ADD, 3), () => dz.minimize(offsets), () => dz.outline(hex('')),
+    () => dz.dump(ADD), () => dz.disassemble(ADD, 0), () => dz.strip(offsets),
+    () => dz.minimize(offsets, { keepCode: true }),
   ];
   const expected = calls.map((call) => outcome(call, dz.DolzhytikError));
   const refused = calls.map(() => 0);
@@ -693,6 +713,265 @@ test('calls at the end of the stack', () => {
   assert(done && instances.length > before, 'an instance that was stopped is not called again');
   assert(thrown.every((error) => error instanceof RangeError));
   assert.deepEqual(outline(ADD), ADD_OUTLINE);
+});
+
+// Items with fields, and instructions.
+
+/** The fields of the items of a section, without their bytes and texts. */
+function fieldsOf(section) {
+  return section.entries.map(({ offset, size: its, text, ...fields }) => fields);
+}
+
+/** A custom section. */
+function custom(name, content) {
+  const bytes = Buffer.from(name).toString('hex');
+  const payload = hex(name.length.toString(16).padStart(2, '0') + bytes + content);
+  assert(payload.length < 128);
+  return `00 ${payload.length.toString(16).padStart(2, '0')} ${Buffer.from(payload).toString('hex')}`;
+}
+
+const instruction = (offset, its, name, ...operands) => ({ offset, size: its, name, operands });
+const operand = (kind, index) => ({ kind, index });
+
+test('a dump has fields and instructions', () => {
+  const [types, functions, exported, code] = dump(ADD);
+  assert.deepEqual(types.entries, [{
+    offset: 11, size: 6, text: '(func (param i32 i32) (result i32))', index: 0, form: 'func', params: ['i32', 'i32'],
+    results: ['i32'],
+  }]);
+  assert.deepEqual(fieldsOf(functions), [{ index: 0, type: 0 }]);
+  assert.deepEqual(fieldsOf(exported), [{ index: 0, name: 'add', kind: 'func' }]);
+  const instructions = [
+    instruction(35, 2, 'local.get', operand('local', 0)), instruction(37, 2, 'local.get', operand('local', 1)),
+    instruction(39, 1, 'i32.add'), instruction(40, 1, 'end'),
+  ];
+  assert.deepEqual(fieldsOf(code), [
+    { index: 0, locals: [], instruction_count: 4, body: { offset: 34, size: 7 }, instructions },
+  ]);
+  assert.equal('instructions' in dump(ADD, { instructions: false })[3].entries[0], false);
+  assert.deepEqual(disassemble(ADD, 0), code.entries[0]);
+});
+
+test('fields of imports, and the indices after them', () => {
+  const module = moduleOf(
+    '02 1c 04 0165 0166 00 07 0165 0167 03 7e 01 0165 016d 02 05 01 02 0165 0176 00 08',
+    '03 02 01 07', '0a 04 01 02 00 0b',
+  );
+  const [imports, functions, code] = dump(module);
+  assert.deepEqual(fieldsOf(imports), [
+    { index: 0, module: 'e', name: 'f', kind: 'func', type: 7 },
+    { index: 0, module: 'e', name: 'g', kind: 'global', type: 'i64', mutable: true, shared: false },
+    { index: 0, module: 'e', name: 'm', kind: 'memory', address: 'i64', minimum: 1, maximum: 2, shared: false },
+    { index: 1, module: 'e', name: 'v', kind: 'func', type: 8 },
+  ]);
+  assert.deepEqual(fieldsOf(functions), [{ index: 2, type: 7 }]);
+  assert.equal(code.entries[0].index, 2);
+  assert.throws(() => disassemble(module, 1), { message: 'function 1: the module has no body for it' });
+  assert.throws(() => disassemble(module, -1), RangeError);
+});
+
+test('fields of names and segments', () => {
+  const names = custom('name', '01 04 01 00 0161 02 06 01 00 01 02 0178'.replaceAll(' ', ''));
+  const data = '0b 0b 02 00 41 05 0b 02 aabb 01 01 cc';
+  const [segments, { entries }] = dump(moduleOf(data, names));
+  assert.deepEqual(fieldsOf(segments), [
+    { index: 0, mode: 'active', memory: 0, start: '(i32.const 5)', bytes: { offset: 16, size: 2 } },
+    { index: 1, mode: 'passive', bytes: { offset: 20, size: 1 } },
+  ]);
+  assert.deepEqual(entries.map(({ space, of, index, name }) => ({ space, of, index, name })), [
+    { space: 'function', of: undefined, index: 0, name: 'a' }, { space: 'local', of: 0, index: 2, name: 'x' },
+  ]);
+});
+
+test('names with characters that JSON escapes', () => {
+  const name = '"\\\u0000\u001f\n\u2028é';
+  const bytes = Buffer.from(name);
+  const payload = `01${bytes.length.toString(16).padStart(2, '0')}${bytes.toString('hex')}0000`;
+  const [{ entries }] = dump(moduleOf(`07 ${(payload.length / 2).toString(16).padStart(2, '0')} ${payload}`));
+  assert.equal(entries[0].name, name);
+});
+
+/** The instructions of a body of these bytes but for the last `end`, without offsets and sizes. */
+function decodedOf(code) {
+  const body = hex(`00${code}0b`);
+  const bytes = Buffer.from(body).toString('hex');
+  const sizeOf = (count) => count.toString(16).padStart(2, '0');
+  const module = moduleOf(`0a ${sizeOf(body.length + 2)} 01 ${sizeOf(body.length)} ${bytes}`);
+  return disassemble(module, 0).instructions.slice(0, -1).map(({ name, operands }) => [name, ...operands]);
+}
+
+test('operands', () => {
+  const checks = [
+    ['10 03', 'call', operand('function', 3)],
+    ['11 02 01', 'call_indirect', operand('table', 1), operand('type', 2)],
+    ['0c 04', 'br', operand('label', 4)],
+    ['0e 02 05 06 07', 'br_table', { kind: 'labels', indices: [5, 6] }, operand('label', 7)],
+    ['23 09', 'global.get', operand('global', 9)],
+    ['41 7f', 'i32.const', { kind: 'i32', value: -1 }],
+    ['42 ffffffffffffffffff00', 'i64.const', { kind: 'i64', value: 2n ** 63n - 1n }],
+    ['43 0000c03f', 'f32.const', { kind: 'f32', value: 1.5, bits: '3fc00000' }],
+    ['44 000000000000f0ff', 'f64.const', { kind: 'f64', value: -Infinity, bits: 'fff0000000000000' }],
+    [
+      '28 02 08', 'i32.load',
+      { kind: 'memory argument', of: operand('memory', 0), ordering: null, offset: 8, align_log2: 2 },
+    ],
+    [
+      '28 42 01 ffffffffffffffffff01', 'i32.load',
+      { kind: 'memory argument', of: operand('memory', 1), ordering: null, offset: 2n ** 64n - 1n, align_log2: 2 },
+    ],
+    ['fc08 03 01', 'memory.init', operand('memory', 1), operand('data', 3)],
+    ['fc0c 03 01', 'table.init', operand('table', 1), operand('element', 3)],
+    ['d0 70', 'ref.null', { kind: 'heap type', type: 'func' }],
+    ['fb15 6e', 'ref.test', { kind: 'reference type', type: '(ref null any)' }],
+    [
+      'fd0c 000102030405060708090a0b0c0d0e0f', 'v128.const',
+      { kind: 'v128', bytes: '000102030405060708090a0b0c0d0e0f' },
+    ],
+    ['fd15 07', 'i8x16.extract_lane_s', operand('lane', 7)],
+    ['1c 01 7c', 'select', { kind: 'result types', types: ['f64'] }],
+    ['fb02 01 04', 'struct.get', operand('type', 1), operand('field', 4)],
+  ];
+  for (const [code, ...expected] of checks) {
+    assert.deepEqual(decodedOf(code), [expected]);
+  }
+  assert.deepEqual(decodedOf('02 40 0b')[0], ['block', { kind: 'block type', results: [] }]);
+  assert.deepEqual(decodedOf('03 7f 0b')[0], ['loop', { kind: 'block type', results: ['i32'] }]);
+  assert.deepEqual(decodedOf('04 05 0b')[0], ['if', { kind: 'block type', type: 5 }]);
+  assert.deepEqual(decodedOf('1f 40 02 00 01 02 02 03 0b')[0], [
+    'try_table', { kind: 'block type', results: [] },
+    {
+      kind: 'catch clauses',
+      clauses: [{ kind: 'catch', tag: 1, label: 2 }, { kind: 'catch_all', tag: null, label: 3 }],
+    },
+  ]);
+});
+
+/** The lines of llvm-objdump: the offset in the code section, how many bytes, name and operand. */
+function linesOfLlvm(output) {
+  const lines = [...output.matchAll(/^ +([0-9a-f]+): ((?:[0-9a-f]{2} ?)+)\s*\t(\S+) *(?:\t([^#\n]*?) *(?:#.*)?)?$/gm)];
+  const sizeOf = (bytes) => bytes.trim().split(' ').length;
+  return lines.map(([, at, bytes, name, operands = '']) => [parseInt(at, 16), sizeOf(bytes), name, operands]);
+}
+
+const hasLlvm = (() => {
+  try {
+    return execFileSync('llvm-objdump', ['--version'], { encoding: 'utf8' }).includes('LLVM');
+  } catch {
+    return false;
+  }
+})();
+
+test('instructions as llvm-objdump has them', { skip: !hasLlvm && 'there is no llvm-objdump' }, async () => {
+  const file = path('dolzhytik.wasm');
+  const output = execFileSync('llvm-objdump', ['-d', file], { encoding: 'utf8', maxBuffer: 2 ** 28 });
+  const code = dump(new Uint8Array(await readFile(file))).find(({ id }) => id === 10);
+  const found = code.entries.flatMap(({ instructions }) => instructions);
+  const expected = linesOfLlvm(output);
+  assert(expected.length > 50_000);
+  // It prints the type of what `select` selects, which is no part of the bytes.
+  const nameOf = (name) => name.replace(/^[if](32|64)\.select$/, 'select');
+  const number = ({ kind, index, value }) => (kind === 'i32' || kind === 'i64' ? value : index);
+  const isPlain = ({ operands: [one, other] }) => one && !other && number(one) !== undefined;
+  expected.forEach(([at, bytes, name, operands], index) => {
+    const it = found[index];
+    assert.deepEqual([it.offset - code.offset, it.size, it.name], [at, bytes, nameOf(name)]);
+    if (isPlain(it) && /^-?\d+$/.test(operands)) assert.equal(`${number(it.operands[0])}`, operands);
+  });
+  assert.equal(found.length, expected.length);
+});
+
+test('a dump of what does not decode', () => {
+  checkSectionError(() => dump(moduleOf('03 02 02 00')));
+  // The first body decodes, the second does not.
+  const module = moduleOf('0a 08 02 02 00 0b 03 00 16 0b');
+  checkSectionError(() => dump(module));
+  assert.equal(disassemble(module, 0).instructions.length, 1);
+  assert.throws(() => disassemble(module, 1), DolzhytikError);
+});
+
+function checkSectionError(call) {
+  assert.throws(call, (error) => error instanceof DolzhytikError && error.offset === 8);
+}
+
+// Sizes, and modules without custom sections.
+
+test('sizes', () => {
+  const names = custom('name', '01 10 02 00 06613a3a6f6e65 01 06613a3a74776f'.replace('10', '11').replaceAll(' ', ''));
+  const module = moduleOf('0a 0b 03 02 00 0b 03 00 01 0b 02 00 0b', '0b 04 01 01 01 cc', names);
+  const found = size(module);
+  assert.deepEqual(found.sections.map(({ kind, offset, size: its }) => [kind, offset, its]), [
+    ['custom', 27, 26], ['code', 8, 13], ['data', 21, 6],
+  ]);
+  assert.deepEqual(found.functions, [
+    { index: 1, name: 'a::two', offset: 14, size: 4 },
+    { index: 0, name: 'a::one', offset: 11, size: 3 },
+    { index: 2, name: null, offset: 18, size: 3 },
+  ]);
+  assert.deepEqual(found.groups, [{ prefix: 'a', functions: 2, size: 7 }, { prefix: null, functions: 1, size: 3 }]);
+  assert.deepEqual(found.data, [{ index: 0, name: null, offset: 24, size: 3 }]);
+  const sum = found.sections.reduce((all, { size: its }) => all + its, found.header);
+  assert.equal(sum, module.length);
+  assert.equal(found.size, module.length);
+});
+
+test('prefixes and labels of names', async () => {
+  const { labelOf, prefixOf } = await import('./names.js');
+  const rows = [
+    ['core::fmt::write', 'core', 'core::fmt::write'],
+    ['<core[846817f741e54dfd]::fmt::Error as core::fmt::Debug>::fmt', 'core'],
+    ['<T as core::convert::Into<U>>::into', 'core'],
+    ['_ZN4core3fmt5write17h0123456789abcdefE', 'core', 'fmt::write'],
+    [
+      '_ZN44_$LT$$RF$T$u20$as$u20$core..fmt..Display$GT$3fmt17h0123456789abcdefE', 'core',
+      '<&T as core::fmt::Display>::fmt',
+    ],
+    ['_$LT$core..fmt..Error$u20$as$u20$core..fmt..Debug$GT$::fmt::h0123456789abcdef', 'core'],
+    ['_RNvNtCs846817f741e_4core3fmt5write', 'core', 'fmt::write'],
+    ['_RINvNtC4core3ptr13drop_in_placeNtC5alloc6StringE', 'core', 'ptr::drop_in_place'],
+    ['_RNvMs_NtC4core3fmtNtB2_9Formatter3pad', 'core'],
+    ['_RNvCs1_7___rustc12___rust_alloc', '__rustc', '__rustc::__rust_alloc'],
+    ['<alloc::vec::Vec<T,A> as core::ops::Deref>::deref', 'alloc'],
+    ['int ns::twice<int>(int)', 'ns'], ['ns::operator<(ns::C const&, ns::C const&)', 'ns'],
+    ['std::ostream& ns::operator<< <int>(std::ostream&, int)', 'ns'], ['_ZNK2ns1C3getEv', 'ns', 'C::get'],
+    ['_ZZN2ns1fEvENK3$_0clEv', 'ns'], ['_ZNSt1S1fEv', 'std'], ['_ZSt5move2IiET_S0_', 'std'],
+    ['_ZNKSt3__112basic', 'std'],
+    ['(anonymous namespace)::hidden(int)', '(anonymous namespace)'],
+    ['_ZN12_GLOBAL__N_16hiddenEi', '(anonymous namespace)'],
+    ...['', 'main', 'a.b', '::f', 'f(std::string)', '_Z5takesRN2ns1CE', '_ZN', '_ZN99999999999999999999a', '_R', '_RCs',
+      '<::', '<T as U>::f', '_$LT$T$GT$::f', 'operator new(unsigned long)'].map((name) => [name, null]),
+  ];
+  for (const [name, prefix, label] of rows) {
+    assert.equal(prefixOf(name), prefix, name);
+    if (label) assert.equal(labelOf(name), label);
+  }
+});
+
+test('strip', () => {
+  const [note, debug] = [custom('note', '01'), custom('.debug_info', '00')];
+  const reloc = custom('reloc..debug_info', '01 00');
+  const type = '01 04 01 60 00 00';
+  assert.deepEqual(strip(moduleOf(note, type, debug)), moduleOf(type));
+  assert.deepEqual(strip(moduleOf(note, type, debug), { debug: true }), moduleOf(note, type));
+  assert.deepEqual(strip(moduleOf(note, type, debug), { names: ['note'] }), moduleOf(type, debug));
+  assert.deepEqual(strip(moduleOf(note, type, debug), { keep: ['note'] }), moduleOf(note, type));
+  assert.deepEqual(strip(ADD), ADD);
+  const linking = custom('linking', '02');
+  assert.throws(() => strip(moduleOf(type, linking)), { name: 'DolzhytikError', message: /no linker takes/ });
+  assert.deepEqual(strip(moduleOf(type, linking), { all: true }), moduleOf(type));
+  // The relocations of a removed section are removed too.
+  assert.deepEqual(strip(moduleOf(type, debug, reloc), { debug: true }), moduleOf(type));
+  // Relocations that stay hold the index of a section: an empty one is in the place of `note`.
+  const kept = custom('reloc.CODE', '01 00');
+  const empty = custom('.objcopy.removed', '');
+  const withNote = moduleOf(note, type, linking, kept);
+  assert.deepEqual(strip(withNote, { names: ['note'] }), moduleOf(empty, type, linking, kept));
+  const late = moduleOf(type, linking, custom('reloc.T', '00 00'), note);
+  assert.deepEqual(strip(late, { names: ['note'] }), late.subarray(0, late.length - 8));
+  const map = custom('sourceMappingURL', '0161');
+  const code = '0a 04 01 02 00 0b';
+  assert.throws(() => strip(moduleOf(note, code, map), { names: ['note'] }), { message: /names a source map/ });
+  const ofType = custom('reloc.TYPE', '00 00');
+  assert.throws(() => strip(moduleOf(type, linking, ofType), { names: ['linking'] }), { message: /need the symbols/ });
 });
 
 // Pages.

@@ -13,6 +13,7 @@ from .instructions.table import TABLE, Case, read
 from .repository import TOP, text_of
 
 FILE = "rust/src/bin/dolzhytik/names.rs"
+SCRIPT = "rust/web/instructions.js"
 # The words before the first dot of a name.
 SPACES = (
     "i32", "i64", "f32", "f64", "v128", "i8x16", "i16x8", "i32x4", "i64x2", "f32x4", "f64x2",
@@ -131,13 +132,40 @@ pub fn roles_of(op: Op) -> &'static [Role] {{
 """
 
 
+def word_of(role: str) -> str:
+    """Returns the kind of an operand in JavaScript: `function` for `Entry(Function)`."""
+    return role.removeprefix("Entry(").removesuffix(")").lower()
+
+
+def script_file(cases: Sequence[Case]) -> str:
+    """Returns the text of the file for JavaScript. Forms of one instruction have the same name, and
+    may differ in their numbers."""
+    rows: dict[int, dict[int, str]] = {}
+    for it in cases:
+        entry = " ".join([name_of(it.call), *map(word_of, roles_of(it))])
+        rows.setdefault(it.prefix or 0, {})[it.number] = entry
+    tables = "".join(
+        f"  {prefix:#04x}: {{\n" + "".join(f"    {number}: '{entry}',\n" for number, entry in entries.items()) + "  },\n"
+        for prefix, entries in rows.items()
+    )
+    return f"""// Written by tools/text-names from tools/instructions.tsv: change that.
+/**
+ * The instructions by their prefix, or 0, and their number: the name in the text format, and what
+ * the numbers among the immediates are, in the order of their encoding.
+ */
+export const INSTRUCTIONS = {{
+{tables}}};
+"""
+
+
 def main(words: Sequence[str], usage: str, top: pathlib.Path = TOP) -> int:
-    """Writes or compares the file. `usage` is the head of the command's script."""
+    """Writes or compares the files. `usage` is the head of the command's script."""
     if list(words) not in ([], ["--check"]):
         print(usage.split("\n\n")[1], file=sys.stderr)
         return 2
     try:
-        files = {FILE: names_file(read(text_of(top / TABLE)))}
+        cases = read(text_of(top / TABLE))
+        files = {FILE: names_file(cases), SCRIPT: script_file(cases)}
     except Stop as stop:
         print(f"text-names: {stop}", file=sys.stderr)
         return 2

@@ -6,9 +6,9 @@ use crate::effect::Effect;
 use crate::encode::Encode;
 use crate::fault::{DecodeError, ReadFault};
 use crate::grammar::Grammar;
-use crate::walk::{Canonical, Walk, walk_value};
 use crate::readable::{Layout, Readable};
 use crate::refused::Result;
+use crate::walk::{Canonical, Walk, walk_value};
 use std::alloc::Allocator;
 
 /// Encodes the number as one byte.

@@ -12,10 +12,10 @@ use crate::encode::Encode;
 use crate::fault::DecodeError;
 use crate::grammar::Grammar;
 use crate::leb128::encoding_size;
-use crate::walk::{Walk, walk_whole};
 use crate::readable::{Layout, Readable};
 use crate::refused::{Refused, Result};
 use crate::shorten::Shorten;
+use crate::walk::{Walk, walk_whole};
 use crate::whole::read_before;
 use std::alloc::Allocator;
 

@@ -10,14 +10,14 @@ ghost use Rattle.wasm_base.specs.Minimal.{both_grammars};
 ghost use Rattle.wasm_base.specs.declared.fault.ReadFault.TheVariants.{Ended, TooLarge, Memory};
 ghost use Rattle.wasm_base.specs.Formats.{u32 as u32_format, u64 as u64_format, s32, s64, s33};
 
+use crate::effect::Effect;
 use crate::encode::Encode;
 use crate::fault::{DecodeError, ReadFault};
 use crate::grammar::Grammar;
-use crate::effect::Effect;
-use crate::walk::{Canonical, Walk, walk_value};
 use crate::readable::{Layout, Readable};
 use crate::refused::{Refused, Result};
 use crate::shorten::Shorten;
+use crate::walk::{Canonical, Walk, walk_value};
 use std::alloc::Allocator;
 
 /// An unsigned number below this is one group, the last one.

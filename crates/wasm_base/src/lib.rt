@@ -39,7 +39,8 @@ pub use effect::{Discard, Effect, EncodeIn};
 pub use encode::Encode;
 pub use fault::{DecodeError, ReadFault};
 pub use frames::{
-    RawBytes, SizePrefixed, SizedBytes, begin_size_prefixed, encode_section, encode_size_prefixed, prefix_size_since,
+    RawBytes, SizePrefixed, SizedBytes, begin_size_prefixed, encode_section, encode_size_prefixed,
+    prefix_size_since,
 };
 pub use grammar::{Grammar, Padded, Standard};
 pub use kind::Kind;
@@ -60,7 +61,7 @@ pub use types::{AbstractHeapType, HeapType, RefType, ValType, read_val_after};
 pub use vectors::{append_all, encode_vec};
 pub use walk::{
     Canonical, Shared, Walk, check_to_end, check_whole, minimize_many, minimize_to_end,
-    minimize_whole, skip_many, skip_value, walk_in, walk_many, walk_shared, walk_to_end, walk_value,
-    walk_whole,
+    minimize_whole, skip_many, skip_value, walk_in, walk_many, walk_shared, walk_to_end,
+    walk_value, walk_whole,
 };
 pub use whole::{read_before, read_to_end, read_whole};

@@ -8,15 +8,15 @@ ghost use Rattle.wasm_base.specs.Encodings.{longest, size_prefixed_encoding, Has
 ghost use Rattle.wasm_base.specs.Formats.{size_prefixed, any_bytes, name};
 ghost use Rattle.wasm_base.specs.Decoding.{Rejects, Unambiguous};
 
+use crate::effect::Effect;
 use crate::encode::Encode;
 use crate::fault::{DecodeError, ReadFault};
-use crate::effect::Effect;
 use crate::frames::{SizedBytes, encode_size_prefixed};
 use crate::grammar::Grammar;
-use crate::walk::Walk;
 use crate::readable::{Layout, Readable};
 use crate::refused::Result;
 use crate::shorten::Shorten;
+use crate::walk::Walk;
 use std::alloc::Allocator;
 
 /// Encodes a name: the size prefix and the UTF-8 bytes.

@@ -8,10 +8,10 @@ use crate::effect::Effect;
 use crate::encode::Encode;
 use crate::fault::DecodeError;
 use crate::grammar::Grammar;
-use crate::walk::Walk;
 use crate::readable::{Layout, Readable};
 use crate::refused::Result;
 use crate::shorten::Shorten;
+use crate::walk::Walk;
 use std::alloc::Allocator;
 
 /// Appends the encodings of both values, or of neither.

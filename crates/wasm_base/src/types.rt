@@ -17,10 +17,10 @@ use crate::encode::Encode;
 use crate::fault::{DecodeError, ReadFault};
 use crate::grammar::Grammar;
 use crate::leb128::read_index;
-use crate::walk::{Walk, walk_in};
 use crate::readable::{Layout, Readable};
 use crate::refused::Result;
 use crate::shorten::Shorten;
+use crate::walk::{Walk, walk_in};
 use std::alloc::Allocator;
 
 /// An abstract heap type, as the core specification ("Heap Types") and its proposals define it.

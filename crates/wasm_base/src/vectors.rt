@@ -10,11 +10,11 @@ use crate::effect::Effect;
 use crate::encode::Encode;
 use crate::fault::DecodeError;
 use crate::grammar::Grammar;
-use crate::walk::{Walk, walk_many};
 use crate::once::{EncodeOnce, vec_of};
 use crate::readable::{Layout, Readable};
 use crate::refused::Result;
 use crate::shorten::Shorten;
+use crate::walk::{Walk, walk_many};
 use std::alloc::Allocator;
 
 /// Encodes the members as a vector.

@@ -58,11 +58,13 @@ pub trait Shared: Shorten {
 /// Any error but `Memory` means that no such value is at the front.
 #[tactic(auto, using(crate::proofs::WalkLaws::keep_steps, crate::proofs::WalkLaws::value_walks))]
 #[inline]
-pub fn walk_value<'a, T: Readable<'a, A, G> + Canonical, A: Allocator + Copy, G: Grammar, E: Effect>(
-    bytes: &'a [u8],
-    alloc: A,
-    effect: &mut E,
-) -> Result<&'a [u8], DecodeError>
+pub fn walk_value<
+    'a,
+    T: Readable<'a, A, G> + Canonical,
+    A: Allocator + Copy,
+    G: Grammar,
+    E: Effect,
+>(bytes: &'a [u8], alloc: A, effect: &mut E) -> Result<&'a [u8], DecodeError>
     requires no_request { T.may_allocate → ⊥ }
     ensures found { IfOk result (λ rest. Walks E.seen G.grammar T.format bytes.now rest.now effect.old effect.new) }
     ensures none { IfErr result (λ e. e.cause ≢ Memory → Rejects T.format (padded_of G.grammar) bytes.now) }

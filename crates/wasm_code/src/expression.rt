@@ -7,9 +7,7 @@ ghost use Rattle.wasm_base.specs.Minimal.{builders_alone};
 
 use crate::body::append_code;
 use std::alloc::{Allocator, Global};
-use wasm_base::{
-    DecodeError, Effect, Grammar, Layout, ReadFault, Readable, Result, Shorten, Walk,
-};
+use wasm_base::{DecodeError, Effect, Grammar, Layout, ReadFault, Readable, Result, Shorten, Walk};
 use wasm_insn::Plain;
 
 /// The opcode of `End`.

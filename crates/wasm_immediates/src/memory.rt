@@ -15,7 +15,7 @@ use std::alloc::Allocator;
 use std::default::Default;
 use wasm_base::{
     Canonical, DecodeError, Effect, Encode, Grammar, Layout, ReadFault, Readable, Result, Walk,
-    walk_value, read_optional,
+    read_optional, walk_value,
 };
 
 /// The index of a lane of a vector.

@@ -15,9 +15,7 @@ ghost use Rattle.wasm_base.specs.declared.fault.ReadFault.TheVariants.{Memory};
 use crate::op::Shape;
 use crate::part::Part;
 use std::alloc::{Allocator, Global};
-use wasm_base::{
-    DecodeError, Encode, Grammar, HeapType, ReadFault, Readable, Result, ValType,
-};
+use wasm_base::{DecodeError, Encode, Grammar, HeapType, ReadFault, Readable, Result, ValType};
 use wasm_immediates::{BlockType, Catch, Handle, Ieee32, Ieee64, MemArg, Ordering};
 
 /// An argument of an instruction, decoded from one immediate of its shape.

@@ -77,12 +77,8 @@ pub(crate) fn walk_content<A: Allocator + Copy, G: Grammar, E: Effect>(
         ),
         SectionKind::Exports => walk_whole::<Vec<Export<'_>, A>, A, G, _>(bytes, alloc, effect),
         SectionKind::Functions => walk_whole::<Vec<u32, A>, A, G, _>(bytes, alloc, effect),
-        SectionKind::Globals => walk_whole::<Vec<GlobalItem<A>, A>, A, G, _>(
-            bytes, alloc, effect,
-        ),
-        SectionKind::Imports => walk_whole::<Vec<Imports<'_, A>, A>, A, G, _>(
-            bytes, alloc, effect,
-        ),
+        SectionKind::Globals => walk_whole::<Vec<GlobalItem<A>, A>, A, G, _>(bytes, alloc, effect),
+        SectionKind::Imports => walk_whole::<Vec<Imports<'_, A>, A>, A, G, _>(bytes, alloc, effect),
         SectionKind::Memories => walk_whole::<Vec<MemoryType, A>, A, G, _>(bytes, alloc, effect),
         SectionKind::Start => walk_whole::<u32, A, G, _>(bytes, alloc, effect),
         SectionKind::Tables => walk_whole::<Vec<TableItem<A>, A>, A, G, _>(bytes, alloc, effect),

@@ -19,8 +19,8 @@ ghost use Rattle.wasm_sections.specs.DataSegments.{data_items, DataItem, active,
 use crate::counted_section::{CountedSection, ItemKind};
 use std::alloc::{Allocator, Global};
 use wasm_base::{
-    DecodeError, Encode, Grammar, Kind, Layout, Lent, ReadFault, Readable, Result,
-    SectionId, Shorten, bytes_of, encode_size_prefixed, read_whole,
+    DecodeError, Encode, Grammar, Kind, Layout, Lent, ReadFault, Readable, Result, SectionId,
+    Shorten, bytes_of, encode_size_prefixed, read_whole,
 };
 use wasm_code::{ConstExpr, Expression};
 

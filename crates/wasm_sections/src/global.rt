@@ -11,8 +11,8 @@ use crate::counted_section::{CountedSection, ItemKind};
 use crate::flags::where_set;
 use std::alloc::{Allocator, Global};
 use wasm_base::{
-    DecodeError, Encode, Grammar, Kind, Layout, Lent, ReadFault, Readable, Result,
-    SectionId, Shorten, ValType,
+    DecodeError, Encode, Grammar, Kind, Layout, Lent, ReadFault, Readable, Result, SectionId,
+    Shorten, ValType,
 };
 use wasm_code::{ConstExpr, Expression};
 

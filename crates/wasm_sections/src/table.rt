@@ -12,8 +12,8 @@ use crate::flags::where_set;
 use crate::memory::Flags;
 use std::alloc::{Allocator, Global};
 use wasm_base::{
-    DecodeError, Encode, Grammar, Kind, Layout, Lent, Optional, ReadFault, Readable,
-    RefType, Result, SectionId, Shorten, ValType, read_optional,
+    DecodeError, Encode, Grammar, Kind, Layout, Lent, Optional, ReadFault, Readable, RefType,
+    Result, SectionId, Shorten, ValType, read_optional,
 };
 use wasm_code::{ConstExpr, Expression};
 

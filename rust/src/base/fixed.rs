@@ -6,9 +6,9 @@ use crate::base::effect::Effect;
 use crate::base::encode::Encode;
 use crate::base::fault::{DecodeError, ReadFault};
 use crate::base::grammar::Grammar;
-use crate::base::walk::{Canonical, Walk, walk_value};
 use crate::base::readable::{Layout, Readable};
 use crate::base::refused::Result;
+use crate::base::walk::{Canonical, Walk, walk_value};
 use crate::alloc::Allocator;
 
 /// Encodes the number as one byte.

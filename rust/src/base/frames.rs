@@ -7,10 +7,10 @@ use crate::base::encode::Encode;
 use crate::base::fault::DecodeError;
 use crate::base::grammar::Grammar;
 use crate::base::leb128::encoding_size;
-use crate::base::walk::{Walk, walk_whole};
 use crate::base::readable::{Layout, Readable};
 use crate::base::refused::{Refused, Result};
 use crate::base::shorten::Shorten;
+use crate::base::walk::{Walk, walk_whole};
 use crate::base::whole::read_before;
 use crate::alloc::Allocator;
 

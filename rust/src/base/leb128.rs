@@ -3,14 +3,14 @@
 // is decoded inline, up to five in 64 bits.
 
 use crate::vec::Sink;
+use crate::base::effect::Effect;
 use crate::base::encode::Encode;
 use crate::base::fault::{DecodeError, ReadFault};
 use crate::base::grammar::Grammar;
-use crate::base::effect::Effect;
-use crate::base::walk::{Canonical, Walk, walk_value};
 use crate::base::readable::{Layout, Readable};
 use crate::base::refused::{Refused, Result};
 use crate::base::shorten::Shorten;
+use crate::base::walk::{Canonical, Walk, walk_value};
 use crate::alloc::Allocator;
 
 /// An unsigned number below this is one group, the last one.

@@ -2,15 +2,15 @@
 // Names, and size-prefixed bytes. Decoded ones are slices of the input.
 
 use crate::vec::Sink;
+use crate::base::effect::Effect;
 use crate::base::encode::Encode;
 use crate::base::fault::{DecodeError, ReadFault};
-use crate::base::effect::Effect;
 use crate::base::frames::{SizedBytes, encode_size_prefixed};
 use crate::base::grammar::Grammar;
-use crate::base::walk::Walk;
 use crate::base::readable::{Layout, Readable};
 use crate::base::refused::Result;
 use crate::base::shorten::Shorten;
+use crate::base::walk::Walk;
 use crate::alloc::Allocator;
 
 /// Encodes a name: the size prefix and the UTF-8 bytes.

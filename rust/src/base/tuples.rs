@@ -6,10 +6,10 @@ use crate::base::effect::Effect;
 use crate::base::encode::Encode;
 use crate::base::fault::DecodeError;
 use crate::base::grammar::Grammar;
-use crate::base::walk::Walk;
 use crate::base::readable::{Layout, Readable};
 use crate::base::refused::Result;
 use crate::base::shorten::Shorten;
+use crate::base::walk::Walk;
 use crate::alloc::Allocator;
 
 /// Appends the encodings of both values, or of neither.

@@ -7,10 +7,10 @@ use crate::base::encode::Encode;
 use crate::base::fault::{DecodeError, ReadFault};
 use crate::base::grammar::Grammar;
 use crate::base::leb128::read_index;
-use crate::base::walk::{Walk, walk_in};
 use crate::base::readable::{Layout, Readable};
 use crate::base::refused::Result;
 use crate::base::shorten::Shorten;
+use crate::base::walk::{Walk, walk_in};
 use crate::alloc::Allocator;
 
 /// An abstract heap type, such as `func` or `any`, which a [`HeapType`](crate::HeapType) holds.

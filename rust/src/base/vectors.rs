@@ -6,11 +6,11 @@ use crate::base::effect::Effect;
 use crate::base::encode::Encode;
 use crate::base::fault::DecodeError;
 use crate::base::grammar::Grammar;
-use crate::base::walk::{Walk, walk_many};
 use crate::base::once::{EncodeOnce, vec_of};
 use crate::base::readable::{Layout, Readable};
 use crate::base::refused::Result;
 use crate::base::shorten::Shorten;
+use crate::base::walk::{Walk, walk_many};
 use crate::alloc::Allocator;
 
 /// Encodes the members as a vector.

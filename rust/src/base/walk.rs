@@ -166,11 +166,13 @@ pub trait Shared: Shorten {
 ///
 /// Definitions: [`Walks`](crate::definitions::base::walks::Walks), [`Rejects`](crate::definitions::base::decoding::Rejects), [`padded_of`](crate::definitions::base::numbers::padded_of), [`Keeps`](crate::definitions::base::walks::Keeps). [How to read clauses](crate::definitions).
 #[inline]
-pub fn walk_value<'a, T: Readable<'a, A, G> + Canonical, A: Allocator + Copy, G: Grammar, E: Effect>(
-    bytes: &'a [u8],
-    alloc: A,
-    effect: &mut E,
-) -> Result<&'a [u8], DecodeError> {
+pub fn walk_value<
+    'a,
+    T: Readable<'a, A, G> + Canonical,
+    A: Allocator + Copy,
+    G: Grammar,
+    E: Effect,
+>(bytes: &'a [u8], alloc: A, effect: &mut E) -> Result<&'a [u8], DecodeError> {
     T::canonical();
     let (value, rest) = T::read(bytes, alloc)?;
     effect.put(&value)?;

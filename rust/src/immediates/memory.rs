@@ -4,7 +4,7 @@
 use crate::vec::Sink;
 use crate::alloc::Allocator;
 use core::default::Default;
-use crate::base::{Canonical, DecodeError, Effect, Encode, Grammar, Layout, ReadFault, Readable, Result, Walk, walk_value, read_optional};
+use crate::base::{Canonical, DecodeError, Effect, Encode, Grammar, Layout, ReadFault, Readable, Result, Walk, read_optional, walk_value};
 
 /// The index of a lane of a vector, which calls such as
 /// [`InstructionSink::i8x16_replace_lane`](crate::InstructionSink::i8x16_replace_lane) take. It

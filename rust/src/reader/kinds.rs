@@ -1,5 +1,5 @@
 // Written by tools/to-rust from crates/wasm_reader/src/kinds.rt: change that.
-// Kinds of sections: the reader and the minimizer of each.
+// Kinds of sections: the reader of each, and the encoder of its items.
 
 use crate::vec::{Sink, Vec};
 use crate::alloc::{Allocator, Global};

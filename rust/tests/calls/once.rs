@@ -11,3 +11,4 @@ mod objects;
 mod reader;
 mod sections;
 mod types;
+mod walks;

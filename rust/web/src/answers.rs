@@ -6,11 +6,14 @@ use crate::failure::{Cause, Failure, Place};
 use crate::found::Found;
 use crate::sections::sections_from;
 use dolzhytik::fallible::recipe::assemble_versioned;
-use dolzhytik::fallible::{Global, Vec};
-use dolzhytik::reader::{self, ModuleFault, Offsets, Outlined, shorten_module};
+use dolzhytik::fallible::{AllocError, Encode, Global, Vec};
+use dolzhytik::reader::{self, ModuleFault, Offsets, Outlined, ReadFault, shorten_module};
 
 /// The status of a block that has what was asked for.
 pub const DONE: u32 = 0;
+
+/// The size of the header of a module.
+const HEADER: usize = 8;
 
 /// A block, or why there is none.
 pub type Answer<'a> = Result<Vec<u8>, Failure<'a>>;
@@ -88,11 +91,36 @@ fn why_not(module: &[u8], fault: ModuleFault) -> Failure<'_> {
     }
 }
 
-/// The minimal encoding of a module.
-pub fn minimize(module: &[u8], drops_offsets: u32) -> Answer<'_> {
-    let offsets = match drops_offsets {
+/// The minimal encoding of a module of one section, whatever offsets it holds. A section that does
+/// not decode is kept.
+fn minimize_section(module: &[u8]) -> Answer<'_> {
+    let mut sections = sections_from(module, 1).ok_or_else(|| no_module(module, 0))?;
+    let Some(Ok(section)) = sections.next() else {
+        return Err(no_module(module, 1));
+    };
+    let (mut block, mut payload) = (Block::new(DONE)?, Vec::new(Global));
+    match section.minimize(&mut payload) {
+        Ok(()) => {
+            let (front, _) = module.split_at(HEADER);
+            block.bytes.extend_from_slice(front)?;
+            block.bytes.extend_from_slice(&[section.id()])?;
+            let size = u32::try_from(payload.len()).map_err(|_| AllocError)?;
+            size.encode(&mut block.bytes).map_err(|_| AllocError)?;
+            block.bytes.extend_from_slice(&payload)?;
+        }
+        Err(error) if matches!(error.cause, ReadFault::Memory) => return Err(AllocError.into()),
+        Err(_) => block.bytes.extend_from_slice(module)?,
+    }
+    Ok(block.finish()?)
+}
+
+/// The minimal encoding of a module. `choice` is 0 to fail if offsets would become wrong, 1 to
+/// leave them out, or 2 for a module of one section that has offsets.
+pub fn minimize(module: &[u8], choice: u32) -> Answer<'_> {
+    let offsets = match choice {
         0 => Offsets::Refuse,
-        _ => Offsets::LeaveOut,
+        1 => Offsets::LeaveOut,
+        _ => return minimize_section(module),
     };
     let mut block = Block::new(DONE)?;
     shorten_module(Global, module, offsets, &mut block.bytes)
@@ -112,10 +140,23 @@ fn text_of(recipe: &[u8]) -> Result<&str, Failure<'_>> {
     })
 }
 
+/// A block with a module.
+fn block_of<'a>(module: &[u8]) -> Answer<'a> {
+    let mut block = Block::new(DONE)?;
+    block.bytes.extend_from_slice(module)?;
+    Ok(block.finish()?)
+}
+
 /// The module of a recipe of either version.
 pub fn module_of(recipe: &[u8]) -> Answer<'_> {
-    let module = assemble_versioned(Global, text_of(recipe)?)?;
-    let mut block = Block::new(DONE)?;
-    block.bytes.extend_from_slice(&module)?;
-    Ok(block.finish()?)
+    block_of(&assemble_versioned(Global, text_of(recipe)?)?)
+}
+
+/// The module of a recipe of version 1. It is the call of the page's example, which is small.
+#[cfg(feature = "example")]
+pub fn module_of_version_1(recipe: &[u8]) -> Answer<'_> {
+    block_of(&dolzhytik::fallible::recipe::assemble(
+        Global,
+        text_of(recipe)?,
+    )?)
 }

@@ -4,7 +4,6 @@
 //! of a block, or 0 where memory is refused. The caller frees both by `dz_free`.
 use crate::answers::{self, Answer};
 use crate::heap::{ALIGNMENT, Heap, Memory};
-use crate::items;
 use core::alloc::{GlobalAlloc, Layout};
 use core::arch::wasm32::{memory_grow, memory_size, unreachable};
 use core::cell::UnsafeCell;
@@ -172,10 +171,19 @@ macro_rules! calls {
     };
 }
 
+// The example of the page has one call.
+#[cfg(feature = "example")]
 calls! {
+    dz_assemble() => answers::module_of_version_1;
+}
+
+#[cfg(not(feature = "example"))]
+calls! {
+    dz_assemble() => answers::module_of;
     dz_outline() => answers::outline;
     dz_list() => answers::list;
-    dz_minimize(drops_offsets) => answers::minimize;
-    dz_assemble() => answers::module_of;
-    dz_items(index limit) => items::items;
+    dz_minimize(choice) => answers::minimize;
+    dz_items(index limit) => crate::items::items;
+    dz_dump(index limit) => crate::items::dump;
+    dz_instructions(limit) => crate::instructions::instructions;
 }

@@ -4,6 +4,7 @@
 use crate::answers::{Answer, DONE, at, no_module};
 use crate::block::Block;
 use crate::failure::{Cause, Failure};
+use crate::fields::{Fields, FieldsOf, Locals, Quoted};
 use crate::read::read;
 use crate::sections::sections_from;
 use crate::texts::{Count, Show, Text};
@@ -21,6 +22,8 @@ struct List {
     block: Block,
     count: u32,
     limit: u32,
+    /// Whether items have fields beside their texts.
+    has_fields: bool,
 }
 
 /// Bytes of a section, up to this offset.
@@ -31,26 +34,37 @@ struct Part<'a> {
 }
 
 impl List {
-    fn new(limit: u32) -> Result<Self, AllocError> {
+    fn new(limit: u32, has_fields: bool) -> Result<Self, AllocError> {
         let mut block = Block::new(DONE)?;
         block.word(0)?;
         Ok(List {
             block,
             count: 0,
             limit,
+            has_fields,
         })
     }
 
     /// Appends an item, unless the limit is reached: a part that begins with it, the bytes behind
-    /// it, and its text.
-    fn add(&mut self, part: Part<'_>, rest: &[u8], text: impl Display) -> Result<(), AllocError> {
+    /// it, its text, and its fields if they are asked for.
+    fn add(
+        &mut self,
+        part: Part<'_>,
+        rest: &[u8],
+        text: &dyn Display,
+        fields: &dyn Display,
+    ) -> Result<(), AllocError> {
         if self.count == self.limit {
             return Ok(());
         }
         self.count += 1;
         self.block.size(part.end - part.bytes.len())?;
         self.block.size(part.bytes.len() - rest.len())?;
-        self.block.text(text)
+        self.block.text(text)?;
+        if self.has_fields {
+            self.block.text(fields)?;
+        }
+        Ok(())
     }
 
     fn finish(mut self) -> Result<Vec<u8>, AllocError> {
@@ -82,12 +96,12 @@ impl<'a> Part<'a> {
 }
 
 /// Appends the item at the front, and returns the part behind it.
-fn one<'a, T: Readable<'a, Global, Standard> + Show>(
+fn one<'a, T: Readable<'a, Global, Standard> + Show + Fields>(
     part: Part<'a>,
     list: &mut List,
 ) -> Result<Part<'a>, ReadFault> {
     let (item, rest) = part.read::<T>()?;
-    list.add(part, rest.bytes, Text(&item))?;
+    list.add(part, rest.bytes, &Text(&item), &FieldsOf(&item))?;
     Ok(rest)
 }
 
@@ -104,7 +118,7 @@ fn counted<'a>(
     rest.at_end()
 }
 
-fn all<'a, T: Readable<'a, Global, Standard> + Show>(
+fn all<'a, T: Readable<'a, Global, Standard> + Show + Fields>(
     part: Part<'a>,
     list: &mut List,
 ) -> Result<(), ReadFault> {
@@ -120,20 +134,35 @@ fn body<'a>(number: u32, part: Part<'a>, list: &mut List) -> Result<Part<'a>, Re
     while instructions.next()?.is_some() {
         count += 1;
     }
-    let count = Count(count, "instruction");
+    let instructions = Count(count, "instruction");
     list.add(
         part,
         rest.bytes,
-        format_args!("body {number}: {locals}, {count}"),
+        &format_args!("body {number}: {locals}, {instructions}"),
+        &format_args!(
+            "{{\"body\":{},\"locals\":{},\"instruction_count\":{count}}}",
+            framed.bytes.len(),
+            Locals(&runs)
+        ),
     )?;
     Ok(rest)
 }
 
-/// Appends a function type index, a start function or a data count.
-fn index<'a>(part: Part<'a>, list: &mut List, text: [&str; 2]) -> Result<Part<'a>, ReadFault> {
+/// Appends a number, which has this name as a field: a function type index, a start function or a
+/// data count.
+fn index<'a>(
+    part: Part<'a>,
+    list: &mut List,
+    [before, behind]: [&str; 2],
+    field: &str,
+) -> Result<Part<'a>, ReadFault> {
     let (index, rest) = part.read::<u32>()?;
-    let [before, behind] = text;
-    list.add(part, rest.bytes, format_args!("{before}{index}{behind}"))?;
+    list.add(
+        part,
+        rest.bytes,
+        &format_args!("{before}{index}{behind}"),
+        &format_args!("{{\"{field}\":{index}}}"),
+    )?;
     Ok(rest)
 }
 
@@ -157,14 +186,39 @@ fn named(id: u8) -> [&'static str; 2] {
     }
 }
 
-/// Appends a name map, each of whose names is an item.
-fn name_map<'a>(part: Part<'a>, list: &mut List, of: impl Display) -> Result<Part<'a>, ReadFault> {
+/// Appends a name map, each of whose names is an item. `of` is the text before an index, and
+/// `fields` are those before it.
+fn name_map<'a>(
+    part: Part<'a>,
+    list: &mut List,
+    of: impl Display,
+    fields: impl Display,
+) -> Result<Part<'a>, ReadFault> {
     let (count, mut rest) = part.read::<u32>()?;
     for _ in 0..count {
         let ((index, name), after) = rest.read::<(u32, &str)>()?;
-        list.add(rest, after.bytes, format_args!("{of} {index}: {name:?}"))?;
+        list.add(
+            rest,
+            after.bytes,
+            &format_args!("{of} {index}: {name:?}"),
+            &format_args!("{{{fields},\"index\":{index},\"name\":{}}}", Quoted(name)),
+        )?;
         rest = after;
     }
+    Ok(rest)
+}
+
+/// Appends a subsection whose items are not decoded.
+fn other<'a>(part: Part<'a>, list: &mut List) -> Result<Part<'a>, ReadFault> {
+    let (id, content) = part.read::<u8>()?;
+    let (content, rest) = content.framed()?;
+    let size = Count(content.bytes.len() as u64, "byte");
+    list.add(
+        part,
+        rest.bytes,
+        &format_args!("subsection {id}: {size}"),
+        &format_args!("{{\"subsection\":{id}}}"),
+    )?;
     Ok(rest)
 }
 
@@ -175,17 +229,26 @@ fn subsection<'a>(part: Part<'a>, list: &mut List) -> Result<Part<'a>, ReadFault
     match (id, named(id)) {
         (0, _) => {
             let (name, after) = content.read::<&str>()?;
-            list.add(content, after.bytes, format_args!("module: {name:?}"))?;
+            list.add(
+                content,
+                after.bytes,
+                &format_args!("module: {name:?}"),
+                &format_args!("{{\"space\":\"module\",\"name\":{}}}", Quoted(name)),
+            )?;
             after.at_end()?;
         }
-        (_, ["", _]) => {
-            let size = Count(content.bytes.len() as u64, "byte");
-            list.add(part, rest.bytes, format_args!("subsection {id}: {size}"))?;
+        (_, ["", _]) => return other(part, list),
+        (_, [what, ""]) => {
+            name_map(content, list, what, format_args!("\"space\":\"{what}\""))?.at_end()?;
         }
-        (_, [what, ""]) => name_map(content, list, what)?.at_end()?,
         (_, [what, inner]) => counted(content, |_, rest| {
             let (index, rest) = rest.read::<u32>()?;
-            name_map(rest, list, format_args!("{what} {index}, {inner}"))
+            name_map(
+                rest,
+                list,
+                format_args!("{what} {index}, {inner}"),
+                format_args!("\"space\":\"{inner}\",\"of\":{index}"),
+            )
         })?,
     }
     Ok(rest)
@@ -217,6 +280,10 @@ fn custom(part: Part<'_>, list: &mut List) -> Result<(), ReadFault> {
             };
             to_end(rest, |rest| one::<LinkItem>(rest, list))
         }
+        "dylink.0" => to_end(rest, |rest| other(rest, list)),
+        name if name.starts_with("reloc.") => {
+            index(rest, list, ["relocations of section ", ""], "section").map(drop)
+        }
         _ => Ok(()),
     }
 }
@@ -231,16 +298,18 @@ fn append(section: Section<'_>, list: &mut List) -> Result<(), ReadFault> {
         0 => custom(part, list),
         1 => all::<TypeEntry>(part, list),
         2 => all::<Imports<'_>>(part, list),
-        3 => counted(part, |_, rest| index(rest, list, ["(func (type ", "))"])),
+        3 => counted(part, |_, rest| {
+            index(rest, list, ["(func (type ", "))"], "type")
+        }),
         4 => all::<TableItem>(part, list),
         5 => all::<MemoryType>(part, list),
         6 => all::<GlobalItem>(part, list),
         7 => all::<Export<'_>>(part, list),
-        8 => index(part, list, ["(start ", ")"])?.at_end(),
+        8 => index(part, list, ["(start ", ")"], "function")?.at_end(),
         9 => all::<ElementItem>(part, list),
         10 => counted(part, |number, rest| body(number, rest, list)),
         11 => all::<Segment<'_>>(part, list),
-        12 => index(part, list, ["", " data segments"])?.at_end(),
+        12 => index(part, list, ["", " data segments"], "count")?.at_end(),
         13 => all::<TagType>(part, list),
         _ => Ok(()),
     }
@@ -259,18 +328,34 @@ fn section_at(module: &[u8], index: u32) -> Result<Option<Section<'_>>, Failure<
     Ok(found)
 }
 
+/// The items of the section at this index up to the first that does not decode, and whether there
+/// is such an item.
+fn listed<'a>(module: &'a [u8], index: u32, mut list: List) -> Result<(List, bool), Failure<'a>> {
+    let Some(section) = section_at(module, index)? else {
+        return Ok((list, false));
+    };
+    match append(section, &mut list) {
+        Ok(()) => Ok((list, false)),
+        Err(ReadFault::Memory) => Err(at(module, index as usize + 1, Cause::Memory)),
+        Err(_) => Ok((list, true)),
+    }
+}
+
 /// The first items of the section at this index, or none where it does not decode.
 pub fn items(module: &[u8], index: u32, limit: u32) -> Answer<'_> {
-    let section = section_at(module, index)?;
-    let mut list = List::new(limit)?;
-    if let Some(section) = section {
-        match append(section, &mut list) {
-            Ok(()) => {}
-            Err(ReadFault::Memory) => {
-                return Err(at(module, index as usize + 1, Cause::Memory));
-            }
-            Err(_) => list = List::new(limit)?,
-        }
-    }
+    let (list, is_cut) = listed(module, index, List::new(limit, false)?)?;
+    let list = if is_cut {
+        List::new(limit, false)?
+    } else {
+        list
+    };
+    Ok(list.finish()?)
+}
+
+/// The items of the section at this index with their fields, up to the first that does not decode.
+/// Behind them is whether there is such an item.
+pub fn dump(module: &[u8], index: u32, limit: u32) -> Answer<'_> {
+    let (mut list, is_cut) = listed(module, index, List::new(limit, true)?)?;
+    list.block.word(u32::from(is_cut))?;
     Ok(list.finish()?)
 }

@@ -1,14 +1,19 @@
 //! The WebAssembly module of the JavaScript package. `border` has what JavaScript calls; the other
 //! modules are safe Rust, and their tests run on any platform.
 #![cfg_attr(target_arch = "wasm32", no_std)]
-#![cfg_attr(not(target_arch = "wasm32"), allow(dead_code))]
+#![cfg_attr(
+    any(not(target_arch = "wasm32"), feature = "example"),
+    allow(dead_code)
+)]
 
 mod answers;
 mod block;
 mod failure;
+mod fields;
 #[path = "../../src/bin/dolzhytik/found.rs"]
 mod found;
 mod heap;
+mod instructions;
 mod items;
 #[path = "../../src/bin/dolzhytik/kind_name.rs"]
 mod kind_name;

@@ -86,11 +86,27 @@ class Both:
             return same([*words], path, answer, {'message': message})
         return same([*words], path, answer, {'result': None}) and same([*words], path, first.read_bytes(), second.read_bytes())
 
+    def with_options(self, path: pathlib.Path, request: dict, words: tuple[str, ...]) -> bool:
+        """Compares written modules, and whether there is one. The messages differ, since the options
+        do."""
+        first, second = self.outputs
+        answer = self.of_package(**request, input=str(path), output=str(first))
+        _, message = self.of_program(path, *words, path, '-o', second)
+        if 'message' in answer or message is not None:
+            return same([*words], path, 'message' in answer, message is not None)
+        return same([*words], path, first.read_bytes(), second.read_bytes())
+
     def module(self, path: pathlib.Path) -> bool:
         """Compares the answers of all calls for a module."""
+        with_options = [
+            self.with_options(path, {'call': 'strip', 'options': {}}, ('strip',)),
+            self.with_options(path, {'call': 'strip', 'options': {'all': True}}, ('strip', '--all')),
+            self.with_options(path, {'call': 'strip', 'options': {'debug': True}}, ('strip', '--debug')),
+            self.with_options(path, {'call': 'minimize', 'keepCode': True}, ('shorten', '--keep-code')),
+        ]
         minimal = self.written(path, {'call': 'minimize'}, ('shorten',))
         without_offsets = self.written(path, {'call': 'minimize', 'dropOffsets': True}, ('shorten', '--drop-offsets'))
-        return self.outline(path) and self.list(path) and minimal and without_offsets
+        return self.outline(path) and self.list(path) and minimal and without_offsets and all(with_options)
 
     def recipe(self, path: pathlib.Path) -> bool:
         """Compares the modules of a recipe."""

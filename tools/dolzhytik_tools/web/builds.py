@@ -12,6 +12,7 @@ from ..wasm32.target import OUT, TARGET, cargo
 WEB = TOP / 'rust/web'
 MANIFEST = str(WEB / 'Cargo.toml')
 MODULE = WEB / 'dolzhytik.wasm'
+EXAMPLE = WEB / 'example.wasm'
 
 
 def native(*words: str) -> str:
@@ -21,7 +22,11 @@ def native(*words: str) -> str:
 
 
 def build() -> None:
-    """Builds the module of the package."""
+    """Builds the example of the page, and the module of the package. The example has one call, and
+    names of functions."""
+    named = ['--config', 'profile.release.strip="debuginfo"', '--config', 'profile.release.opt-level="z"']
+    cargo('build', '--locked', '--manifest-path', MANIFEST, '--features', 'example', *named)
+    shutil.copyfile(OUT / TARGET / 'release/dolzhytik_web.wasm', EXAMPLE)
     cargo('build', '--locked', '--manifest-path', MANIFEST)
     shutil.copyfile(OUT / TARGET / 'release/dolzhytik_web.wasm', MODULE)
 

@@ -31,7 +31,7 @@ pub fn run(command: Command) -> Result<(), Failure> {
             choice,
             format,
         } => shorten::dry_run(&input, choice, format),
-        Command::Dump { input, choice } => dump::dump(&input, &input.read()?, &choice),
+        Command::Dump { input, choice } => list(&input, &choice),
         Command::Size {
             input,
             functions,
@@ -60,6 +60,14 @@ pub fn run(command: Command) -> Result<(), Failure> {
 
 fn print(text: &str) -> Result<(), Failure> {
     Output::Standard.write(text.as_bytes())
+}
+
+/// Lists what a module has.
+fn list(input: &Input, choice: &dump::Choice) -> Result<(), Failure> {
+    let bytes = input.read()?;
+    let progress = Progress::of_printing(bytes.len());
+    progress.begin("listing");
+    dump::dump(input, &bytes, choice)
 }
 
 // ---- sizes

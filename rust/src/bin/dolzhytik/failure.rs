@@ -4,6 +4,7 @@ use crate::files::{Input, Output};
 use crate::found::Found;
 use crate::growth::Limit;
 use crate::misuse::Misuse;
+use crate::progress;
 use crate::strip::Obstacle;
 use dolzhytik::fallible::recipe::RecipeFault;
 use dolzhytik::reader::{ReadError, ReadFault};
@@ -258,6 +259,7 @@ impl Failure {
 
 /// Prints a failure on standard error. If that fails, the exit status still says it.
 pub fn report(failure: &Failure) {
+    progress::clear();
     let _ = writeln!(io::stderr(), "dolzhytik: {failure}");
 }
 

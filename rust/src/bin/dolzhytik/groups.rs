@@ -179,7 +179,7 @@ fn of_rust(rest: &str) -> Option<&str> {
     let mut rest = rest;
     loop {
         rest = match rest.as_bytes() {
-            [b'C', ..] => return counted(after_disambiguator(&rest[1..])?),
+            [b'C', ..] => return identifier(after_disambiguator(&rest[1..])?),
             // A path, with the letter of its namespace.
             [b'N', letter, ..] if letter.is_ascii_alphabetic() => &rest[2..],
             // A path with arguments.
@@ -189,6 +189,15 @@ fn of_rust(rest: &str) -> Option<&str> {
             _ => return None,
         };
     }
+}
+
+/// An identifier after its length. An underscore is before one that begins with an underscore or a
+/// digit.
+fn identifier(text: &str) -> Option<&str> {
+    let end = text.find(|c: char| !c.is_ascii_digit())?;
+    let length: usize = text[..end].parse().ok()?;
+    let begin = end + usize::from(text[end..].starts_with('_'));
+    text.get(begin..begin.checked_add(length)?)
 }
 
 /// What follows a disambiguator of Rust, if there is one.
@@ -245,6 +254,7 @@ mod tests {
             "alloc",
             &["<alloc::vec::Vec<T,A> as core::ops::Deref>::deref"],
         );
+        check("__rustc", &["_RNvCs1_7___rustc12___rust_alloc"]);
     }
 
     #[test]

@@ -1,0 +1,54 @@
+// Written by tools/to-rust from crates/calls/src/once/walks.rt: change that.
+//! Walks over values and payloads, with both effects.
+
+use dolzhytik::fallible::Vec;
+use dolzhytik::fallible::Allocator;
+use dolzhytik::reader::{DecodeError, Discard, Padded, Standard, check_to_end, minimize_many, minimize_to_end, minimize_whole, skip_value, walk_many};
+use dolzhytik::fallible::{check_dylink, check_features, check_hints, check_instances, check_links, check_modules, check_names, check_producers, check_relocations, check_stack, minimize_dylink, minimize_features, minimize_hints, minimize_instances, minimize_links, minimize_modules, minimize_names, minimize_producers, minimize_relocations, minimize_stack};
+use dolzhytik::reader::Plain;
+
+pub fn skipped<A: Allocator + Copy>(bytes: &[u8], alloc: A) -> Result<(), DecodeError> {
+    let _rest = skip_value::<u32, A, Padded>(bytes, alloc)?;
+    let (_count, _rest) = walk_many::<u32, A, Padded, _>(bytes, alloc, &mut Discard)?;
+    check_to_end::<Plain<A>, A, Padded>(bytes, alloc)
+}
+
+pub fn minimized<A: Allocator + Copy>(
+    bytes: &[u8],
+    alloc: A,
+    sink: &mut Vec<u8, A>,
+) -> Result<(), DecodeError> {
+    let _rest = minimize_many::<u32, A, Padded, _>(bytes, alloc, sink)?;
+    minimize_whole::<u32, A, Padded, _>(bytes, alloc, sink)?;
+    minimize_to_end::<Plain<A>, A, Padded, _>(bytes, alloc, sink)
+}
+
+pub fn checked_payloads<A: Allocator + Copy>(bytes: &[u8], alloc: A) -> Result<(), DecodeError> {
+    check_names::<A, Standard>(bytes, alloc)?;
+    check_links::<A, Standard>(bytes, alloc)?;
+    check_dylink::<A, Standard>(bytes, alloc)?;
+    check_producers::<A, Standard>(bytes, alloc)?;
+    check_features::<A, Standard>(bytes, alloc)?;
+    check_hints::<A, Standard>(bytes, alloc)?;
+    check_relocations::<A, Standard>(bytes, alloc)?;
+    check_modules::<A, Standard>(bytes, alloc)?;
+    check_instances::<A, Standard>(bytes, alloc)?;
+    check_stack::<A, Standard>(bytes, alloc)
+}
+
+pub fn minimized_payloads<A: Allocator + Copy>(
+    bytes: &[u8],
+    alloc: A,
+    sink: &mut Vec<u8, A>,
+) -> Result<(), DecodeError> {
+    minimize_names::<A, Standard, _>(bytes, alloc, sink)?;
+    minimize_links::<A, Standard, _>(bytes, alloc, sink)?;
+    minimize_dylink::<A, Standard, _>(bytes, alloc, sink)?;
+    minimize_producers::<A, Standard, _>(bytes, alloc, sink)?;
+    minimize_features::<A, Standard, _>(bytes, alloc, sink)?;
+    minimize_hints::<A, Standard, _>(bytes, alloc, sink)?;
+    minimize_relocations::<A, Standard, _>(bytes, alloc, sink)?;
+    minimize_modules::<A, Standard, _>(bytes, alloc, sink)?;
+    minimize_instances::<A, Standard, _>(bytes, alloc, sink)?;
+    minimize_stack::<A, Standard, _>(bytes, alloc, sink)
+}

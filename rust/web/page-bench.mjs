@@ -1,0 +1,116 @@
+#!/usr/bin/env node
+// Measures the page in chromium: how long a module of 50 MB takes to open, a treemap of 20,000
+// functions to draw, and a step of scrolling 80,000 functions.
+//
+//     rust/web/page-bench.mjs
+//
+// It prints a line for each, and fails at none. The exit status is 77 if there is no chromium, or
+// no dolzhytik.wasm.
+import fs from 'node:fs';
+import os from 'node:os';
+import path from 'node:path';
+import { Browser, findChromium } from './chromium.mjs';
+import { groupedModule } from './modules.mjs';
+import { Page, serve } from './tab.mjs';
+
+const room = fs.mkdtempSync(path.join(os.tmpdir(), 'dolzhytik-bench-'));
+const hasParts = () => document.querySelectorAll('#map .part').length > 0;
+const isPainted = () => new Promise((done) => requestAnimationFrame(() => setTimeout(() => done(true))));
+
+function fileOf(name, bytes) {
+  const file = path.join(room, name);
+  fs.writeFileSync(file, bytes);
+  return file;
+}
+
+const said = (ms, what) => console.log(`${ms.toFixed().padStart(6)} ms  ${what}`);
+
+async function open(page, file, what) {
+  const start = performance.now();
+  await page.choose(file);
+  await page.run(isPainted);
+  said(performance.now() - start, `${what}: the table is painted`);
+  await page.until(hasParts);
+  await page.run(isPainted);
+  said(performance.now() - start, `${what}: the functions are in the treemap`);
+}
+
+/** Goes into the code section of the treemap. Runs in the page. */
+async function drawCode() {
+  const start = performance.now();
+  document.querySelector('#map .cell').click();
+  document.getElementById('map').getBoundingClientRect();
+  const drawn = performance.now() - start;
+  await new Promise((done) => requestAnimationFrame(() => setTimeout(done)));
+  const cells = document.querySelectorAll('#map .cell, #map .part').length;
+  return { drawn, painted: performance.now() - start, cells };
+}
+
+/**
+ * The times of 120 steps through a list, each of which draws other rows and lays them out: the
+ * median and the longest. Runs in the page.
+ */
+async function scrollList() {
+  const list = document.getElementById('items');
+  const times = [];
+  for (let step = 0; step < 120; step += 1) {
+    const start = performance.now();
+    list.scrollTop = (list.scrollHeight * step) / 120;
+    list.dispatchEvent(new Event('scroll'));
+    list.getBoundingClientRect();
+    times.push(performance.now() - start);
+    await new Promise((done) => requestAnimationFrame(done));
+  }
+  times.sort((a, b) => a - b);
+  const rows = Number(document.querySelector('#items .item').getAttribute('aria-setsize'));
+  return { median: times[60], longest: times.at(-1), rows };
+}
+
+async function measureTreemap(page, groups) {
+  const what = `20,000 functions in ${groups === 1 ? '1 group' : `${groups} groups`}`;
+  await open(page, fileOf('grouped.wasm', groupedModule(20_000, 2_000_000, groups)), `2 MB, ${what}`);
+  const { drawn, painted, cells } = await page.run(drawCode);
+  said(drawn, `treemap of ${what}: drawn, ${cells} boxes`);
+  said(painted, 'the same: painted');
+}
+
+async function measure(page) {
+  await page.resize(1280, 800);
+  await measureTreemap(page, 40);
+  await measureTreemap(page, 1);
+  const file = fileOf('large.wasm', groupedModule(80_000, 50_000_000));
+  await open(page, file, `${(fs.statSync(file).size / 1e6).toFixed(1)} MB, 80,000 functions`);
+  await page.until(() => document.getElementById('saving').textContent !== 'Minimizing');
+  await page.run(() => document.querySelector('#sections tbody tr[data-index="2"]').click());
+  await page.until(() => document.getElementById('items-facts').textContent === '80,000');
+  await page.run(isPainted);
+  for (let round = 1; round <= 3; round += 1) {
+    const { median, longest, rows } = await page.run(scrollList);
+    const what = `a step of scrolling ${rows.toLocaleString('en-US')} rows, round ${round}`;
+    said(median, `${what}: the median of 120`);
+    said(longest, `${what}: the longest`);
+  }
+}
+
+async function main(chromium) {
+  const server = await serve();
+  const browser = new Browser(chromium, room);
+  try {
+    const page = new Page(browser, room, null);
+    await page.start(`http://127.0.0.1:${server.address().port}`);
+    await measure(page);
+    return 0;
+  } finally {
+    await browser.close();
+    server.close();
+  }
+}
+
+const chromium = findChromium();
+const isBuilt = fs.existsSync(new URL('./dolzhytik.wasm', import.meta.url));
+if (!chromium || !isBuilt) console.log(`not run: there is no ${chromium ? 'dolzhytik.wasm' : 'chromium'}`);
+try {
+  process.exitCode = chromium && isBuilt ? await main(chromium) : 77;
+} finally {
+  fs.rmSync(room, { recursive: true, force: true });
+}

@@ -1,0 +1,44 @@
+// The worker that makes all calls of the package, so that the page stays responsive.
+
+/** A worker, and its calls that have not returned. */
+export class Engine {
+  #worker = null;
+  #waiting = new Map();
+  #calls = 0;
+
+  call(call, ...values) {
+    if (!this.#worker) this.#start();
+    const id = (this.#calls += 1);
+    return new Promise((resolve, reject) => {
+      this.#waiting.set(id, { resolve, reject });
+      this.#worker.postMessage({ id, call, values });
+    });
+  }
+
+  /** Ends the worker if it is at work. Its calls never return. */
+  stop() {
+    if (this.#waiting.size === 0) return;
+    this.#worker.terminate();
+    this.#worker = null;
+    this.#waiting.clear();
+  }
+
+  #start() {
+    this.#worker = new Worker(new URL('./worker.js', import.meta.url), { type: 'module' });
+    this.#worker.onmessage = ({ data: { id, value, error } }) => {
+      const { resolve, reject } = this.#waiting.get(id);
+      this.#waiting.delete(id);
+      if (error) reject(error);
+      else resolve(value);
+    };
+    this.#worker.onerror = () => {
+      const waiting = [...this.#waiting.values()];
+      this.#waiting.clear();
+      this.#worker = null;
+      waiting.forEach(({ reject }) => reject({ message: 'worker.js does not start as a worker' }));
+    };
+  }
+}
+
+export const reader = new Engine();
+export const minimizer = new Engine();

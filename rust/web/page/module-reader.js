@@ -1,0 +1,163 @@
+// What the worker reads of a module, as far as it decodes.
+import { DolzhytikError, list, outline } from '../dolzhytik.js';
+import { Indices, entriesOf, instructionsOf } from '../dump.js';
+import { Names } from '../names.js';
+import { sized } from '../sizes.js';
+import { HEADER_SIZE, MOST_ITEMS } from './limits.js';
+
+/** Sections that name and type functions and other entries, and those whose items have sizes. */
+const isNaming = ({ id, name }) => [1, 2, 3, 7].includes(id) || (id === 0 && (name === 'name' || name === 'linking'));
+const isSized = ({ id }) => id === 10 || id === 11;
+
+/** The texts of the types of functions, by the index of the function. */
+function typesOf(sections) {
+  const entries = (id) => sections.filter((section) => section.id === id).flatMap((section) => section.entries);
+  const types = entries(1).map(({ text }) => text);
+  const functions = [...entries(2).filter(({ kind }) => kind === 'func'), ...entries(3)];
+  return new Map(functions.map(({ index, type }) => [index, types[type]]));
+}
+
+/**
+ * Whether the payload is not one of its id. Items of custom sections and of unknown ids are not
+ * counted.
+ */
+const isFlawed = ({ id, name, items }) => (id === 0 ? name === null : id <= 13 && items === null);
+
+/** An unsigned LEB128 number in five bytes, which every size prefix of 32 bits has space for. */
+const padded = (value) => [0, 7, 14, 21, 28].map((bit) => ((value >>> bit) & 127) | (bit < 28 ? 128 : 0));
+
+/** The size of the LEB128 number at an offset. */
+function sizeOfNumber(bytes, at) {
+  let end = at;
+  while (end < bytes.length && end < at + 5 && bytes[end] >= 128) end += 1;
+  return end - at + 1;
+}
+
+/**
+ * The section that a damaged module ends in, as a module of its own with the bytes that are there,
+ * and how much further its bytes are in the damaged module.
+ */
+function lastSection(bytes, offset) {
+  const payload = bytes.subarray(offset + 1 + sizeOfNumber(bytes, offset + 1));
+  const front = [0, 0x61, 0x73, 0x6d, 1, 0, 0, 0, bytes[offset], ...padded(payload.length)];
+  const module = new Uint8Array(front.length + payload.length);
+  module.set(front);
+  module.set(payload, front.length);
+  return { module, shift: bytes.length - module.length };
+}
+
+export class ModuleReader {
+  #bytes;
+  #posted;
+  #sections = [];
+  /** The bytes of the sections that are there. */
+  #module;
+  #error = null;
+  #names = null;
+
+  constructor(bytes, posted) {
+    this.#bytes = bytes;
+    this.#posted = posted;
+    this.#outline();
+  }
+
+  /**
+   * The sections of the module. Where it is damaged, those before the damage: they are a module of
+   * their own. The flaw is why a section does not decode.
+   */
+  sections() {
+    const flaw = this.#error ? null : this.#flaw();
+    return { sections: this.#sections, error: this.#error && this.#posted(this.#error), flaw };
+  }
+
+  #outline() {
+    try {
+      this.#sections = outline(this.#bytes);
+      this.#module = this.#bytes;
+    } catch (error) {
+      if (!(error instanceof DolzhytikError) || error.offset === null) throw error;
+      this.#error = error;
+      this.#module = this.#bytes.subarray(0, error.offset);
+      this.#sections = error.offset < HEADER_SIZE ? [] : outline(this.#module);
+    }
+  }
+
+  #flaw() {
+    if (!this.#sections.some(isFlawed)) return null;
+    try {
+      list(this.#module);
+    } catch (error) {
+      return this.#posted(error);
+    }
+    return null;
+  }
+
+  /** The items of a section that is there, or of the one that the module ends in. */
+  #entries(index, indices, limit) {
+    const section = this.#sections[index];
+    if (section) return entriesOf(this.#module, section, index, indices, limit);
+    const none = { entries: [], isCut: true };
+    if (!this.#error || this.#error.offset < HEADER_SIZE || this.#error.offset + 2 > this.#bytes.length) return none;
+    const { module, shift } = lastSection(this.#bytes, this.#error.offset);
+    const id = module[HEADER_SIZE];
+    if (id === 0 || id > 13) return none;
+    const { entries } = entriesOf(module, { id, name: null }, 0, indices, limit);
+    const moved = (part) => part && { ...part, offset: part.offset + shift };
+    const inFile = (entry) => ({ ...moved(entry), ...(entry.body && { body: moved(entry.body) }) });
+    return { entries: entries.map(inFile), isCut: true, id };
+  }
+
+  /** The functions and data segments with their names, and how many functions are imported. */
+  parts() {
+    const indices = new Indices();
+    const all = this.#sections.map((section, index) => {
+      const isWanted = isNaming(section) || isSized(section);
+      return { ...section, entries: isWanted ? this.#entries(index, indices).entries : [] };
+    });
+    if (this.#error) all.push({ id: null, name: null, ...this.#entries(this.#sections.length, indices) });
+    this.#names = new Names(all);
+    const functions = sized(all, this.#names, 10);
+    const bodies = all.filter(({ id }) => id === 10).flatMap(({ entries }) => entries);
+    const types = typesOf(all);
+    functions.forEach((it, at) => {
+      const { body, locals, instruction_count: count } = bodies[at];
+      Object.assign(it, { body, locals, count, type: types.get(it.index) });
+    });
+    const names = {};
+    for (let index = 0; index < indices.imported('func'); index += 1) names[index] = this.#names.of('function', index);
+    return { functions, data: sized(all, this.#names, 11), imported: names };
+  }
+
+  /** The first items of a section with their texts, up to the first that does not decode. */
+  items(index) {
+    const { entries, isCut } = this.#entries(index, new Indices(), MOST_ITEMS);
+    const items = entries.slice(0, MOST_ITEMS).map(({ offset, size, text }) => ({ offset, size, text }));
+    return { items, isCut };
+  }
+
+  /** The instructions of a body with the names of their operands. */
+  instructions({ index, body }) {
+    const { instructions, error } = instructionsOf(this.#bytes, body, MOST_ITEMS);
+    const nameOf = ({ kind, index: of }) =>
+      kind === 'local' ? this.#names.ofLocal(index, of) : this.#names.of(kind, of);
+    return { instructions, error, names: namesOf(instructions, nameOf) };
+  }
+}
+
+/** The names of the entries that operands have, by `kind index`. */
+function namesOf(instructions, nameOf) {
+  const names = new Map();
+  const take = (entry) => {
+    const key = `${entry.kind} ${entry.index}`;
+    if (!names.has(key)) names.set(key, nameOf(entry));
+  };
+  for (const { operands } of instructions) {
+    for (const operand of operands) {
+      if (operand.index !== undefined) take(operand);
+      if (operand.of) take(operand.of);
+      if (typeof operand.type === 'number') take({ kind: 'type', index: operand.type });
+      operand.clauses?.forEach(({ tag }) => tag !== null && take({ kind: 'tag', index: tag }));
+    }
+  }
+  return names;
+}

@@ -1,0 +1,207 @@
+// A tab of chromium with the page, and the server of it. The tests and the benchmark use it.
+import fs from 'node:fs';
+import http from 'node:http';
+import path from 'node:path';
+import { fileURLToPath } from 'node:url';
+
+const HERE = path.dirname(fileURLToPath(import.meta.url));
+export const sleep = (ms) => new Promise((resolve) => setTimeout(resolve, ms));
+
+// ---- The server.
+
+const MEDIA_TYPES = { '.html': 'text/html', '.css': 'text/css', '.js': 'text/javascript', '.wasm': 'application/wasm' };
+
+/** Serves the folder, and at /broken the folder without the WebAssembly module. */
+function respond(request, response) {
+  const { pathname } = new URL(request.url, 'http://localhost');
+  const file = path.join(HERE, pathname.replace(/^\/broken\//, '/').replace(/\/$/, '/index.html'));
+  const isMissing = !file.startsWith(HERE + path.sep) || !fs.existsSync(file);
+  if (isMissing || pathname === '/broken/dolzhytik.wasm') return response.writeHead(404).end();
+  response.writeHead(200, { 'content-type': MEDIA_TYPES[path.extname(file)] ?? 'application/octet-stream' });
+  response.end(fs.readFileSync(file));
+}
+
+export async function serve() {
+  const server = http.createServer(respond);
+  await new Promise((resolve) => server.listen(0, '127.0.0.1', resolve));
+  return server;
+}
+
+// ---- The tab.
+
+const KEYS = {
+  Tab: 9, Enter: 13, Escape: 27, End: 35, Home: 36, ArrowLeft: 37, ArrowUp: 38, ArrowRight: 39, ArrowDown: 40,
+};
+export const CTRL = 2;
+
+/** A tab with the page; the requests of it and its workers, and their errors and messages. */
+export class Page {
+  requests = [];
+  complaints = [];
+  /** How many downloads are complete, and how many of them `downloaded` has read. */
+  downloads = 0;
+  #read = 0;
+
+  /** Downloads and screenshots are in these folders. Without the second there are none. */
+  constructor(browser, room, shots) {
+    Object.assign(this, { browser, room, shots });
+    this.listen();
+  }
+
+  /** Takes the events of the browser, which another tab may have taken. */
+  listen() {
+    this.browser.onEvent = (event) => this.#hear(event);
+  }
+
+  /** Opens the page at an address, and waits for its first status. */
+  async start(origin, folder = '/', status = 'Ready.') {
+    this.origin = origin;
+    const { targetId } = await this.browser.send('Target.createTarget', { url: 'about:blank' });
+    const { sessionId } = await this.browser.send('Target.attachToTarget', { targetId, flatten: true });
+    Object.assign(this, { session: sessionId, target: targetId });
+    await this.#watch(sessionId);
+    await this.send('Page.enable');
+    const downloads = { behavior: 'allow', downloadPath: this.room, eventsEnabled: true };
+    await this.browser.send('Browser.setDownloadBehavior', downloads);
+    await this.resize(1600, 1000);
+    await this.send('Page.navigate', { url: origin + folder });
+    await this.until((text) => document.getElementById('status')?.textContent.startsWith(text), status);
+  }
+
+  close() {
+    return this.browser.send('Target.closeTarget', { targetId: this.target });
+  }
+
+  /** Shows the tab, which another one was before: a tab that is not shown is not painted. */
+  async show() {
+    this.listen();
+    await this.send('Page.bringToFront');
+  }
+
+  send(method, params) {
+    return this.browser.send(method, params, this.session);
+  }
+
+  /** Watches a target, and the workers that it starts. */
+  async #watch(session) {
+    const send = (method, params) => this.browser.send(method, params, session);
+    const autoAttach = { autoAttach: true, waitForDebuggerOnStart: true, flatten: true };
+    await Promise.all([send('Network.enable'), send('Runtime.enable'), send('Target.setAutoAttach', autoAttach)]);
+    await send('Log.enable').catch(() => {});
+    await send('Runtime.runIfWaitingForDebugger');
+  }
+
+  #hear({ method, params }) {
+    const said = {
+      'Runtime.exceptionThrown': () => params.exceptionDetails.exception?.description ?? params.exceptionDetails.text,
+      'Runtime.consoleAPICalled': () => params.args.map(({ value }) => value).join(' '),
+      'Log.entryAdded': () => params.entry.text,
+    }[method];
+    if (said) this.complaints.push(said());
+    if (method === 'Browser.downloadProgress' && params.state === 'completed') this.downloads += 1;
+    if (method === 'Network.requestWillBeSent') this.requests.push(params.request.url);
+    if (method === 'Target.attachedToTarget') this.#watch(params.sessionId).catch(() => {});
+  }
+
+  /** Calls a function in the page. It has the arguments, and nothing else of this file. */
+  async run(call, ...values) {
+    const expression = `(${call})(...${JSON.stringify(values)})`;
+    const asked = { expression, awaitPromise: true, returnByValue: true, userGesture: true };
+    const { result, exceptionDetails } = await this.send('Runtime.evaluate', asked);
+    if (exceptionDetails) throw new Error(exceptionDetails.exception?.description ?? exceptionDetails.text);
+    return result.value;
+  }
+
+  /** Waits until a function in the page returns true. */
+  async until(call, ...values) {
+    const end = Date.now() + 20_000;
+    while (!(await this.run(call, ...values))) {
+      if (Date.now() > end) throw new Error(`not in 20 s: ${call} ${values}`);
+      await sleep(10);
+    }
+  }
+
+  text(id) {
+    return this.run((its) => document.getElementById(its).textContent, id);
+  }
+
+  untilText(id, text) {
+    return this.until((its, wanted) => document.getElementById(its).textContent === wanted, id, text);
+  }
+
+  focus(selector) {
+    return this.run((it) => document.querySelector(it).focus(), selector);
+  }
+
+  count(selector) {
+    return this.run((it) => document.querySelectorAll(it).length, selector);
+  }
+
+  resize(width, height) {
+    return this.send('Emulation.setDeviceMetricsOverride', { width, height, deviceScaleFactor: 1, mobile: false });
+  }
+
+  dark(isDark) {
+    const features = [{ name: 'prefers-color-scheme', value: isDark ? 'dark' : 'light' }];
+    return this.send('Emulation.setEmulatedMedia', { features });
+  }
+
+  async key(key, modifiers = 0) {
+    const event = { key, code: key, windowsVirtualKeyCode: KEYS[key], modifiers };
+    const isText = key === 'Enter' && modifiers === 0;
+    const down = isText ? { type: 'keyDown', text: '\r' } : { type: 'rawKeyDown' };
+    await this.send('Input.dispatchKeyEvent', { ...event, ...down });
+    await this.send('Input.dispatchKeyEvent', { ...event, type: 'keyUp' });
+  }
+
+  async click(selector) {
+    const { x, y } = await this.run((it) => {
+      const element = document.querySelector(it);
+      element.scrollIntoView({ block: 'nearest' });
+      const box = element.getBoundingClientRect();
+      return { x: box.x + box.width / 2, y: box.y + box.height / 2 };
+    }, selector);
+    for (const type of ['mousePressed', 'mouseReleased']) {
+      await this.send('Input.dispatchMouseEvent', { type, x, y, button: 'left', clickCount: 1 });
+    }
+  }
+
+  /** Sets the files of the input, and waits for the table of the last one. */
+  async choose(...files) {
+    await this.run(() => (document.getElementById('status').textContent = ''));
+    const { result } = await this.send('Runtime.evaluate', { expression: 'document.getElementById("file")' });
+    await this.send('DOM.setFileInputFiles', { objectId: result.objectId, files });
+    await this.untilText('status', `${path.basename(files.at(-1))} is open.`);
+  }
+
+  /** Clicks on a button, and returns the bytes of the file that it downloads. */
+  async download(selector, name) {
+    const file = path.join(this.room, name);
+    fs.rmSync(file, { force: true });
+    await this.click(selector);
+    return this.downloaded(name);
+  }
+
+  async downloaded(name) {
+    this.#read += 1;
+    for (let turn = 0; turn < 1000 && this.downloads < this.#read; turn += 1) await sleep(10);
+    return new Uint8Array(fs.readFileSync(path.join(this.room, name)));
+  }
+
+  /** Writes a screenshot of the page from its top, or as far as it is scrolled. */
+  async shot(name, isTop = true) {
+    if (!this.shots) return;
+    if (isTop) await this.run(() => scrollTo(0, 0));
+    await sleep(150);
+    const { data } = await this.send('Page.captureScreenshot', { format: 'png' });
+    fs.mkdirSync(this.shots, { recursive: true });
+    fs.writeFileSync(path.join(this.shots, `${name}.png`), Buffer.from(data, 'base64'));
+  }
+
+  async shotsOfBoth(name) {
+    await this.shot(`${name}-light`);
+    await this.dark(true);
+    await this.shot(`${name}-dark`);
+    await this.dark(false);
+  }
+}
