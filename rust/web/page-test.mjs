@@ -306,7 +306,7 @@ const chosen = {
       marked.forEach(([at, byte]) => assert.ok(at < offset + size && byte === bytes[at]));
       await page.until(() => !document.getElementById('function').hidden);
       await page.click('#back');
-      assert.ok(await page.run(isInView));
+      await page.until(isInView);
     }
     await page.shotsOfBoth('real');
   },

@@ -39,7 +39,7 @@ FORMS = {
     'drop bound': [(r'\+ Drop', ''), (r': Drop', ''), (r'Drop \+', ''), (r'(?:where )?\w+ (?:: : \w+ )?: Drop ,?', '')],
     'drop of a trait': [('Drop', 'Sized')],
     'runtime': [(r'(?:& )?rt ,', ''), (r'_?rt : HostRuntime', ''), ('', 'let rt = crate : : host : : HostRuntime ;')],
-    'sink': [('Allocator', 'Sink'), (r'Vec < u8 , (\w+) >', r'(\w+)'), ('impl < A : Allocator > Buffer for Vec < u8 , A >', 'impl < A : Sink > Buffer for A')],
+    'sink': [('Allocator', 'Sink'), (r'Vec < u8 , (\w+) >', r'(\w+)'), (r'impl < A : Allocator > (Buffer|Effect) for Vec < u8 , A >', r'impl < A : Sink > (Buffer|Effect) for A')],
     'pair': [(r'push_reserved \(', r'push_both_reserved \( \['), (r'\) ; \w+ \. push_reserved \(', ','), (r'\)', r'\] \)')],
     'place': [(re.escape(' '.join(solid_words(it.old))), re.escape(' '.join(solid_words(it.new)))) for it in PLACES],
     'use': [(r'use [^;]* ;', r'(?:use [^;]* ; ?)*')],
@@ -53,7 +53,6 @@ FORMS = {
     'border': [(r'extern "C"', ''), ('mod', r'pub \( crate \) mod')],
     'layout': [('', r'# \[ rustfmt : : skip \]')],
     'arm': [('', r'_ = > unreachable ! \( "[^"]*" \) ,')],
-    'method': [('pub', r'pub \( crate \)')],
     'exhaustive': [('', r'# \[ non_exhaustive \]')],
     'feature': [('', r'# \[ cfg \( feature = "\w+" \) \]')],
 }
