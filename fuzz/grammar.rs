@@ -583,17 +583,19 @@ fn comdat<G: Follow>(g: &mut G) -> Option<()> {
     })
 }
 
+/// A subsection of `linking`. The standard's grammar has those of other ids, as bytes.
 fn link<G: Follow>(g: &mut G) -> Option<()> {
-    let kinds: &[u8] = match g.grammar() {
-        Grammar::Builders => &[8, 9],
-        Grammar::Standard => &[5, 6, 7, 8, 9],
+    let kinds: Vec<u8> = match g.grammar() {
+        Grammar::Builders => vec![8, 9],
+        Grammar::Standard => (0..=255).collect(),
     };
-    match g.tag(kinds)? {
+    match g.tag(&kinds)? {
         5 => g.frame(&|g: &mut G| g.vector(segment_info)),
         6 => g.frame(&|g: &mut G| g.vector(init_function)),
         7 => g.frame(&|g: &mut G| g.vector(comdat)),
         8 => g.frame(&|g: &mut G| g.vector(symbol)),
-        _ => g.frame(&|g: &mut G| g.name()),
+        9 => g.frame(&|g: &mut G| g.name()),
+        _ => g.frame(&|g: &mut G| g.all()),
     }
 }
 
@@ -661,13 +663,18 @@ fn import_flags<G: Follow>(g: &mut G) -> Option<()> {
     export_flags(g)
 }
 
-/// A subsection of a dynamic library.
+/// A subsection of a dynamic library. The standard's grammar has those of other ids, as bytes.
 fn library<G: Follow>(g: &mut G) -> Option<()> {
-    match g.tag(&[1, 2, 3, 4, 5])? {
+    let kinds: Vec<u8> = match g.grammar() {
+        Grammar::Builders => (1..=5).collect(),
+        Grammar::Standard => (0..=255).collect(),
+    };
+    match g.tag(&kinds)? {
         1 => g.frame(&|g: &mut G| (0..4).try_for_each(|_| u32_any(g))),
         3 => g.frame(&|g: &mut G| g.vector(export_flags)),
         4 => g.frame(&|g: &mut G| g.vector(import_flags)),
-        _ => g.frame(&|g: &mut G| g.vector(G::name)),
+        2 | 5 => g.frame(&|g: &mut G| g.vector(G::name)),
+        _ => g.frame(&|g: &mut G| g.all()),
     }
 }
 
