@@ -1,5 +1,5 @@
 -- This file proves that dropping bytes is an effect, and what a walk with each effect gives.
-use Rattle.wasm_base.proofs.Std.{◌≡◌, Result, Ok, Err, IfErr, OnOk, ℕ, List, ◌++◌, length, drop, take, drop_at, take_at, refl, sym, ap, ap₂, subst, ◌∙◌}
+use Rattle.wasm_base.proofs.Std.{◌≡◌, Result, Ok, Err, OnOk, ℕ, List, ◌++◌, length, drop, take, drop_at, take_at, refl, sym, ap, ap₂, subst, ◌∙◌}
 use Rattle.std.proofs.Common.{IfOk}
 use Rattle.wasm_base.proofs.Std.{Vec}
 use Rattle.wasm_base.specs.{Grammar, Grammars, Includes, minimal_of, padded_of, Format, vec, size_prefixed, any_bytes, size_prefixed_encoding, HasEncodableSize, Decodes, Unambiguous, AppendsMinimal, IsFrontOf, Minimizes, MinimizesWhole}

@@ -1,8 +1,7 @@
 -- This file proves loops that skip members.
-use Rattle.wasm_base.proofs.Std.{◌≡◌, ◌≢◌, ℕ, ◌<◌, ◌+◌, List, [], ◌∷◌, ◌++◌, length, map, refl, sym, subst, arith}
+use Rattle.wasm_base.proofs.Std.{◌≡◌, ℕ, ◌<◌, ◌+◌, List, [], ◌∷◌, ◌++◌, length, refl, sym, subst, arith}
 use Rattle.std.proofs.lemmas.List.{length-append}
 use Rattle.wasm_base.specs.{Mode, Format, u32, members, vec, Unambiguous, Decodes, Rejects}
-use Rattle.wasm_base.proofs.DecodeWhole.{HasMembers, members_begun, members_continued, members_done}
 use Rattle.wasm_base.proofs.DecodingSteps.{members_start, members_step, vec_decodes, vec_rejects}
 
 -- The reader has skipped `count` values from `start` on, and `rest` remains.

@@ -1,5 +1,5 @@
 -- This file proves the minimal encodings of value types in both grammars.
-use Rattle.wasm_base.proofs.Std.{◌≡◌, ℕ, List, [], ◌∷◌, ◌++◌, Bool, true, false, refl, inl, inr}
+use Rattle.wasm_base.proofs.Std.{[], ◌∷◌, Bool, true, false, refl, inl, inr}
 use Rattle.wasm_base.specs.{Grammar, builders, admitted, standard_minimal, minimal_of, padded_of, abstract_code, heap_encoding, heap_tags, heap_type, ref_type, val_type, unshared, shared, nullable_to, to}
 use Rattle.wasm_base.specs.{IsHeap, IsRef, IsVal, ref_encoding_in, HasNoCode, tight_nullable, tight_bytes, tight_encoding, val_encoding_in}
 use Rattle.wasm_base.specs.declared.types.HeapType.{HeapType}

@@ -1,5 +1,5 @@
 -- This file proves walks over expressions and bodies.
-use Rattle.wasm_base.proofs.Words.{◌≡◌, ◌≢◌, ℕ, List, [], ◌∷◌, ◌++◌, length, refl, sym, subst, map-id, append-nil, Grammar, builders, padded, minimal_of, padded_of, members, pair, vec, such, u32, val_type, Decodes, AppendsMinimal, built_appended, builders_alone, such_unambiguous}
+use Rattle.wasm_base.proofs.Words.{◌≡◌, ◌≢◌, ℕ, List, [], ◌∷◌, ◌++◌, length, refl, subst, map-id, Grammar, builders, padded, minimal_of, padded_of, members, pair, vec, such, u32, val_type, Decodes, AppendsMinimal, built_appended, builders_alone, such_unambiguous}
 use Rattle.wasm_base.specs.Minimal.{MinimizesWhole}
 use Rattle.wasm_base.specs.Walks.{TakesBytes, Walks, WalksWhole}
 use Rattle.wasm_base.proofs.Words.{HasEncodableSize, size_prefixed, size_prefixed_encoding}

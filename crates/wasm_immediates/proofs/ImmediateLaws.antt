@@ -3,7 +3,7 @@ use Rattle.wasm_base.proofs.Words.{s33, val_type, inl, inr, one_of, values_one_o
 use Rattle.wasm_base.proofs.Words.{◌^◌, ◌<◌, List, [], ◌∷◌, Bool, true, false, cond, eqb, Option, refl, sym, ap, ◌∙◌, arith, eqb-true, eqb-false, ltb-true, nat_lt, Mode, Format, u32, byte, impossible}
 use Rattle.wasm_base.proofs.Words.{mapped, when, pair, optional, Unambiguous, BeginsWith, IsIndexByte, IsInjective, DeterminesTag, when_unambiguous, mapped_unambiguous, such_unambiguous}
 use Rattle.wasm_base.proofs.Words.{coded_unambiguous, fixed_unambiguous, impossible_unambiguous, tagged_unambiguous, one_of_unambiguous, byte_unambiguous, pair_unambiguous, optional_unambiguous, u64}
-use Rattle.wasm_base.proofs.Words.{subst, ◌==◌, None, Grammar, builders, admitted, minimal, padded, standard_minimal, standard, by_mode, by_mode_unambiguous, Then_unambiguous, DeterminesPrefix}
+use Rattle.wasm_base.proofs.Words.{subst, ◌==◌, None, Grammar, builders, admitted, padded, standard_minimal, standard, by_mode_unambiguous, Then_unambiguous, DeterminesPrefix}
 use Rattle.wasm_base.proofs.Words.{IsIncludedIn, AreGroups, u32_small, ◌-◌, ◌≤◌, ◌++◌, length, length-append, lt-ltb, choice_of, begins_mapped, values_mapped, none_in_common, u32_unambiguous}
 use Rattle.wasm_base.proofs.Words.{u64_unambiguous, s33_unambiguous, val_begins, begins_s33}
 use Rattle.wasm_base.specs.Decoding.{ShrinksTo}

@@ -1,5 +1,5 @@
 -- This file proves that the encodings of decoded immediates are minimal in both grammars.
-use Rattle.wasm_base.proofs.Words.{Grammar, builders, admitted, minimal, padded_of, ◌≡◌, ℕ, pos, List, [], ◌++◌, Bool, true, false, refl, subst, inl, inr, s33, Decodes, s33_encodes}
+use Rattle.wasm_base.proofs.Words.{Grammar, builders, admitted, minimal, padded_of, ℕ, pos, [], Bool, true, false, refl, subst, inl, inr, s33_encodes}
 use Rattle.wasm_base.specs.Numbers.{minimal_of, signed_encoding}
 use Rattle.wasm_base.specs.Minimal.{EncodesMinimally}
 use Rattle.wasm_base.specs.Walks.{EncodesIn}

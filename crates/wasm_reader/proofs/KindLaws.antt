@@ -3,7 +3,7 @@
 use Rattle.wasm_base.proofs.Words.{Mode, ◌≡◌, ℕ, List, [], ◌++◌, map, length, refl, sym, ap, subst, ◌∙◌, ◌≢◌, ◌∷◌, Bool, true, false, if◌then◌else◌, cond, Option, Some, Result, Ok, Err, map-id}
 use Rattle.wasm_base.proofs.Words.{standard_minimal, standard, u32, name, any_bytes, pair, vec, size_prefixed, Format, mapped, UnambiguousWhole, Decodes, Rejects, vec_encoding, IsEncodableVec, name_unambiguous}
 use Rattle.wasm_base.proofs.Words.{vec_unambiguous, whole_from_unique, mapped_whole, pair_whole, any_bytes_whole, u32_unambiguous, decodes_same, AppendsMinimal, Grammar, padded_of, both_grammars, builders_alone, encoding_appended, pair_appended}
-use Rattle.wasm_base.proofs.Words.{mapped_appended, records_appended, RejectsWhole, bytes_eq, ne_eqb, OnOk, on_ok}
+use Rattle.wasm_base.proofs.Words.{mapped_appended, records_appended, RejectsWhole, bytes_eq, ne_eqb}
 use Rattle.wasm_base.proofs.Words.{All, All-nil, All-cons, HasEncoding, members, coded, mapped_encoded, members_encoded, counted_encodable, left_encoded, name_encodable}
 use Rattle.wasm_base.proofs.DecodedValues.{viewed_encodable}
 use Rattle.std.proofs.Common.{None, zero, suc, ◌≤◌, arith, IfOk}

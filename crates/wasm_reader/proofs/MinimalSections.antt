@@ -1,21 +1,13 @@
 -- This file proves that the minimizer appends the one minimal encoding of decoded sections.
-use Rattle.wasm_reader.specs.{Contents, Bodies, Segments, DataCount, Elements, Exports, Functions, Globals, Imports, Memories, Start, Tables, Tags, Types, Names, Linking, Producers, Hints}
-use Rattle.wasm_reader.specs.{CoreModules, CoreInstances, CoreStack, TargetFeatures, Dylink, Relocations, content, grammars_of, kind_in, section, TakesIn, ShortensIn, HaveOneEncoding}
+use Rattle.wasm_reader.specs.{Contents}
+use Rattle.wasm_reader.specs.{section, TakesIn, ShortensIn, HaveOneEncoding}
 use Rattle.wasm_reader.specs.declared.kinds.SectionKind.{SectionKind}
-use Rattle.wasm_reader.proofs.KindLaws.{content_whole, kind_is}
-use Rattle.wasm_base.proofs.Words.{◌≡◌, ◌≢◌, ◌↔◌, ℕ, ◌+◌, List, [], ◌++◌, length, refl, sym, ap, subst, ◌∙◌, arith, append_cancel_left, padded, standard_minimal, standard, Grammar, builders, minimal_of, padded_of}
-use Rattle.wasm_base.proofs.Words.{Format, u32, mapped, vec, size_prefixed, Result, OnOk, Unambiguous, IsIncludedIn, size_prefixed_unambiguous, decodes_same, AppendsMinimal, on_ok, u32_unambiguous}
-use Rattle.wasm_base.specs.Faults.{Failure}
-use Rattle.wasm_base.specs.Minimal.{Includes, both_grammars, Minimizes, MinimizesWhole}
-use Rattle.wasm_base.proofs.EffectLaws.{decoded_whole_minimizes}
+use Rattle.wasm_reader.proofs.KindLaws.{content_whole}
+use Rattle.wasm_base.proofs.Words.{◌≡◌, ◌↔◌, ℕ, ◌+◌, List, [], ◌++◌, length, sym, ap, subst, ◌∙◌, arith, append_cancel_left, padded, standard_minimal, standard, Grammar, builders, minimal_of}
+use Rattle.wasm_base.proofs.Words.{u32, Unambiguous, IsIncludedIn, size_prefixed_unambiguous, decodes_same, u32_unambiguous}
+use Rattle.wasm_base.specs.Minimal.{Minimizes}
 use Rattle.std.proofs.lemmas.List.{length-append}
-use Rattle.wasm_code.proofs.Words.{body}
-use Rattle.wasm_sections.proofs.Words.{data_item, element, export, global_item, import_format, memory_type, table_item, tag_type}
-use Rattle.wasm_types.proofs.Words.{type_item}
-use Rattle.wasm_custom.proofs.Words.{linking_payload}
-use Rattle.wasm_custom.proofs.Words.{name_payload, producers_payload, hints_payload, modules_payload, instances_payload, stack_payload, features_payload, dylink_payload, relocations_payload}
 use Rattle.wasm_reader.proofs.DecodeSections.{taken}
-use Rattle.wasm_reader.specs.declared.kinds.SectionKind.TheVariants as kinds
 
 -- ---- sections
 

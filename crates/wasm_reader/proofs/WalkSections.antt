@@ -1,5 +1,5 @@
 -- This file proves what a walk over the payload of a section gives.
-use Rattle.wasm_base.proofs.Words.{◌≡◌, ℕ, List, ◌++◌, refl, sym, ap, subst, ◌∙◌, Grammar, minimal_of, padded_of, Format, mapped, name, any_bytes, pair, Result, OnOk, on_ok, Decodes, Rejects, RejectsWhole}
+use Rattle.wasm_base.proofs.Words.{◌≡◌, ℕ, List, ◌++◌, refl, sym, ap, subst, ◌∙◌, Grammar, padded_of, Format, mapped, name, Result, OnOk, on_ok, Rejects, RejectsWhole}
 use Rattle.wasm_base.specs.Faults.{Failure}
 use Rattle.wasm_base.specs.Walks.{TakesBytes, Walks, WalksWhole}
 use Rattle.wasm_base.proofs.WalkLaws.{take_then}

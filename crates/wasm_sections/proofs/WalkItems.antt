@@ -1,6 +1,6 @@
 -- This file proves that walks over the items of sections give an effect the minimal encodings of
 -- these items.
-use Rattle.wasm_base.proofs.Words.{◌≡◌, ◌≢◌, ℕ, zero, suc, ◌^◌, ◌<◌, List, [], ◌∷◌, ◌++◌, Bool, true, false, refl, sym, ap, subst, ◌∙◌, append_assoc, append-nil, arith, inl, inr, IsUtf8}
+use Rattle.wasm_base.proofs.Words.{◌≡◌, ◌≢◌, ℕ, zero, suc, ◌^◌, ◌<◌, List, [], ◌∷◌, ◌++◌, Bool, true, false, refl, sym, ap, subst, ◌∙◌, append_assoc, arith, inl, inr, IsUtf8}
 use Rattle.wasm_base.proofs.Words.{Grammar, builders, admitted, padded_of, minimal, name, byte, u32, u64, coded, numbered, fixed, mapped, when, pair, prefixed, optional, vec, size_prefixed, any_bytes, is_given, Format, AllValues, Decodes}
 use Rattle.wasm_base.proofs.Words.{HasEncodableSize, size_prefixed_encoding, unsigned_encoding, optional_encoding, ref_type, u32_encodes, u64_encodes, name_encodes, pair_encodes, optional_encodes, tagged_encodes, fixed_decodes}
 use Rattle.wasm_base.specs.Numbers.{minimal_of}
