@@ -7,7 +7,7 @@ from .layouts import LAYOUTS
 from .table import Case, Enum, of_enum
 
 HEAD = """-- This file proves that the functions of `by_opcode` have an instruction of each opcode.
-use Rattle.wasm_base.proofs.Words.{◌≡◌, ◌≢◌, ℕ, List, [], ◌∷◌, ◌<◌, ◌≤◌, Option, Some, None, get_or, refl}
+use Rattle.wasm_base.proofs.Words.{◌≡◌, ◌≢◌, ℕ, [], ◌∷◌, ◌<◌, ◌≤◌, Option, Some, None, get_or, refl}
 use Rattle.std.specs.Prelude.{IfSome, IfNone}
 use Rattle.wasm_insn.proofs.Words.{table}
 use Rattle.wasm_insn.specs.declared.op.Op.TheVariants.{Byte, Prefixed}
