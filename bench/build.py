@@ -1,6 +1,5 @@
 #!/usr/bin/env python3
-"""Counts what the build of a user's program costs. `bench/run build` starts it; README.md has the
-tables.
+"""Counts what the build of a user's program costs, at each opt-level. `bench/run build` starts it.
 
     bench/build.py [FOLDER]
 
@@ -162,17 +161,21 @@ class Library:
 
     def __init__(self, name: str, package: str, folder: pathlib.Path):
         self.name, self.package, self.room = name, package, ROOM / name
-        self.room.mkdir(parents=True, exist_ok=True)
-        for work in dict.fromkeys(["nothing", *WORKS]):
-            self.write(work, f'wasm-encoder = {{ package = "{package}", path = "{folder}" }}')
+        self.dependency = f'wasm-encoder = {{ package = "{package}", path = "{folder}" }}'
 
-    def write(self, work: str, dependency: str) -> None:
+    def write(self, work: str, text: str, edition: str = "2021") -> None:
         """Writes the package of a user, which is its own workspace."""
         folder = self.room / work
         (folder / "src").mkdir(parents=True, exist_ok=True)
-        (folder / "src/main.rs").write_text(USERS[work]())
+        (folder / "src/main.rs").write_text(text)
         (folder / "Cargo.toml").write_text(
-            f'[package]\nname = "{work}"\nversion = "0.1.0"\nedition = "2021"\n\n[dependencies]\n{dependency}\n\n[workspace]\n')
+            f'[package]\nname = "{work}"\nversion = "0.1.0"\nedition = "{edition}"\n\n[dependencies]\n{self.dependency}\n\n[workspace]\n')
+
+    def program(self, work: str, profile: str) -> pathlib.Path:
+        """Builds the program of a user."""
+        target = self.room / "target" / profile
+        self.cargo(work, target, profile)
+        return target / "release" / work
 
     def cargo(self, work: str, target: pathlib.Path, profile: str, *words: str) -> None:
         """Builds with cargo, in the folder of a user."""
@@ -183,15 +186,14 @@ class Library:
     def user(self, work: str, profile: str) -> tuple[float, int]:
         """Returns the seconds that the program alone takes to compile, and the bytes of its
         text."""
-        target = self.room / "target" / profile
-        self.cargo(work, target, profile)
-        least = min(seconds(lambda: self.again(work, target, profile)) for _ in range(LEAST))
-        return least, text_of(target / "release" / work)
+        program = self.program(work, profile)
+        least = min(seconds(lambda: self.again(work, profile)) for _ in range(LEAST))
+        return least, text_of(program)
 
-    def again(self, work: str, target: pathlib.Path, profile: str) -> None:
+    def again(self, work: str, profile: str) -> None:
         """Builds the program again, and none of its dependencies."""
         os.utime(self.room / work / "src/main.rs")
-        self.cargo(work, target, profile)
+        self.program(work, profile)
 
     def cold(self, profile: str) -> float:
         """Returns the seconds that the library takes to compile."""
@@ -236,14 +238,21 @@ def figures(measured: list[tuple[float, ...]]) -> list[str]:
     return cells
 
 
+def libraries_of(folders: list[str]) -> list[Library]:
+    """Returns this package, and the crate if its folder is given."""
+    theirs = [Library("crate", "wasm-encoder", pathlib.Path(it).resolve()) for it in folders]
+    return [Library("here", "dolzhytik", OURS), *theirs]
+
+
 def main() -> int:
     """Prints the tables."""
     if len(sys.argv) > 2 or not set(WORKS) <= set(USERS):
         print(__doc__, file=sys.stderr)
         return 2
-    libraries = [Library("here", "dolzhytik", OURS)]
-    if len(sys.argv) == 2:
-        libraries.append(Library("crate", "wasm-encoder", pathlib.Path(sys.argv[1]).resolve()))
+    libraries = libraries_of(sys.argv[1:])
+    for library in libraries:
+        for work in dict.fromkeys(["nothing", *WORKS]):
+            library.write(work, USERS[work]())
     heads(["user", "profile"], libraries, ["seconds", "text"])
     for work in WORKS:
         for profile in PROFILES:

@@ -1,14 +1,14 @@
-//! The proved builders, which return an error where those at the root panic or abort.
+//! The proved builders. They return an error where those at the root panic or abort.
 //!
-//! Use them if a program must not end when memory runs out or a list is too long. A call that fails
-//! returns [`Refused`] and changes nothing: [`Refused::Memory`] if an allocation fails, and
-//! [`Refused::TooLong`] if a count, run or length would exceed 4294967295. ([`add_all`] keeps the
-//! items before the failing one, and returns their number.) Calls that make a value take an
-//! [`Allocator`] first. [`Global`] is that of the program. One of your own can limit the memory of
-//! builders: [`Allocator`] shows a shared budget.
+//! Use them if a program must not end when memory runs out or a list is too long.
 //!
-//! Builders have the names of those at the root. [`From`] converts a value that is built here with
-//! [`Global`] to the root's type:
+//! - A call that fails changes nothing, and returns [`Refused::Memory`] if an allocation fails, or
+//!   [`Refused::TooLong`] if a count, run or length would exceed 4294967295. Exception: [`add_all`]
+//!   keeps the items before the failing one, and returns their number.
+//! - Calls that make a value take an [`Allocator`] first. [`Global`] is that of the program. One of
+//!   your own can limit the memory of builders: [`Allocator`] shows a shared budget.
+//! - Builders have the names of those at the root. [`From`] converts a value that is built here
+//!   with [`Global`] to the root's type:
 //!
 //! ```
 //! use dolzhytik::fallible::{self, Global, Refused};
@@ -55,14 +55,14 @@
 //!
 //! | | at the root | here |
 //! |---|---|---|
-//! | status | tested: proved encoders append each entry; the root itself appends raw bytes, ids of sections, and lists and options of any type | proved, by the clauses on each page |
-//! | calls that add | return `&mut Self`, or nothing, as in `wasm-encoder` | return `Result<(), Refused>` |
-//! | a count, run or length past 4294967295 | a panic, before an item is taken from a list that is too long | `Err(Refused::TooLong)`, nothing changed |
-//! | an allocation fails | `handle_alloc_error` ends the program | `Err(Refused::Memory)`, nothing changed |
-//! | `Instruction` | one enum of 628 cases, lists in `Cow` | nested enums, lists in `CowSlice`; made from the former by `From` |
-//! | `InstructionSink` | 628 named calls | the 41 that compilers use most |
-//! | `Encode`, `Section` | into a `Vec<u8>`, also as `dyn` | into any `Sink` |
-//! | the payload in `RawSection` and `CustomSection` | the field `data` | the field `bytes` |
+//! | status | tested: proved encoders append each entry, and the root itself raw bytes, ids of sections, and lists and options of any type | proved, by the clauses on each page |
+//! | calls that add | return `&mut Self`, or nothing | return a `Result` |
+//! | a count, run or length past 4294967295 | a panic, before an item is taken from a list that is too long | the error `TooLong`, and no change |
+//! | a failed allocation | ends the program | the error `Memory`, and no change |
+//! | values of instructions | one enum of 628 cases, with lists in `Cow` | nested enums, with lists in `CowSlice`. `From` makes them of the root's |
+//! | named calls of a sink | 628 | the 41 that compilers use most |
+//! | encoders write | into a `Vec<u8>`, also as `dyn` | into any `Sink` |
+//! | payload of a raw or custom section | the field `data` | the field `bytes` |
 //!
 //! # What is proved
 //!

@@ -5,10 +5,10 @@
 //!   [`DataSection`] and [`CustomSection`], and returns the bytes.
 //! - [`Function`] is a body. [`InstructionSink`] has a call for each instruction, and
 //!   [`Instruction`] is one as a value. [`ConstExpr`] is a constant expression.
-//! - [`Encode`] and [`Section`] are the traits of what can be encoded: implement them for your own.
-//! - [`fallible`] has the proved builders, whose calls return errors, and says what is proved.
-//! - [`reader`] lists, decodes, edits and minimizes modules: begin with [`reader::Sections`].
-//! - [`definitions`] says how to read contracts, and what their words mean.
+//! - Implement [`Encode`] and [`Section`] for values and sections of your own.
+//! - [`fallible`] has the proved builders. Their calls return errors.
+//! - [`reader`] lists, decodes, edits and minimizes modules. Begin with [`reader::Sections`].
+//! - [`definitions`] explains contracts, and defines each word in them.
 #![no_std]
 #![forbid(unsafe_code)]
 #![warn(missing_docs)]

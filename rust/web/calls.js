@@ -165,7 +165,11 @@ function itemsOf(block) {
 }
 
 function dumped(block) {
-  const list = Array.from({ length: block.word() }, () => ({ ...item(block), fields: block.text() }));
+  const list = Array.from({ length: block.word() }, () => {
+    const it = item(block);
+    it.fields = block.text();
+    return it;
+  });
   return { list, isCut: block.word() === 1 };
 }
 

@@ -105,7 +105,7 @@ export function assemble(recipe: string): Uint8Array;
 /**
  * Returns the items of the section at this index of the outline, or the first ones, up to a limit.
  * There are none if the section does not decode, and in custom sections but `name`, `producers`,
- * `linking` and branch hints.
+ * `linking`, `reloc.*` and branch hints.
  * @throws {DolzhytikError} as {@link outline} does.
  * @throws {RangeError} if the index is no integer, or either number is negative.
  */
@@ -191,9 +191,11 @@ export interface FunctionBody extends Item {
  * - code: {@link FunctionBody}
  * - data segments: `index`, `mode`, `memory`, `start`, `bytes` as a {@link Range}
  * - names: `space`, `index`, `name`; of names in a function or type also `of`, its index
+ * - relocations: after `section`, the index of their section, each has `type` by LLVM's name,
+ *   `section_offset`, `target` as a symbol or type with its index, and `addend` or null
  *
  * Types and constant expressions are in the text format. A member of a group has the offset and the
- * size of the group. A limit above 2 to the power of 53 is rounded.
+ * size of the group. A limit above 2 to the power of 53 is rounded, and such an addend is a bigint.
  */
 export interface Entry extends Item {
   [field: string]: any;

@@ -1,6 +1,6 @@
 // The items of all sections with their fields, and the instructions of functions.
 import { DolzhytikError, NONE, checkIndex, decodedBody, itemsWithFields, list, outline } from './calls.js';
-import { decoded } from './operands.js';
+import { decoded, exact } from './operands.js';
 
 const CODE = 10;
 
@@ -40,9 +40,12 @@ function rangeAtEnd({ offset, size }, count) {
 /** An item with its fields and its index. */
 function entryOf(section, item, fields, indices) {
   const { offset, size, text } = item;
-  const { body, bytes, ...others } = fields;
+  const { body, bytes, addend } = fields;
   const index = indices.of(section.id, fields);
-  const entry = { offset, size, text, ...(index === undefined ? {} : { index }), ...others };
+  const entry = { offset, size, text };
+  if (index !== undefined) entry.index = index;
+  Object.assign(entry, fields);
+  if (addend) entry.addend = exact(addend);
   if (body !== undefined) entry.body = rangeAtEnd(item, body);
   if (bytes !== undefined) entry.bytes = rangeAtEnd(item, bytes);
   return entry;
@@ -54,9 +57,11 @@ function entryOf(section, item, fields, indices) {
  */
 export function entriesOf(module, section, index, indices, limit = NONE) {
   const found = itemsWithFields(module, index, limit);
-  const entries = found.list.flatMap(({ fields, ...item }) =>
-    [JSON.parse(fields)].flat().map((each) => entryOf(section, item, each, indices)),
-  );
+  const entries = [];
+  for (const item of found.list) {
+    const fields = JSON.parse(item.fields);
+    for (const each of Array.isArray(fields) ? fields : [fields]) entries.push(entryOf(section, item, each, indices));
+  }
   return { entries, isCut: found.isCut };
 }
 

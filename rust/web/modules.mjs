@@ -98,3 +98,21 @@ export function groupedModule(count, size, groups = 40) {
   const sizeOf = (index) => Math.floor(each / 2 + (each * (index % 101)) / 100);
   return namedModule(Array.from({ length: count }, (_, index) => [`group${index % groups}::f${index}`, sizeOf(index)]));
 }
+
+/**
+ * An object file. Its function `main` calls `env.printf`, takes the address of `far` less 2, and
+ * that of itself. Linking section and relocations are those of the tool conventions.
+ */
+export const OBJECT = moduleOf(
+  section(1, [0x01, 0x60, 0x00, 0x00]),
+  section(2, [0x01], name('env'), name('printf'), [0x00, 0x00]),
+  FUNCTION,
+  section(
+    10, [0x01, 0x16, 0x00], [0x10, 0x80, 0x80, 0x80, 0x80, 0x00], [0x41, 0x80, 0x80, 0x80, 0x80, 0x00, 0x1a],
+    [0x41, 0x81, 0x80, 0x80, 0x80, 0x00, 0x1a, 0x0b],
+  ),
+  // Symbols: the import, which is undefined and has no name of its own; undefined data; `main`.
+  custom('linking', [0x02, 0x08, 0x12, 0x03, 0x00, 0x10, 0x00, 0x01, 0x10], name('far'), [0x00, 0x00, 0x01], name('main')),
+  // Of section 3: kinds 0, 4 and 1, with their offsets and symbols, and the addend of the second.
+  custom('reloc.CODE', [0x03, 0x03, 0x00, 0x04, 0x00, 0x04, 0x0a, 0x01, 0x7e, 0x01, 0x11, 0x02]),
+);

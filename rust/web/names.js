@@ -2,7 +2,7 @@
 
 /** The spaces of names that are called otherwise in the name section and in JavaScript. */
 const SPACES = { func: 'function' };
-const spaceOf = (kind) => SPACES[kind] ?? kind;
+export const spaceOf = (kind) => SPACES[kind] ?? kind;
 
 /** Symbols whose index is that of an entry of their kind. */
 const NAMED_SYMBOLS = ['function', 'global', 'table', 'tag'];

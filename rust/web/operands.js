@@ -9,7 +9,7 @@ function entryOf(prefix, number) {
 }
 
 /** A number of 64 bits, which is a BigInt if it has no exact number. */
-function exact(text) {
+export function exact(text) {
   const value = Number(text);
   return Number.isSafeInteger(value) ? value : BigInt(text);
 }

@@ -1,6 +1,7 @@
 #!/usr/bin/env node
 // Measures the page in chromium: how long a module of 50 MB takes to open, a treemap of 20,000
-// functions to draw, and a step of scrolling 80,000 functions.
+// functions to draw, and a step of scrolling 80,000 functions. Times that are not processor time
+// depend on what else the machine does.
 //
 //     rust/web/page-bench.mjs
 //
@@ -11,7 +12,7 @@ import os from 'node:os';
 import path from 'node:path';
 import { Browser, findChromium } from './chromium.mjs';
 import { groupedModule } from './modules.mjs';
-import { Page, serve } from './tab.mjs';
+import { Page, scrollList, serve } from './tab.mjs';
 
 const room = fs.mkdtempSync(path.join(os.tmpdir(), 'dolzhytik-bench-'));
 const hasParts = () => document.querySelectorAll('#map .part').length > 0;
@@ -46,26 +47,6 @@ async function drawCode() {
   return { drawn, painted: performance.now() - start, cells };
 }
 
-/**
- * The times of 120 steps through a list, each of which draws other rows and lays them out: the
- * median and the longest. Runs in the page.
- */
-async function scrollList() {
-  const list = document.getElementById('items');
-  const times = [];
-  for (let step = 0; step < 120; step += 1) {
-    const start = performance.now();
-    list.scrollTop = (list.scrollHeight * step) / 120;
-    list.dispatchEvent(new Event('scroll'));
-    list.getBoundingClientRect();
-    times.push(performance.now() - start);
-    await new Promise((done) => requestAnimationFrame(done));
-  }
-  times.sort((a, b) => a - b);
-  const rows = Number(document.querySelector('#items .item').getAttribute('aria-setsize'));
-  return { median: times[60], longest: times.at(-1), rows };
-}
-
 async function measureTreemap(page, groups) {
   const what = `20,000 functions in ${groups === 1 ? '1 group' : `${groups} groups`}`;
   await open(page, fileOf('grouped.wasm', groupedModule(20_000, 2_000_000, groups)), `2 MB, ${what}`);
@@ -85,10 +66,11 @@ async function measure(page) {
   await page.until(() => document.getElementById('items-facts').textContent === '80,000');
   await page.run(isPainted);
   for (let round = 1; round <= 3; round += 1) {
-    const { median, longest, rows } = await page.run(scrollList);
-    const what = `a step of scrolling ${rows.toLocaleString('en-US')} rows, round ${round}`;
-    said(median, `${what}: the median of 120`);
-    said(longest, `${what}: the longest`);
+    const { value: { times, rows }, longest } = await page.traced(() => page.run(scrollList));
+    const what = `scrolling ${rows.toLocaleString('en-US')} rows, round ${round}`;
+    said(times[60], `${what}: the median of 120 steps`);
+    said(times.at(-1), `${what}: the longest step`);
+    said(longest, `${what}: the longest task, in processor time`);
   }
 }
 

@@ -16,9 +16,10 @@ import { fileURLToPath } from 'node:url';
 import { faultyControls, leastContrast } from './access.mjs';
 import { Browser, findChromium } from './chromium.mjs';
 import {
-  CALLS, EXPORT, FUNCTION, HEADER, PADDED, TYPES, WITH_OFFSETS, custom, largeModule, moduleOf, namedModule, section,
+  CALLS, EXPORT, FUNCTION, HEADER, OBJECT, PADDED, TYPES, WITH_OFFSETS, custom, groupedModule, largeModule, leb, moduleOf,
+  namedModule, section,
 } from './modules.mjs';
-import { CTRL, Page, serve, sleep } from './tab.mjs';
+import { CTRL, Page, scrollList, serve, sleep } from './tab.mjs';
 
 const HERE = path.dirname(fileURLToPath(import.meta.url));
 const only = process.env.PAGE_TESTS;
@@ -633,6 +634,42 @@ const functions = {
     assert.equal(await page.run(() => document.getElementById('list').hidden), false);
   },
 
+  async 'relocations are below what they patch, as dolzhytik dump -r prints them'(page) {
+    await page.choose(fileOf('object.o', OBJECT));
+    await page.run(() => (location.hash = '#function=1'));
+    await titleIs(page, 'main');
+    assert.deepEqual(await codeLines(page), [
+      ['0x27', 'call 0 <env.printf>'], ['0x28', 'R_WASM_FUNCTION_INDEX_LEB 0 <env.printf>'],
+      ['0x2d', 'i32.const 0'], ['0x2e', 'R_WASM_MEMORY_ADDR_SLEB 1 <far>-2'], ['0x33', 'drop'],
+      ['0x34', 'i32.const 1'], ['0x35', 'R_WASM_TABLE_INDEX_SLEB 2 <main>'], ['0x3a', 'drop'], ['0x3b', 'end'],
+    ]);
+    assert.ok((await page.text('function-facts')).startsWith('function 1 · 6 instructions'));
+    await page.shotsOfBoth('relocations');
+    // A relocation marks the bytes that it patches, and a byte the instruction that has it.
+    await page.click('#instruction-3');
+    assert.equal(await page.text('items-note'), 'R_WASM_MEMORY_ADDR_SLEB 1 <far>-2');
+    assert.deepEqual((await bytesShown(page, 'b.on')).map(([offset]) => offset), [0x2e, 0x2f, 0x30, 0x31, 0x32]);
+    assert.equal(await page.text('picked'), 'R_WASM_MEMORY_ADDR_SLEB: 0x2e to 0x32, 5 bytes');
+    await page.click('#bytes b[data-offset="47"]');
+    assert.equal(await page.run(() => document.querySelector('#code [aria-selected=true]').id), 'instruction-2');
+    // By keys: the symbol of the function is a link.
+    await page.focus('#code');
+    await page.key('Home');
+    await page.key('ArrowDown');
+    await page.key('Enter');
+    await page.untilText('picked', 'Function 0 is imported: env.printf');
+    await page.click('#sections tbody tr[data-index="5"]');
+    await page.until(() => document.querySelector('#items .text')?.textContent.startsWith('relocations of'));
+    assert.equal(await page.count('#items .item'), 4);
+  },
+
+  async 'the type and the locals of a function, with their indices'(page) {
+    const body = [0x02, 0x02, 0x7e, 0x01, 0x7d, 0x20, 0x00, 0x0b];
+    await page.choose(fileOf('locals.wasm', moduleOf(TYPES, FUNCTION, section(10, [0x01, body.length], body))));
+    await page.run(() => (location.hash = '#function=0'));
+    await page.untilText('items-note', '(func (param i32) (result i32)), locals 1 to 2 i64, local 3 f32');
+  },
+
   async 'an address with a function or an offset'(page) {
     await page.choose(fileOf('calls.wasm', CALLS));
     await page.run(() => (location.hash = '#function=1'));
@@ -709,6 +746,12 @@ const comparing = {
     const cells = await cellsOf(page, 'changes-map');
     const labels = cells.slice(0, 3).map(({ label }) => label);
     assert.deepEqual(labels, ['gone −23, 23 bytes', 'grows +15, 15 bytes', 'new +10, 10 bytes']);
+    // Functions of the open file are links, in the table and in the treemap.
+    assert.deepEqual(await textsOf(page, '#changes a'), ['grows', 'new']);
+    await page.click('#changes a');
+    await titleIs(page, 'grows');
+    await page.run(() => document.getElementById('changes-map').children[2].click());
+    await titleIs(page, 'new');
     assert.ok(Math.abs(cells[1].area / cells[0].area - 15 / 23) < 0.02);
     assert.deepEqual((await rows(page)).length, 4);
     await page.shotsOfBoth('compared');
@@ -761,7 +804,7 @@ const example = {
     await page.untilText('status', 'example.wasm is open.');
     const bytes = new Uint8Array(fs.readFileSync(path.join(HERE, 'example.wasm')));
     assert.deepEqual(await rows(page), library.outline(bytes).map(rowOf));
-    assert.ok(bytes.length > 20_000 && bytes.length < 60_000, `${bytes.length} bytes`);
+    assert.ok(bytes.length > 25_000 && bytes.length < 32_000, `${bytes.length} bytes`);
     assert.ok(library.size(bytes).groups.length > 2);
   },
 };
@@ -892,6 +935,24 @@ const large = {
     await page.click('#byte-pages button');
     const [[first]] = await bytesShown(page, 'b:not(.none)');
     assert.ok(code.offset < first && first < last - 65_536);
+  },
+
+  async 'no task of scrolling 80,000 rows takes 50 ms, and none of drawing 80,000 parts 100 ms'(page) {
+    await page.resize(1280, 800);
+    const segments = section(11, leb(80_000), Buffer.alloc(4 * 80_000, Buffer.from([0x01, 0x02, 0xaa, 0xbb])));
+    await page.choose(fileOf('segments.wasm', moduleOf(segments)));
+    const { longest: ofData } = await page.traced(() => page.until(hasParts));
+    await page.choose(fileOf('functions.wasm', groupedModule(80_000, 4_000_000)));
+    const { longest: ofFunctions } = await page.traced(() => page.until(hasParts));
+    await page.until(hasAnswer);
+    await page.click('#sections tbody tr[data-index="2"]');
+    await page.untilText('items-facts', '80,000');
+    const { value, longest: scrolling } = await page.traced(() => page.run(scrollList));
+    assert.equal(value.rows, 80_000);
+    const longest = [ofData, ofFunctions, scrolling].map(Math.round);
+    console.log(`the longest tasks, data segments, functions, scrolling: ${longest.join(', ')} ms of processor time`);
+    assert.ok(scrolling < 50 && Math.max(ofData, ofFunctions) < 100);
+    await page.resize(1600, 1000);
   },
 
   async 'nothing moves while it is minimized'(page) {

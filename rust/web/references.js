@@ -8,9 +8,16 @@ const DYLINK_IDS = [1, 2, 3, 4, 5];
 
 export const isOfRelocations = ({ name }) => name !== null && name.startsWith('reloc.');
 
-/** The section with its items if it holds indices of others. */
+/**
+ * The section with its items if it holds indices of others. That of relocations is cut only if their
+ * section does not decode.
+ */
 export function withEntries(module, section, index) {
-  const holds = section.id === 0 && (isOfRelocations(section) || ['linking', 'dylink.0'].includes(section.name));
+  if (isOfRelocations(section)) {
+    const { entries } = entriesOf(module, section, index, new Indices(), 1);
+    return { ...section, entries, isCut: entries.length === 0 };
+  }
+  const holds = section.id === 0 && ['linking', 'dylink.0'].includes(section.name);
   const found = holds ? entriesOf(module, section, index, new Indices()) : { entries: [], isCut: false };
   return { ...section, ...found };
 }

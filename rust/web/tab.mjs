@@ -34,6 +34,25 @@ const KEYS = {
 };
 export const CTRL = 2;
 
+/**
+ * Scrolls through the list of items in 120 steps, each of which draws other rows and lays them out.
+ * Returns the milliseconds of each step, and the number of rows. Runs in the page.
+ */
+export async function scrollList() {
+  const list = document.getElementById('items');
+  const times = [];
+  for (let step = 0; step < 120; step += 1) {
+    const start = performance.now();
+    list.scrollTop = (list.scrollHeight * step) / 120;
+    list.dispatchEvent(new Event('scroll'));
+    list.getBoundingClientRect();
+    times.push(performance.now() - start);
+    await new Promise((done) => requestAnimationFrame(done));
+  }
+  const rows = Number(document.querySelector('#items .item').getAttribute('aria-setsize'));
+  return { times: times.sort((a, b) => a - b), rows };
+}
+
 /** A tab with the page; the requests of it and its workers, and their errors and messages. */
 export class Page {
   requests = [];
@@ -41,6 +60,8 @@ export class Page {
   /** How many downloads are complete, and how many of them `downloaded` has read. */
   downloads = 0;
   #read = 0;
+  /** What takes the events of a trace. */
+  #trace = null;
 
   /** Downloads and screenshots are in these folders. Without the second there are none. */
   constructor(browser, room, shots) {
@@ -98,6 +119,8 @@ export class Page {
       'Log.entryAdded': () => params.entry.text,
     }[method];
     if (said) this.complaints.push(said());
+    if (method === 'Tracing.dataCollected') this.#trace.events.push(...params.value);
+    if (method === 'Tracing.tracingComplete') this.#trace.end();
     if (method === 'Browser.downloadProgress' && params.state === 'completed') this.downloads += 1;
     if (method === 'Network.requestWillBeSent') this.requests.push(params.request.url);
     if (method === 'Target.attachedToTarget') this.#watch(params.sessionId).catch(() => {});
@@ -110,6 +133,24 @@ export class Page {
     const { result, exceptionDetails } = await this.send('Runtime.evaluate', asked);
     if (exceptionDetails) throw new Error(exceptionDetails.exception?.description ?? exceptionDetails.text);
     return result.value;
+  }
+
+  /**
+   * Calls a function. Returns its value, and the processor time of the longest task of the page's
+   * thread meanwhile, in milliseconds: waiting for other programs does not count.
+   */
+  async traced(call) {
+    const events = [];
+    const complete = new Promise((end) => (this.#trace = { events, end }));
+    const traceConfig = { includedCategories: ['toplevel', 'blink.user_timing'], excludedCategories: ['*'] };
+    await this.browser.send('Tracing.start', { transferMode: 'ReportEvents', traceConfig });
+    await this.run(() => performance.mark('traced') && null);
+    const value = await call();
+    await this.browser.send('Tracing.end');
+    await complete;
+    const { pid, tid } = events.find(({ name }) => name === 'traced');
+    const isTask = (it) => it.pid === pid && it.tid === tid && it.name === 'ThreadControllerImpl::RunTask';
+    return { value, longest: Math.max(...events.filter(isTask).map(({ tdur }) => tdur ?? 0)) / 1000 };
   }
 
   /** Waits until a function in the page returns true. */

@@ -173,6 +173,8 @@ test('custom sections that hold offsets, and the code stays', () => {
   const [padded, minimal] = ['8000 00', '00 00'].map((numbers) => custom('reloc.TYPE', numbers));
   const linking = custom('linking', '02');
   assert.deepEqual(minimize(moduleOf(types, linking, padded), { keepCode: true }), moduleOf(types, linking, minimal));
+  const cut = custom('reloc.TYPE', '00 02 00');
+  assert.deepEqual(minimize(moduleOf(types, cut), { keepCode: true }), moduleOf(types, cut));
   assert.throws(() => minimize(ADD, { dropOffsets: true, keepCode: true }), TypeError);
 });
 
@@ -460,17 +462,17 @@ test('as many items as an outline counts, without gaps', async () => {
 // Errors.
 
 test('what is no module', () => {
-  const none = 'no module: it does not begin with 00 61 73 6d 01 00 00 00';
-  const text = 'text, and no binary module';
+  const none = 'is not a module: it does not begin with 00 61 73 6d 01 00 00 00';
+  const text = 'is text, not a binary module';
   const causes = [
-    [hex(''), 'empty, and no module'],
-    [hex('00'), 'no module: it ends in the header, at offset 0x1'],
-    [ADD.subarray(0, 7), 'no module: it ends in the header, at offset 0x7'],
+    [hex(''), 'is empty, not a module'],
+    [hex('00'), 'is not a module: it ends in the header, at offset 0x1'],
+    [ADD.subarray(0, 7), 'is not a module: it ends in the header, at offset 0x7'],
     [ADD.subarray(1), none],
-    [hex('0061736e 01000000'), 'no module: it differs from 00 61 73 6d 01 00 00 00 at offset 0x3'],
-    [hex('0061736d 0d000100'), 'a component, and no module'],
-    [hex('0061736d 02000000'), 'a module of version 2, and not 1: the header differs at offset 0x4'],
-    [hex('0061736d 01000001'), 'a module of version 16777217, and not 1: the header differs at offset 0x7'],
+    [hex('0061736e 01000000'), 'is not a module: it differs from 00 61 73 6d 01 00 00 00 at offset 0x3'],
+    [hex('0061736d 0d000100'), 'is a component, not a module'],
+    [hex('0061736d 02000000'), 'is a module of version 2, not 1: the header differs at offset 0x4'],
+    [hex('0061736d 01000001'), 'is a module of version 16777217, not 1: the header differs at offset 0x7'],
     [new TextEncoder().encode('(module)'), text],
     [new TextEncoder().encode('é\n'), text],
   ];
@@ -783,6 +785,25 @@ test('fields of names and segments', () => {
   ]);
 });
 
+test('relocations', () => {
+  // Of section 2: a type, an addend below zero, and one of 64 bits without an exact number.
+  const kinds = ['06 05 03', '05 0a 07 7e', '10 80 01 08 8180808080808080c000'];
+  const module = moduleOf(custom('reloc.DATA', `02 03 ${kinds.join(' ')}`.replaceAll(' ', '')));
+  const [{ entries: [of, ...entries] }] = dump(module);
+  assert.equal(of.section, 2);
+  assert.deepEqual(entries.map(({ offset, size: its, text, ...fields }) => fields), [
+    { type: 'R_WASM_TYPE_INDEX_LEB', section_offset: 5, target: { kind: 'type', index: 3 }, addend: null },
+    { type: 'R_WASM_MEMORY_ADDR_I32', section_offset: 10, target: { kind: 'symbol', index: 7 }, addend: -2 },
+    { type: 'R_WASM_MEMORY_ADDR_I64', section_offset: 128, target: { kind: 'symbol', index: 8 }, addend: 2n ** 62n + 1n },
+  ]);
+  assert.deepEqual(items(module, 0).map(({ text }) => text), [
+    'relocations of section 2',
+    'R_WASM_TYPE_INDEX_LEB offset 0x5 type 3',
+    'R_WASM_MEMORY_ADDR_I32 offset 0xa symbol 7 addend -2',
+    'R_WASM_MEMORY_ADDR_I64 offset 0x80 symbol 8 addend 4611686018427387905',
+  ]);
+});
+
 test('names with characters that JSON escapes', () => {
   const name = '"\\\u0000\u001f\n\u2028é';
   const bytes = Buffer.from(name);
@@ -970,6 +991,9 @@ test('strip', () => {
   const map = custom('sourceMappingURL', '0161');
   const code = '0a 04 01 02 00 0b';
   assert.throws(() => strip(moduleOf(note, code, map), { names: ['note'] }), { message: /names a source map/ });
+  // The index of the section is what counts, whether or not the relocations decode.
+  const cut = custom('reloc.CODE', '01 02 00');
+  assert.deepEqual(strip(moduleOf(note, type, linking, cut), { names: ['note'] }), moduleOf(empty, type, linking, cut));
   const ofType = custom('reloc.TYPE', '00 00');
   assert.throws(() => strip(moduleOf(type, linking, ofType), { names: ['linking'] }), { message: /need the symbols/ });
 });

@@ -1,11 +1,13 @@
 -- This file proves that a module whose functions count their calls decodes as `IsCovered` says.
-use Rattle.wasm_base.proofs.Words.{◌≡◌, ◌≢◌, ℕ, zero, suc, ◌+◌, ◌<◌, ◌≤◌, List, [], ◌∷◌, ◌++◌, length, get_or, map, take, take_more, drop, ints, pos, OnOk, val_type, replicate, cond, if◌then◌else◌}
+use Rattle.wasm_base.proofs.Words.{◌≡◌, ◌≢◌, ℕ, zero, suc, ◌+◌, ◌<◌, List, [], ◌∷◌, ◌++◌, length, get_or, map, take, take_more, ints, pos, OnOk, val_type, replicate, cond, if◌then◌else◌}
 use Rattle.wasm_base.proofs.Words.{Bool, true, false, ◌||◌, ◌==◌, flat_map, Option, Some, None, Result, Ok, Err, refl, sym, ap, ap₂, subst, ◌∙◌, arith, add-one, append_assoc, ◌^◌, codes, IsUtf8}
-use Rattle.wasm_base.proofs.Words.{ascii, append-nil, Mode, map-append, length-append, eqb-true, eq-eqb, ne_eqb, AllByRecursion, AllZip, Format, Decodes, Rejects, RejectsWhole, DecodesWhole}
+use Rattle.wasm_base.proofs.Words.{ascii, append-nil, Mode, map-append, length-append, eq-eqb, ne_eqb, AllByRecursion, AllZip, Format, Decodes, Rejects, RejectsWhole, DecodesWhole}
 use Rattle.wasm_base.proofs.Words.{DecodesOneMore, Unambiguous, UnambiguousWhole, minimal, padded, standard, AreGroups, any_bytes, any_section, header, members, name, pair, size_prefixed, u32}
-use Rattle.wasm_base.proofs.Words.{unsigned_encoding, vec, wasm_module, IsEncodableSection, SectionPayload, joined, members_start, members_step, whole_decodes, decodes_same, u32_in, u32_unambiguous}
+use Rattle.wasm_base.proofs.Words.{unsigned_encoding, vec, wasm_module, IsEncodableSection, joined, members_start, members_step, whole_decodes, decodes_same, u32_in, u32_unambiguous}
 use Rattle.wasm_base.proofs.Words.{name_unambiguous, size_prefixed_bytes_unambiguous, size_prefixed_in, size_prefixed_encoding, HasEncodableSize, vec_of_pieces, whole_from_unique, vec_unambiguous}
-use Rattle.wasm_base.proofs.Words.{longest}
+use Rattle.wasm_base.proofs.Words.{inl, inr}
+use Rattle.std.specs.Prelude.{◌⊎◌}
+use Rattle.std.specs.List.{Any}
 use Rattle.std.proofs.Common.{count_by, decimal, fold, IfErr, IsErrAnd}
 use Rattle.std.proofs.lemmas.List.{append_cancel_right}
 use Rattle.std.proofs.lemmas.Fmt.{IsAscii-decimal}
@@ -16,7 +18,7 @@ use Rattle.wasm_code.proofs.Words.{Body, body, normal_encodes, size_prefixed_bod
 use Rattle.wasm_code.proofs.BodyLaws.{runs_unambiguous}
 use Rattle.wasm_code.specs.Bodies.{Run}
 use Rattle.wasm_code.proofs.ExpressionLaws.{members_join, members_one}
-use Rattle.wasm_insn.proofs.Words.{Plain, instruction, table, lists_whole, instruction_encoding}
+use Rattle.wasm_insn.proofs.Words.{instruction, table, lists_whole, instruction_encoding}
 use Rattle.wasm_insn.specs.Sink.{appended}
 use Rattle.wasm_insn.specs.declared.instruction.Instruction.{Instruction}
 use Rattle.wasm_insn.specs.declared.instruction.Instruction.TheVariants.{GlobalGet, GlobalSet, I32Const, Numeric}
@@ -30,7 +32,7 @@ use Rattle.wasm_sections.specs.Words.{ExportItem, GlobalItem, ImportItem}
 use Rattle.wasm_sections.specs.Exports.{export_of}
 use Rattle.wasm_sections.specs.declared.export.ExportKind.TheVariants as exported
 use Rattle.wasm_reader.specs.Words.{Contents, content, number_in, Located, LocatedBody, IsSection, Section, bytes_of, section_kind_of}
-use Rattle.wasm_reader.specs.Iterating.{EndsBodies, GivesBody, GivesSection, Iterating, NextBody, Visiting, ahead}
+use Rattle.wasm_reader.specs.Iterating.{EndsBodies, GivesBody, GivesSection, Iterating, NextBody, Visiting, ahead, end_of}
 use Rattle.wasm_reader.proofs.IteratingLaws.{section_ahead}
 use Rattle.wasm_reader.specs.declared.read_error.ReadError.{ReadError}
 use Rattle.wasm_reader.specs.Kinds.{Bodies, Exports, Globals, Imports, contents_of}
@@ -38,7 +40,6 @@ use Rattle.wasm_reader.specs.declared.kinds.Items.{Items as ItemsOf}
 use Rattle.wasm_reader.specs.declared.kinds.Items.TheVariants as items
 use Rattle.wasm_reader.specs.Outlines.{IsNameOf, kind_at}
 use Rattle.wasm_reader.specs.Shortening.{contains_offsets}
-use Rattle.wasm_reader.specs.declared.kinds.SectionKind.TheVariants as kinds
 use Rattle.wasm_base.specs.declared.fault.ReadFault.TheVariants.{Memory}
 use Rattle.examples.specs.declared.coverage.CoverageError.{CoverageError}
 use Rattle.examples.specs.declared.coverage.CoverageError.TheVariants as errors
@@ -48,6 +49,7 @@ use Rattle.examples.specs.declared.coverage.imports.Space.TheVariants as spaces
 use Rattle.examples.specs.Coverage.{counting, covered_body, covered_bodies, counter, counter_export, counter_exports, names_counter, has_counter, imported, imported_from, payloads_of, AreImports}
 use Rattle.examples.specs.Coverage.{DecodesOnly, IsKept, row, AreSectionsOf, IsSplit, GainsSections, GainsItems, IsExtended, GainsEncoding, IsJoined, EncodeBodies, AddsBody, KeepsSections, HasNumbers}
 use Rattle.examples.specs.Coverage.{IsMalformed, HasDecoding, IsDecodable, Others, Payloads, sections_of, HasNone, IsCoverable, IsCovered, IsUnfit}
+use Rattle.examples.specs.Coverage.{Follow, HasObstacle, IsReason, IsTaken, Parts}
 
 -- ---- lists of values
 
@@ -501,23 +503,50 @@ all_push P [] x h p = (p, tt)
 all_push P (y ∷ xs) x h p = (h.0, all_push P xs x h.1 p)
 
 -- A list of sections, from the iterator.
-pub record HasFound (start rest : List ℕ) (found : List Located) : Type 0 where
-  pub read : Decodes (members any_section) padded start (map row found) rest
+pub record HasFound (start now : Iterating) (found : List Located) : Type 0 where
+  pub read : Decodes (members any_section) padded (ahead start) (map row found) (ahead now)
   pub each : AllByRecursion (λ s. IsSection s.section) found
+  pub joined : ahead start ≡ flat_map (λ s. bytes_of s.section) found ++ ahead now
+  pub offsets : Follow start.offset now.offset found
 
-pub found_none : (start : List ℕ) (found : List Located) → found ≡ [] → HasFound start start found
-found_none start found e = subst (λ l. HasFound start start l) (sym e) (record { read = members_start any_section padded start; each = tt })
+pub found_none : (start : Iterating) (found : List Located) → found ≡ [] → HasFound start start found
+found_none start found e = subst (λ l. HasFound start start l) (sym e) (record { read = members_start any_section padded (ahead start); each = tt; joined = refl; offsets = refl })
 
-pub found_more : {start : List ℕ} {old new : Iterating} (found : List Located) {after : List Located} {s : Located} → HasFound start (ahead old) found → GivesSection old s new → after ≡ found ++ s ∷ [] → HasFound start (ahead new) after
+joined_push : (found : List Located) (s : Located) (start old new : List ℕ) → start ≡ flat_map (λ t. bytes_of t.section) found ++ old → old ≡ bytes_of s.section ++ new → start ≡ flat_map (λ t. bytes_of t.section) (found ++ s ∷ []) ++ new
+joined_push [] s start old new h e = h ∙ e ∙ ap (λ l. l ++ new) (sym (append-nil (bytes_of s.section)))
+joined_push (t ∷ found) s start old new h e =
+    let rest = joined_push found s (flat_map (λ t. bytes_of t.section) found ++ old) old new refl e in
+    h ∙ append_assoc (bytes_of t.section) (flat_map (λ t. bytes_of t.section) found) old ∙ ap (λ l. bytes_of t.section ++ l) rest ∙ sym (append_assoc (bytes_of t.section) (flat_map (λ t. bytes_of t.section) (found ++ s ∷ [])) new)
+
+follow_push : (start end : ℕ) (found : List Located) (s : Located) → Follow start end found → s.offset ≡ end → Follow start (end_of s) (found ++ s ∷ [])
+follow_push start end [] s h e = (e ∙ sym h, refl)
+follow_push start end (t ∷ found) s h e = (h.0, follow_push (end_of t) end found s h.1 e)
+
+follow_end : (start end : ℕ) (found : List Located) → Follow start end found → end ≡ start + length (flat_map (λ s. bytes_of s.section) found)
+follow_end start end [] h = omega (arith, h)
+follow_end start end (t ∷ found) h = omega (arith, h.0, follow_end (end_of t) end found h.1, length-append (bytes_of t.section) (flat_map (λ s. bytes_of s.section) found))
+
+pub found_more : {start : Iterating} {old new : Iterating} (found : List Located) {after : List Located} {s : Located} → HasFound start old found → GivesSection old s new → after ≡ found ++ s ∷ [] → HasFound start new after
 found_more {start = start} {new = new} found {s = s} h g e =
-    subst (λ l. HasFound start (ahead new) l) (sym e)
+    subst (λ l. HasFound start new l) (sym e)
     (record {
-      read = subst (λ l. Decodes (members any_section) padded start l (ahead new)) (sym (map-append row found (s ∷ []))) (members_step any_section h.read (section_ahead g));
+      read = subst (λ l. Decodes (members any_section) padded (ahead start) l (ahead new)) (sym (map-append row found (s ∷ []))) (members_step any_section h.read (section_ahead g));
       each = all_push (λ t. IsSection t.section) found s h.each g.is_section;
+      joined = joined_push found s _ _ _ h.joined g.split;
+      offsets = subst (λ n. Follow start.offset n (found ++ s ∷ [])) (sym g.after) (follow_push start.offset _ found s h.offsets g.offset);
     })
 
-pub found_all : {start rest : List ℕ} {found : List Located} (bytes : List ℕ) → bytes ≡ header ++ start → HasFound start rest found → rest ≡ [] → AreSectionsOf bytes found
-found_all {rest = rest} {found = found} bytes e h l = record { read = whole_decodes wasm_module bytes rest (map row found) (prefixed_decodes header (members any_section) e h.read) (ap length l); each = h.each }
+pub found_all : {start now : Iterating} {found : List Located} (bytes : List ℕ) → bytes ≡ header ++ ahead start → start.offset ≡ length header → HasFound start now found → ahead now ≡ [] → AreSectionsOf bytes found
+found_all {start = start} {now = now} {found = found} bytes e first h l =
+    let sections = flat_map (λ s. bytes_of s.section) found in
+    let joined : bytes ≡ header ++ sections = e ∙ ap (λ r. header ++ r) (h.joined ∙ ap (λ r. sections ++ r) l ∙ append-nil sections) in
+    let end : now.offset ≡ length bytes = omega (arith, first, follow_end start.offset now.offset found h.offsets, ap length joined, length-append header sections) in
+    record {
+      read = whole_decodes wasm_module bytes (ahead now) (map row found) (prefixed_decodes header (members any_section) e h.read) (ap length l);
+      each = h.each;
+      joined = joined;
+      offsets = subst (λ n. Follow n (length bytes) found) first (subst (λ n. Follow start.offset n found) end h.offsets);
+    }
 
 -- A section of the items of the old one, and more.
 pub gains_extended : {X : Type 0} (F : Format X) {id added : ℕ} {payload items encoded old_payload new_payload old new : List ℕ} → UnambiguousWhole (vec F) → (xs ys : List X) → IsExtended payload added items old_payload → items ≡ encoded → new_payload ≡ old_payload
@@ -851,3 +880,73 @@ module _ {bytes : List ℕ} {found list : List Located} (c : IsCoverable bytes) 
           subst (AllByRecursion IsKept) (sym third_same.fronts) c.kept.middle,
           subst (AllByRecursion IsKept) (sym third_same.backs) c.kept.after,
         )
+
+-- ---- the reason of an error
+
+-- The same when a call propagates the error.
+pub reason_stays : {T : Type 0} (P : CoverageError → Type 0) (r : Result T CoverageError) (e : CoverageError) → IsErrAnd r (λ y. y ≡ e) → P e → IfErr r P
+reason_stays P (Ok x) e h p = elim h [ ]
+reason_stays P (Err y) e h p = subst P (sym h) p
+
+-- Nothing is said of an error of a reader.
+pub reader_reason : (bytes : List ℕ) (e : CoverageError) → (IsUnfit e → ⊥) → IsReason bytes e
+reader_reason bytes (errors.Read e) none = tt
+reader_reason bytes e none = absurd (none tt)
+
+-- The exports of a section that has some such name.
+pub is_taken : (s : Located) (is : IsSection s.section) (xs : List ExportItem) (x : Contents) (offset : ℕ) → offset ≡ s.offset → content (section_kind_of s.section) standard s.section.payload x → x ≡ Exports xs → has_counter xs ≡ true → s.section.id ≡ 7
+    → IsTaken s (errors.Taken offset)
+is_taken s is xs x offset at h same taken e =
+    let items = exports_in s.section is x h e in
+    let both : items.0 ≡ xs = cc in
+    (at, items.0, items.2, ap has_counter both ∙ taken)
+
+-- No section has what none can have.
+never : {X : Type 0} (ps qs rs ss : List X) → (Any (λ x. ⊥) ps ⊎ Any (λ x. ⊥) qs) ⊎ (Any (λ x. ⊥) rs ⊎ Any (λ x. ⊥) ss) → ⊥
+never ps qs rs ss (inl (inl h)) = h.4
+never ps qs rs ss (inl (inr h)) = h.4
+never ps qs rs ss (inr (inl h)) = h.4
+never ps qs rs ss (inr (inr h)) = h.4
+
+module _ {bytes : List ℕ} {found list : List Located} (has : AreSectionsOf bytes found) (same : list ≡ found) where
+  pub lacks_first : {e : CoverageError} → (e ≡ errors.Missing 6) × HasNone 6 list → IsReason bytes e
+  lacks_first h = subst (IsReason bytes) (sym h.0) (found, has, inl (refl, subst (HasNone 6) same h.1))
+
+  module _ {before first_rest : List Located} {globals : Located} (at_globals : IsSplit 6 list before globals first_rest) where
+    pub found_globals : IsSplit 6 found before globals first_rest
+    found_globals = subst (λ l. IsSplit 6 l before globals first_rest) same at_globals
+
+    pub lacks_second : {e : CoverageError} → (e ≡ errors.Missing 7) × HasNone 7 first_rest → IsReason bytes e
+    lacks_second h = subst (IsReason bytes) (sym h.0) (found, has, inr (before, globals, first_rest, found_globals, inl (refl, h.1)))
+
+    module _ {between second_rest : List Located} {exports : Located} (at_exports : IsSplit 7 first_rest between exports second_rest) where
+      pub lacks_third : {e : CoverageError} → (e ≡ errors.Missing 10) × HasNone 10 second_rest → IsReason bytes e
+      lacks_third h = subst (IsReason bytes) (sym h.0) (found, has, inr (before, globals, first_rest, found_globals, inr (between, exports, second_rest, at_exports, inl (refl, h.1))))
+
+      module _ {middle after : List Located} {code : Located} (at_code : IsSplit 10 second_rest middle code after) where
+        abbrev parts : Parts found
+        parts = record {
+          before = before;
+          globals = globals;
+          after_globals = first_rest;
+          between = between;
+          exports = exports;
+          after_exports = second_rest;
+          middle = middle;
+          code = code;
+          after = after;
+          at_globals = found_globals;
+          at_exports = at_exports;
+          at_code = at_code;
+        }
+
+        pub obstructed : (e : CoverageError) → HasObstacle e parts → IsReason bytes e
+        obstructed (errors.Read e) h = tt
+        obstructed (errors.Misplaced offset) h = (found, has, (parts, h))
+        obstructed (errors.Offsets offset) h = (found, has, (parts, h))
+        obstructed e h = absurd (never before between middle after h)
+
+        pub taken : (e : CoverageError) → IsTaken exports e → IsReason bytes e
+        taken (errors.Read e) h = tt
+        taken (errors.Taken offset) h = (found, has, (parts, h))
+        taken e h = absurd h

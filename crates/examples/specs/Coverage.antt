@@ -1,17 +1,17 @@
 -- This file defines a module whose functions count their calls: each function that the module
 -- defines has a counter, to which it adds 1 before its own instructions.
 use Rattle.std.specs.Prelude.{◌≡◌, ◌≢◌, ℕ, zero, suc, ◌+◌, ◌<◌, ◌^◌, List, [], ◌∷◌, ◌++◌, length, map, nat_eq, ◌||◌, replicate, codes, decimal, count_by, flat_map, pos, Bool, true, false, ◌==◌}
-use Rattle.std.specs.Prelude.{if◌then◌else◌, Some, ⊤}
-use Rattle.std.specs.List.{AllByRecursion, AllZip, starts_with}
+use Rattle.std.specs.Prelude.{if◌then◌else◌, Some, ⊤, ◌≤◌, ◌⊎◌}
+use Rattle.std.specs.List.{AllByRecursion, AllZip, Any, starts_with}
 use Rattle.std.specs.declared.alloc.Global.{Global}
-use Rattle.wasm_base.specs.Words.{Format, Decodes, DecodesWhole, padded, standard, name, u32, vec, size_prefixed, wasm_module, number_of, members, unsigned_encoding}
+use Rattle.wasm_base.specs.Words.{Format, header, Decodes, DecodesWhole, padded, standard, name, u32, vec, size_prefixed, wasm_module, number_of, members, unsigned_encoding}
 use Rattle.wasm_base.specs.declared.types.ValType.TheVariants.{I32}
 use Rattle.wasm_code.specs.Words.{Body, body, normal_row}
 use Rattle.wasm_insn.specs.Words.{Plain, instruction, table}
 use Rattle.wasm_insn.specs.declared.instruction.Instruction.TheVariants.{GlobalGet, GlobalSet, I32Const, Numeric}
 use Rattle.wasm_insn.specs.declared.numeric.Numeric.TheVariants.{I32Add}
-use Rattle.wasm_reader.specs.Iterating.{Located}
-use Rattle.wasm_reader.specs.Outlines.{IsSection}
+use Rattle.wasm_reader.specs.Iterating.{Located, end_of}
+use Rattle.wasm_reader.specs.Outlines.{IsSection, bytes_of}
 use Rattle.wasm_reader.specs.Shortening.{contains_offsets}
 use Rattle.wasm_sections.specs.Words.{ExportItem, export, GlobalItem, global_item, ImportItem, import_format}
 use Rattle.wasm_sections.specs.Imports.{Imported, single, named, alike}
@@ -189,20 +189,12 @@ pub record IsCovered (bytes new : List ℕ) : Type 0 where
 -- The error is that of a decoder, and not of an allocation.
 abbrev pub IsMalformed : CoverageError → Type 0
 IsMalformed (errors.Read e) = e.cause ≢ Memory
-IsMalformed (errors.Missing id) = ⊥
-IsMalformed (errors.Misplaced offset) = ⊥
-IsMalformed (errors.Offsets offset) = ⊥
-IsMalformed (errors.Taken offset) = ⊥
-IsMalformed errors.TooLong = ⊥
+IsMalformed e = ⊥
 
 -- The error says that the module cannot be covered, and no decoder returned it.
 abbrev pub IsUnfit : CoverageError → Type 0
 IsUnfit (errors.Read e) = ⊥
-IsUnfit (errors.Missing id) = ⊤
-IsUnfit (errors.Misplaced offset) = ⊤
-IsUnfit (errors.Offsets offset) = ⊤
-IsUnfit (errors.Taken offset) = ⊤
-IsUnfit errors.TooLong = ⊤
+IsUnfit e = ⊤
 
 -- If the section is of imports, globals, exports or code, it decodes to items.
 pub record HasDecoding (s : ℕ × List ℕ) : Type 0 where
@@ -223,10 +215,17 @@ pub record IsDecodable (bytes : List ℕ) : Type 0 where
 abbrev pub row : Located → ℕ × List ℕ
 row s = (s.section.id, s.section.payload)
 
--- The bytes are a module of these sections.
+-- The sections follow one another from the first of these offsets to the second.
+abbrev pub Follow : (start end : ℕ) → List Located → Type 0
+Follow start end [] = start ≡ end
+Follow start end (s ∷ sections) = (s.offset ≡ start) × Follow (end_of s) end sections
+
+-- The bytes are a module of these sections, at their offsets.
 pub record AreSectionsOf (bytes : List ℕ) (sections : List Located) : Type 0 where
   pub read : wasm_module padded bytes (map row sections)
   pub each : AllByRecursion (λ s. IsSection s.section) sections
+  pub joined : bytes ≡ header ++ flat_map (λ s. bytes_of s.section) sections
+  pub offsets : Follow (length header) (length bytes) sections
 
 -- No section has this id.
 abbrev pub HasNone : ℕ → List Located → Type 0
@@ -237,6 +236,61 @@ pub record IsSplit (id : ℕ) (sections before : List Located) (found : Located)
   pub is : sections ≡ before ++ found ∷ after
   pub has_id : found.section.id ≡ id
   pub first : HasNone id before
+
+-- The parts of a list of sections: the first section of globals, the first of exports after it, the
+-- first of code after that, and those before, between and after these.
+pub record Parts (sections : List Located) : Type 0 where
+  pub before : List Located
+  pub globals : Located
+  pub after_globals : List Located
+  pub between : List Located
+  pub exports : Located
+  pub after_exports : List Located
+  pub middle : List Located
+  pub code : Located
+  pub after : List Located
+  pub at_globals : IsSplit (number_of ids.Global) sections before globals after_globals
+  pub at_exports : IsSplit (number_of ids.Export) after_globals between exports after_exports
+  pub at_code : IsSplit (number_of ids.Code) after_exports middle code after
+
+-- The sections have first ones of some of these ids, one after another, and none of the next id.
+abbrev pub Lacks : (ids : List ℕ) (id : ℕ) → List Located → Type 0
+Lacks [] id sections = ⊥
+Lacks (next ∷ more) id sections = ((id ≡ next) × HasNone next sections) ⊎ ((before : List Located) × (found : Located) × (after : List Located) × IsSplit next sections before found after × Lacks more id after)
+
+-- It is the error of a section beside the first ones of globals, exports and code, at its offset:
+-- its id is one of theirs, or its name says that it holds offsets into the code.
+abbrev pub IsObstacle : Located → CoverageError → Type 0
+IsObstacle s (errors.Read e) = ⊤
+IsObstacle s (errors.Misplaced offset) = (offset ≡ s.offset) × ((s.section.id ≡ number_of ids.Global) ⊎ ((s.section.id ≡ number_of ids.Export) ⊎ (s.section.id ≡ number_of ids.Code)))
+IsObstacle s (errors.Offsets offset) = (offset ≡ s.offset) × (contains_offsets s.section.name ≡ true)
+IsObstacle s e = ⊥
+
+-- One of the sections beside those has this error.
+abbrev pub HasObstacle : {sections : List Located} → CoverageError → Parts sections → Type 0
+HasObstacle e p = (Any (λ s. IsObstacle s e) p.before ⊎ Any (λ s. IsObstacle s e) p.between) ⊎ (Any (λ s. IsObstacle s e) p.middle ⊎ Any (λ s. IsObstacle s e) p.after)
+
+-- It is the error of a section of exports, at its offset: the name of one begins with the prefix of
+-- counters' names.
+abbrev pub IsTaken : Located → CoverageError → Type 0
+IsTaken s (errors.Read e) = ⊤
+IsTaken s (errors.Taken offset) = (offset ≡ s.offset) × (exports : List ExportItem) × vec export standard s.section.payload exports × (has_counter exports ≡ true)
+IsTaken s e = ⊥
+
+-- The sections have what the error says.
+abbrev pub Explains : CoverageError → List Located → Type 0
+Explains (errors.Read e) sections = ⊤
+Explains (errors.Missing id) sections = Lacks (number_of ids.Global ∷ number_of ids.Export ∷ number_of ids.Code ∷ []) id sections
+Explains (errors.Misplaced offset) sections = (p : Parts sections) × HasObstacle (errors.Misplaced offset) p
+Explains (errors.Offsets offset) sections = (p : Parts sections) × HasObstacle (errors.Offsets offset) p
+Explains (errors.Taken offset) sections = (p : Parts sections) × IsTaken p.exports (errors.Taken offset)
+Explains errors.TooLong sections = ⊥
+
+-- The module has what the error says. Nothing is said of an error of a decoder or an allocation.
+abbrev pub IsReason : List ℕ → CoverageError → Type 0
+IsReason bytes (errors.Read e) = ⊤
+IsReason bytes errors.TooLong = 2 ^ 28 ≤ length bytes
+IsReason bytes e = (sections : List Located) × AreSectionsOf bytes sections × Explains e sections
 
 -- If the old bytes decode to some sections alone, the new bytes decode to these and more.
 pub record GainsSections (more : List (ℕ × List ℕ)) (old new : List ℕ) : Type 0 where

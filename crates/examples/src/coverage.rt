@@ -1,6 +1,6 @@
 // A module whose functions count their calls.
 ghost use Rattle.std.specs.Prelude.{◌≡◌, ◌≢◌, ◌++◌, List, [], ◌∷◌, length, map, replicate, true, false, None, Some, IfOk, IfErr, OnOk};
-ghost use Rattle.std.specs.List.{AllByRecursion};
+ghost use Rattle.std.specs.List.{AllByRecursion, Any};
 ghost use Rattle.wasm_base.specs.Continuing.{RejectsWhole};
 ghost use Rattle.wasm_base.specs.Decoding.{Rejects};
 ghost use Rattle.wasm_base.specs.Formats.{size_prefixed, u32, vec, wasm_module};
@@ -28,11 +28,14 @@ ghost use Rattle.examples.specs.Coverage.{
   IsDecodable,
   IsKept,
   IsMalformed,
+  IsObstacle,
+  IsReason,
   IsSplit,
+  IsTaken,
   IsUnfit,
   KeepsSections,
 };
-ghost use Rattle.examples.specs.declared.coverage.CoverageError.TheVariants.{Read};
+ghost use Rattle.examples.specs.declared.coverage.CoverageError.TheVariants.{Missing, Read};
 
 mod bodies;
 mod counters;
@@ -106,6 +109,7 @@ pub fn covered<A: Allocator + Copy>(bytes: &[u8], alloc: A) -> Result<Vec<u8, A>
     ensures found { IfOk result (λ new. IsCovered bytes.now new.items) }
     ensures none { IfErr result (λ e. IsMalformed e → IsDecodable bytes.now → ⊥) }
     ensures unfit { IfErr result (λ e. IsUnfit e → IsCoverable bytes.now → ⊥) }
+    ensures reason { IfErr result (λ e. IsReason bytes.now e) }
 {
     if bytes.len() >= MAX_LENGTH {
         return Err(CoverageError::TooLong);
@@ -168,6 +172,7 @@ fn split<'s, 'a, A: Allocator + Copy>(
     ensures found { IfOk result (λ x. IsSplit id sections.now x.0.now x.1.now x.2.now) }
     ensures none { IfErr result (λ e. IsMalformed e → ⊥) }
     ensures unfit { IfErr result (λ e. IsUnfit e → HasNone id sections.now) }
+    ensures reason { IfErr result (λ e. (e ≡ Missing id) × HasNone id sections.now) }
 {
     let mut at = 0;
     while at < sections.len() {
@@ -237,6 +242,7 @@ fn copy_all<A: Allocator + Copy>(
     ensures found { AllByRecursion (λ s. IsSection s.section) sections.now → OnOk result (KeepsSections (map row sections.now) new.old new.new) }
     ensures none { IfErr result (λ e. IsMalformed e → ⊥) }
     ensures unfit { AllByRecursion (λ s. IsSection s.section) sections.now → IfErr result (λ e. IsUnfit e → AllByRecursion IsKept (map row sections.now) → ⊥) }
+    ensures reason { IfErr result (λ e. Any (λ s. IsObstacle s e) sections.now) }
 {
     for section in sections {
         keep(section, new)?;
@@ -253,6 +259,7 @@ fn keep<A: Allocator + Copy>(
     ensures found { IsSection section.now.section → OnOk result (IsKept (row section.now) × GainsSections (row section.now ∷ []) new.old new.new) }
     ensures none { IfErr result (λ e. IsMalformed e → ⊥) }
     ensures unfit { IsSection section.now.section → IfErr result (λ e. IsUnfit e → IsKept (row section.now) → ⊥) }
+    ensures reason { IfErr result (λ e. IsObstacle section.now e) }
 {
     let offset = section.offset();
     let id = section.id();
@@ -351,6 +358,7 @@ fn check_exports<A: Allocator + Copy>(section: &Section<'_, A>) -> Result<(), Co
     ensures found { IsSection section.now.section → section.now.section.id ≡ 7 → OnOk result ((exports : List ExportItem) × vec export standard section.now.section.payload exports × (has_counter exports ≡ false)) }
     ensures none { IfErr result (λ e. IsMalformed e → RejectsWhole (content (section_kind_of section.now.section)) standard section.now.section.payload) }
     ensures unfit { IsSection section.now.section → section.now.section.id ≡ 7 → IfErr result (λ e. IsUnfit e → (exports : List ExportItem) → vec export standard section.now.section.payload exports → has_counter exports ≡ true) }
+    ensures reason { IsSection section.now.section → section.now.section.id ≡ 7 → IfErr result (λ e. IsTaken section.now e) }
 {
     let offset = section.offset();
     let Items::Exports(exports) = section.items()? else {
@@ -372,6 +380,7 @@ fn add_exports<A: Allocator + Copy>(
     ensures found { IsSection section.now.section → section.now.section.id ≡ 7 → OnOk result ((exports : List ExportItem) × vec export standard section.now.section.payload exports × (has_counter exports ≡ false) × GainsItems 7 (vec export) (exports ++ counter_exports numbers.function numbers.counter numbers.bodies) new.old new.new) }
     ensures none { IsSection section.now.section → section.now.section.id ≡ 7 → IfErr result (λ e. IsMalformed e → HasDecoding (row section.now) → ⊥) }
     ensures unfit { IsSection section.now.section → section.now.section.id ≡ 7 → IfErr result (λ e. IsUnfit e → (exports : List ExportItem) → vec export standard section.now.section.payload exports → has_counter exports ≡ true) }
+    ensures reason { IsSection section.now.section → section.now.section.id ≡ 7 → IfErr result (λ e. IsTaken section.now e) }
 {
     let offset = section.offset();
     check_exports(section)?;

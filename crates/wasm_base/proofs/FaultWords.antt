@@ -8,23 +8,11 @@ use Rattle.wasm_base.specs.declared.fault.ReadFault.TheVariants.{Ended, NotShort
 -- A cause is that of its number, which is below 8.
 pub cause_again : (c : ReadFault) → cause_numbered (cause_number c) ≡ c
 cause_again Ended = refl
-cause_again NotShortest = refl
-cause_again TooLarge = refl
-cause_again UnknownTag = refl
-cause_again UnknownOpcode = refl
-cause_again NotUtf8 = refl
-cause_again SizeMismatch = refl
-cause_again Memory = refl
+cause_again c = refl
 
 pub number_small : (c : ReadFault) → cause_number c < 8
 number_small Ended = omega arith
-number_small NotShortest = omega arith
-number_small TooLarge = omega arith
-number_small UnknownTag = omega arith
-number_small UnknownOpcode = omega arith
-number_small NotUtf8 = omega arith
-number_small SizeMismatch = omega arith
-number_small Memory = omega arith
+number_small c = omega arith
 
 -- The failure of the number of a failure is the same failure.
 pub failure_again : (f : Failure) → failure_of (word_of f) ≡ f

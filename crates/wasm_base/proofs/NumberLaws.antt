@@ -254,19 +254,7 @@ pub below_cases : (P : Mode → Mode → Type 0) → P minimal padded → P stan
 below_cases P a b c minimal padded h = a
 below_cases P a b c standard_minimal standard h = b
 below_cases P a b c padded standard h = c
-below_cases P a b c minimal minimal h = absurd h
-below_cases P a b c minimal standard_minimal h = absurd h
-below_cases P a b c minimal standard h = absurd h
-below_cases P a b c padded minimal h = absurd h
-below_cases P a b c padded padded h = absurd h
-below_cases P a b c padded standard_minimal h = absurd h
-below_cases P a b c standard_minimal minimal h = absurd h
-below_cases P a b c standard_minimal padded h = absurd h
-below_cases P a b c standard_minimal standard_minimal h = absurd h
-below_cases P a b c standard minimal h = absurd h
-below_cases P a b c standard padded h = absurd h
-below_cases P a b c standard standard_minimal h = absurd h
-below_cases P a b c standard standard h = absurd h
+below_cases P a b c m n h = absurd h
 
 pub unsigned-less : (bits : ℕ) → 0 < bits → ShortenLess (λ mode. Unsigned mode bits)
 unsigned-less bits some builders s n v l h =

@@ -18,19 +18,7 @@ abstract_decode b = cond (eqb b 0x70) kinds.Func (cond (eqb b 0x6F) kinds.Extern
 abstract_back : (x : AbstractHeapType) → abstract_decode (abstract_code x) ≡ x
 unfolding abstract_decode
 abstract_back kinds.Func = refl
-abstract_back kinds.Extern = refl
-abstract_back kinds.Any = refl
-abstract_back kinds.Eq = refl
-abstract_back kinds.I31 = refl
-abstract_back kinds.Struct = refl
-abstract_back kinds.Array = refl
-abstract_back kinds.Exn = refl
-abstract_back kinds.NoExn = refl
-abstract_back kinds.NoFunc = refl
-abstract_back kinds.NoExtern = refl
-abstract_back kinds.None = refl
-abstract_back kinds.Cont = refl
-abstract_back kinds.NoCont = refl
+abstract_back x = refl
 
 pub abstract_unambiguous : Unambiguous abstract_type
 abstract_unambiguous = coded_unambiguous abstract_code abstract_decode abstract_back
@@ -61,19 +49,7 @@ begins_s33 mode (b ∷ c ∷ s) n h = (b, c ∷ s, refl, inr h.groups.0)
 
 pub abstract_bytes : (x : AbstractHeapType) → (0x68 ≤ abstract_code x) × (abstract_code x < 0x76)
 abstract_bytes kinds.Func = (omega arith, omega arith)
-abstract_bytes kinds.Extern = (omega arith, omega arith)
-abstract_bytes kinds.Any = (omega arith, omega arith)
-abstract_bytes kinds.Eq = (omega arith, omega arith)
-abstract_bytes kinds.I31 = (omega arith, omega arith)
-abstract_bytes kinds.Struct = (omega arith, omega arith)
-abstract_bytes kinds.Array = (omega arith, omega arith)
-abstract_bytes kinds.Exn = (omega arith, omega arith)
-abstract_bytes kinds.NoExn = (omega arith, omega arith)
-abstract_bytes kinds.NoFunc = (omega arith, omega arith)
-abstract_bytes kinds.NoExtern = (omega arith, omega arith)
-abstract_bytes kinds.None = (omega arith, omega arith)
-abstract_bytes kinds.Cont = (omega arith, omega arith)
-abstract_bytes kinds.NoCont = (omega arith, omega arith)
+abstract_bytes x = (omega arith, omega arith)
 
 -- The tag byte before a heap type that has one.
 abbrev heap_tag : HeapType → ℕ

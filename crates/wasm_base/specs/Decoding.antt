@@ -59,12 +59,12 @@ HasOneEncoding {X} S = (s t : List ℕ) (x : X) → S s x → S t x → s ≡ t
 abbrev pub IsIncludedIn : {X : Type 0} → Encoding X → Encoding X → Type 0
 IsIncludedIn {X} S T = (s : List ℕ) (x : X) → S s x → T s x
 
--- Every value that `S` encodes has an encoding by `T` that is no longer.
+-- Every value that `S` encodes has an encoding by `T` that is at most as long.
 abbrev pub ShrinksTo : {X : Type 0} → Encoding X → Encoding X → Type 0
 ShrinksTo {X} S T = (s : List ℕ) (x : X) → S s x → (t : List ℕ) × T t x × (length t ≤ length s)
 
--- In each grammar a value that has a padded encoding has exactly one minimal encoding, which is no
--- longer. A mode has all encodings of each mode that is `Below` it.
+-- In each grammar a value that has a padded encoding has exactly one minimal encoding, which is at
+-- most as long. A mode has all encodings of each mode that is `Below` it.
 pub record HasEncodings {X : Type 0} (F : Format X) : Type 0 where
   pub one : (w : Grammar) → HasOneEncoding (F (minimal_of w))
   pub included : (m n : Mode) → Below m n → IsIncludedIn (F m) (F n)

@@ -88,12 +88,7 @@ stores_more i front old new whole is other e =
 
 first_no_end : (first : First) → IsNoEnd (row_of (instruction_of first))
 first_no_end (firsts.GlobalGet index) = refl
-first_no_end (firsts.RefNull ty) = refl
-first_no_end (firsts.RefFunc index) = refl
-first_no_end (firsts.I32Const value) = refl
-first_no_end (firsts.I64Const value) = refl
-first_no_end (firsts.F32Const value) = refl
-first_no_end (firsts.F64Const value) = refl
+first_no_end first = refl
 
 pub stores_first : (first : First) (new : List ℕ) → new ≡ first_encoding first → Stores (instruction_of first) [] new
 stores_first first new e = stores (instruction_of first) [] new (first_no_end first) e

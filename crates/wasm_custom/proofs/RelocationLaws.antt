@@ -34,32 +34,11 @@ decode b = if b == 0 then kinds.Plain FunctionIndexLeb else (if b == 1 then kind
 back : (k : RelocationKind) → decode (relocation_code k) ≡ k
 unfolding decode
 back (kinds.Plain FunctionIndexLeb) = refl
-back (kinds.Plain TableIndexSleb) = refl
-back (kinds.Plain TableIndexI32) = refl
-back (kinds.Plain TypeIndexLeb) = refl
-back (kinds.Plain GlobalIndexLeb) = refl
-back (kinds.Plain TagIndexLeb) = refl
-back (kinds.Plain TableIndexRelSleb) = refl
-back (kinds.Plain GlobalIndexI32) = refl
-back (kinds.Plain TableIndexSleb64) = refl
-back (kinds.Plain TableIndexI64) = refl
-back (kinds.Plain TableNumberLeb) = refl
-back (kinds.Plain TableIndexRelSleb64) = refl
-back (kinds.Plain FunctionIndexI32) = refl
+back (kinds.Plain k) = refl
 back (kinds.Addend32 MemoryAddrLeb) = refl
-back (kinds.Addend32 MemoryAddrSleb) = refl
-back (kinds.Addend32 MemoryAddrI32) = refl
-back (kinds.Addend32 FunctionOffsetI32) = refl
-back (kinds.Addend32 SectionOffsetI32) = refl
-back (kinds.Addend32 MemoryAddrRelSleb) = refl
-back (kinds.Addend32 MemoryAddrTlsSleb) = refl
-back (kinds.Addend32 MemoryAddrLocrelI32) = refl
+back (kinds.Addend32 k) = refl
 back (kinds.Addend64 MemoryAddrLeb64) = refl
-back (kinds.Addend64 MemoryAddrSleb64) = refl
-back (kinds.Addend64 MemoryAddrI64) = refl
-back (kinds.Addend64 MemoryAddrRelSleb64) = refl
-back (kinds.Addend64 FunctionOffsetI64) = refl
-back (kinds.Addend64 MemoryAddrTlsSleb64) = refl
+back (kinds.Addend64 k) = refl
 
 pub kind_unambiguous : Unambiguous (coded relocation_code)
 kind_unambiguous = coded_unambiguous relocation_code decode back

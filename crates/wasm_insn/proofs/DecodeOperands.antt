@@ -132,23 +132,7 @@ no_case shapes.C32 n u c d m b = absurd (c refl)
 no_case shapes.C64 n u c d m b = absurd (d refl)
 no_case shapes.M n u c d m b = absurd (m refl)
 no_case shapes.B n u c d m b = absurd (b refl)
-no_case shapes.Uu n u c d m b = refl
-no_case shapes.Ml n u c d m b = refl
-no_case shapes.L n u c d m b = refl
-no_case shapes.H n u c d m b = refl
-no_case shapes.O n u c d m b = refl
-no_case shapes.Ou n u c d m b = refl
-no_case shapes.Ouu n u c d m b = refl
-no_case shapes.F32 n u c d m b = refl
-no_case shapes.F64 n u c d m b = refl
-no_case shapes.V n u c d m b = refl
-no_case shapes.Ls n u c d m b = refl
-no_case shapes.Bt n u c d m b = refl
-no_case shapes.Tt n u c d m b = refl
-no_case shapes.Ts n u c d m b = refl
-no_case shapes.K n u c d m b = refl
-no_case shapes.Uh n u c d m b = refl
-no_case shapes.Uuh n u c d m b = refl
+no_case shape n u c d m b = refl
 
 -- The bytes as a whole decode to no other immediates.
 pub encoded_same : (ps : List Part) (bytes : List ℕ) (xs ys : List Argument) → arguments ps standard bytes ys → arguments ps standard bytes xs → ys ≡ xs
@@ -179,28 +163,7 @@ are_of_case _ = false
 
 of_case : (shape : Shape) → are_of_case (parts_of shape) ≡ has_case shape
 of_case shapes.Nothing = refl
-of_case shapes.U = refl
-of_case shapes.Uu = refl
-of_case shapes.M = refl
-of_case shapes.Ml = refl
-of_case shapes.L = refl
-of_case shapes.B = refl
-of_case shapes.H = refl
-of_case shapes.O = refl
-of_case shapes.Ou = refl
-of_case shapes.Ouu = refl
-of_case shapes.C32 = refl
-of_case shapes.C64 = refl
-of_case shapes.F32 = refl
-of_case shapes.F64 = refl
-of_case shapes.V = refl
-of_case shapes.Ls = refl
-of_case shapes.Bt = refl
-of_case shapes.Tt = refl
-of_case shapes.Ts = refl
-of_case shapes.K = refl
-of_case shapes.Uh = refl
-of_case shapes.Uuh = refl
+of_case shape = refl
 
 -- Immediates of such types are not those of encoded operands.
 not_encoded : (shape : Shape) (bytes : List ℕ) (xs : List Argument) → are_of_case (map part_of xs) ≡ true → (has_case shape ≡ false) × arguments (parts_of shape) standard bytes xs → ⊥
@@ -211,18 +174,10 @@ not_encoded shape bytes xs e h =
 
 pub nothing_is : (given : Operands) → AreOperands given [] → given ≡ operands.Nothing
 nothing_is operands.Nothing h = refl
-nothing_is (operands.U32 n) h = absurd (cc h)
-nothing_is (operands.S32 v) h = absurd (cc h)
-nothing_is (operands.S64 v) h = absurd (cc h)
-nothing_is (operands.Mem m) h = absurd (cc h)
-nothing_is (operands.Block type) h = absurd (cc h)
 nothing_is (operands.Encoded shape bytes) h = absurd (not_encoded shape bytes.now [] refl h)
+nothing_is given h = absurd (cc h)
 
 pub number_is : (given : Operands) (n : ℕ) → AreOperands given (unsigned n ∷ []) → given ≡ operands.U32 n
-number_is operands.Nothing n h = absurd (cc h)
 number_is (operands.U32 k) n h = cc h
-number_is (operands.S32 v) n h = absurd (cc h)
-number_is (operands.S64 v) n h = absurd (cc h)
-number_is (operands.Mem m) n h = absurd (cc h)
-number_is (operands.Block type) n h = absurd (cc h)
 number_is (operands.Encoded shape bytes) n h = absurd (not_encoded shape bytes.now (unsigned n ∷ []) refl h)
+number_is given n h = absurd (cc h)

@@ -98,19 +98,7 @@ formed_encodable (labels ns) h = any_members _ ns h
 formed_encodable (catches cs) h = any_members _ cs h
 formed_encodable (types ts) h = any_members _ ts h
 formed_encodable (handles hs) h = any_members _ hs h
-formed_encodable (unsigned n) h = tt
-formed_encodable (signed32 v) h = tt
-formed_encodable (signed64 v) h = tt
-formed_encodable (float32 float) h = tt
-formed_encodable (float64 float) h = tt
-formed_encodable (vector v) h = tt
-formed_encodable (memory m) h = tt
-formed_encodable (lane n) h = tt
-formed_encodable (lanes ns) h = tt
-formed_encodable (block type) h = tt
-formed_encodable (heap type) h = tt
-formed_encodable (ordering o) h = tt
-formed_encodable (flag n) h = tt
+formed_encodable x h = tt
 
 pub arguments_plain : (i : Plain) → HasEncoding builders_alone (instruction table) i → AreWellFormed i.arguments
 arguments_plain i h = (instruction_is (padded_of h.grammar) h.bytes i h.decoded).0.arguments

@@ -11,9 +11,7 @@ pub use Rattle.wasm_reader.proofs.DecodeOutlines.{HasOutlined, counted, no_heade
 pub use Rattle.wasm_reader.proofs.DecodeSections.{section_none, section_rejects, shorter}
 pub use Rattle.wasm_reader.proofs.IteratingLaws.{end_stays, id_ahead, more_ahead, next_error, next_section, payload_ahead}
 pub use Rattle.wasm_reader.proofs.KeptOffsets.{found_more, moved_of, or_left, or_right, such_of, tally_more}
-pub use Rattle.wasm_reader.proofs.KindLaws.{AppendsItems, bodies_read, build_id_read, core_instances_read, core_modules_read, core_stack_read, custom_appended, debug_file_read, dylink_read}
-pub use Rattle.wasm_reader.proofs.KindLaws.{functions_read, hints_read, items_appended, linking_read, names_read, no_kind, producers_read, source_map_read, target_features_read, uncounted}
-pub use Rattle.wasm_reader.proofs.KindLaws.{relocations_read}
+pub use Rattle.wasm_reader.proofs.KindLaws.{items_appended, row, uncounted}
 pub use Rattle.wasm_reader.proofs.MinimalModules.{after_id, gains, gains_same, is_change_encoding, keeps_offsets, loses_at, rewrites_below, rewrites_longer, rewrites_rest, rewrites_start}
 pub use Rattle.wasm_reader.proofs.MinimalModules.{rewrites_step, rewrites_stop, stays_in, stops_at, whole_size_prefixed}
 pub use Rattle.wasm_reader.proofs.MinimalSections.{shortened}

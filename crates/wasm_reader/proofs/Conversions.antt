@@ -1,9 +1,9 @@
 -- This file proves that an opcode with immediates of another number or type is no instruction.
-use Rattle.wasm_base.proofs.Words.{◌≡◌, ◌≢◌, ℕ, zero, suc, ◌+◌, ◌<◌, ◌≤◌, List, [], ◌∷◌, Some, None, map, get_or, length, length-map, sym, ap, subst, ◌∙◌, arith}
+use Rattle.wasm_base.proofs.Words.{◌≡◌, ◌≢◌, ℕ, zero, suc, ◌+◌, ◌<◌, ◌≤◌, List, [], ◌∷◌, Some, None, map, get_or, length, length-map, sym, ap, subst, ◌∙◌, arith, true, ltb-true}
+use Rattle.std.proofs.Math.Dec.{ltb}
 use Rattle.wasm_insn.proofs.Words.{table, shape_of, Argument}
 use Rattle.wasm_insn.specs.declared.op.Op.{Op}
 use Rattle.wasm_insn.specs.declared.op.Shape.{Shape}
-use Rattle.wasm_insn.specs.declared.part.Part.{Part}
 use Rattle.wasm_insn.specs.declared.arguments.Arg.{Arg}
 use Rattle.wasm_insn.specs.Arguments.{part_of, flag}
 use Rattle.wasm_insn.specs.Parts.{parts_of}
@@ -37,13 +37,15 @@ module _ (op : Op) where
     too_many l = wrong_count (λ h. omega (arith, l, h))
 
     -- An argument of another type than the shape's immediate at its index.
-    pub wrong_at : (k : ℕ) (a : Arg A) (p : Part) → k < length items → a ≡ get_or items k a → get_or (parts_of s) k (part_of (argument_view a)) ≡ p → part_of (argument_view a) ≢ p → IsNoInstruction op (map argument_view items)
-    wrong_at k a p within is has differs = wrong_parts s (map argument_view items) shaped (λ h. differs (at items k within is ∙ ap (λ ps. get_or ps k (part_of (argument_view a))) h ∙ has))
+    pub wrong_at : (k : ℕ) (a : Arg A) → a ≡ get_or items k a → ltb k (length (parts_of s)) ≡ true → length (parts_of s) ≤ length items → part_of (argument_view a) ≢ get_or (parts_of s) k (part_of (argument_view a)) → IsNoInstruction op (map argument_view items)
+    wrong_at k a is within enough differs = wrong_parts s (map argument_view items) shaped (λ h. differs (at items k (omega (arith, ltb-true k (length (parts_of s)) within, enough)) is ∙ ap (λ ps. get_or ps k (part_of (argument_view a))) h))
       where
         at : (items : List (Arg A)) (k : ℕ) → k < length items → a ≡ get_or items k a → part_of (argument_view a) ≡ get_or (map part_of (map argument_view items)) k (part_of (argument_view a))
         at [] k within is = absurd (omega (arith, within))
         at (x ∷ items) zero within is = ap (λ y. part_of (argument_view y)) is
         at (x ∷ items) (suc k) within is = at items k (omega (arith, within)) is
+
+pub ruleset conversion_steps = (not_of_shape, too_few, too_many, wrong_at)
 
 -- ---- the flags of a cast
 

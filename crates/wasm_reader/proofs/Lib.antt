@@ -5,6 +5,7 @@ pub mod Calls
 pub mod Causes
 pub mod KeptOffsets
 pub mod KindLaws
+pub mod KindValues
 pub mod ModuleLaws
 pub mod DecodeModules
 pub mod DecodeOutlines
@@ -17,4 +18,3 @@ pub mod MinimalSections
 pub mod OpcodesOfShapes
 pub mod ByOpcode
 pub mod Conversions
-pub mod OtherArguments

@@ -1,22 +1,28 @@
 -- This file proves what a walk over the payload of a section gives.
-use Rattle.wasm_base.proofs.Words.{◌≡◌, ℕ, List, ◌++◌, refl, sym, ap, subst, ◌∙◌, Grammar, padded_of, Format, mapped, name, Result, OnOk, on_ok, Rejects, RejectsWhole}
+use Rattle.wasm_base.proofs.Words.{◌≡◌, ℕ, List, ◌++◌, refl, sym, subst, Grammar, padded_of, mapped, name, Result, OnOk, on_ok, Rejects, RejectsWhole, Mode, ◌≢◌, if_err_more}
+use Rattle.std.proofs.Common.{IfErr}
+use Rattle.wasm_base.specs.declared.fault.ReadFault.TheVariants.{Memory}
 use Rattle.wasm_base.specs.Faults.{Failure}
 use Rattle.wasm_base.specs.Walks.{TakesBytes, Walks, WalksWhole}
 use Rattle.wasm_base.proofs.WalkLaws.{take_then}
-use Rattle.wasm_reader.specs.{Contents, Custom, Raw, content}
+use Rattle.wasm_reader.specs.{Custom, Raw, content}
 use Rattle.wasm_reader.specs.declared.kinds.SectionKind.{SectionKind}
 use Rattle.wasm_reader.specs.declared.kinds.SectionKind.TheVariants as kinds
-use Rattle.wasm_reader.proofs.KindLaws.{custom_read}
+use Rattle.wasm_reader.proofs.KindLaws.{custom_read, rejects, row}
 
--- The payload of a section of the kind `k` encodes the image by `f`.
-pub walks_as : {E X : Type 0} (seen : E → List ℕ → Type 0) (w : Grammar) (f : X → Contents) {F : Format X} {k : SectionKind} → content k ≡ mapped f F → (kind : SectionKind) (bytes : List ℕ) (old new : E) (r : Result (Unit {0}) Failure) → kind ≡ k → OnOk r (WalksWhole seen w F bytes old new) → OnOk r (WalksWhole seen w (content kind) bytes old new)
-walks_as seen w f {F} is kind bytes old new r e found = on_ok r _ _ found λ h.
-    let same : mapped f F ≡ content kind = sym (ap content e ∙ is) in
-    let whole : WalksWhole seen w (mapped f F) bytes old new = record { value = f h.value; decoded = (h.value, refl, h.decoded); encoding = h.encoding; encodes = (h.value, refl, h.encodes); taken = h.taken } in
-    subst (λ G. WalksWhole seen w G bytes old new) same whole
+-- A walk over the payload of a kind, by the format of its row, and by its content.
+pub kind_walks : {E : Type 0} (seen : E → List ℕ → Type 0) (w : Grammar) (k kind : SectionKind) (bytes : List ℕ) (old new : E) (r : Result (Unit {0}) Failure) → kind ≡ k → OnOk r (WalksWhole seen w (row k).F bytes old new) → OnOk r (WalksWhole seen w (content kind) bytes old new)
+kind_walks seen w k kind bytes old new r e found = on_ok r _ _ found λ h.
+    let whole : WalksWhole seen w (mapped (row k).make (row k).F) bytes old new = record { value = (row k).make h.value; decoded = (h.value, refl, h.decoded); encoding = h.encoding; encodes = (h.value, refl, h.encodes); taken = h.taken } in
+    subst (λ z. WalksWhole seen w (content z) bytes old new) (sym e) (subst (λ G. WalksWhole seen w G bytes old new) (sym (row k).is) whole)
 
-pub kind_walks : {E : Type 0} (seen : E → List ℕ → Type 0) (w : Grammar) (k kind : SectionKind) (bytes : List ℕ) (old new : E) (r : Result (Unit {0}) Failure) → kind ≡ k → OnOk r (WalksWhole seen w (content k) bytes old new) → OnOk r (WalksWhole seen w (content kind) bytes old new)
-kind_walks seen w k kind bytes old new r e found = subst (λ k. OnOk r (WalksWhole seen w (content k) bytes old new)) (sym e) found
+pub content_walks : {E : Type 0} (seen : E → List ℕ → Type 0) (w : Grammar) (k kind : SectionKind) (bytes : List ℕ) (old new : E) (r : Result (Unit {0}) Failure) → kind ≡ k → OnOk r (WalksWhole seen w (content k) bytes old new) → OnOk r (WalksWhole seen w (content kind) bytes old new)
+content_walks seen w k kind bytes old new r e found = subst (λ k. OnOk r (WalksWhole seen w (content k) bytes old new)) (sym e) found
+
+pub kind_rejects : (k kind : SectionKind) (m : Mode) (bytes : List ℕ) (r : Result (Unit {0}) Failure) → kind ≡ k → IfErr r (λ e. e.cause ≢ Memory → RejectsWhole (row k).F m bytes) → IfErr r (λ e. e.cause ≢ Memory → RejectsWhole (content kind) m bytes)
+kind_rejects k kind m bytes r e none = if_err_more r (λ f g n. rejects kind k m bytes e (g n)) none
+
+pub ruleset kind_steps = (kind_walks, content_walks, kind_rejects)
 
 module _ {E : Type 0} {seen : E → List ℕ → Type 0} {w : Grammar} where
   -- A name, then any bytes.

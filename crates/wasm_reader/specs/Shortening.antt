@@ -136,8 +136,8 @@ HasLostOffsets all w = (target : Target) × (target_of w.section.name ≡ Some t
 -- The buffer gains the header and the output for each section: its minimal encoding, or its bytes
 -- unchanged if they do not decode by its kind. `kept` counts the unchanged ones. With `Refuse`
 -- every section keeps its offsets, and with `LeaveOut` exactly the sections that hold offsets are
--- left out. The output is a module with the ids of the sections that are not left out, and is no
--- longer than the input.
+-- left out. The output is a module with the ids of the sections that are not left out, and is at
+-- most as long as the input.
 pub record ShortensModule (offsets : Offsets) (bytes : List ℕ) (kept : ℕ) (old new : List ℕ) : Type 0 where
   pub rewrites : List Rewrite
   pub has : HasSections bytes (map (λ w. w.section) rewrites)

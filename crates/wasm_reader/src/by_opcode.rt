@@ -1199,7 +1199,7 @@ fn with_numbers_handles<'a, A: Allocator>(
 }
 
 /// Returns the instruction with this opcode and these arguments: no immediates.
-#[tactic(auto, using(crate::proofs::Conversions::not_of_shape, crate::proofs::OtherArguments::nothing_many))]
+#[tactic(auto, using(crate::proofs::Conversions::conversion_steps))]
 pub(crate) fn of_nothing<'a, A: Allocator>(op: Op, args: &'a [Arg<A>]) -> Option<Instruction<'a, A>>
     requires { shape_of table op ≡ Some shapes.Nothing }
     ensures some { IfSome result (λ i. row_of i ≡ record { op = op; arguments = map argument_view args.now }) }
@@ -1212,7 +1212,7 @@ pub(crate) fn of_nothing<'a, A: Allocator>(op: Op, args: &'a [Arg<A>]) -> Option
 }
 
 /// Returns the instruction with this opcode and these arguments: a number.
-#[tactic(auto, using(crate::proofs::Conversions::not_of_shape, crate::proofs::OtherArguments::number_many, crate::proofs::OtherArguments::number_few, crate::proofs::OtherArguments::number_1))]
+#[tactic(auto, using(crate::proofs::Conversions::conversion_steps))]
 pub(crate) fn of_number<'a, A: Allocator>(op: Op, args: &'a [Arg<A>]) -> Option<Instruction<'a, A>>
     requires { shape_of table op ≡ Some shapes.U }
     ensures some { IfSome result (λ i. row_of i ≡ record { op = op; arguments = map argument_view args.now }) }
@@ -1225,7 +1225,7 @@ pub(crate) fn of_number<'a, A: Allocator>(op: Op, args: &'a [Arg<A>]) -> Option<
 }
 
 /// Returns the instruction with this opcode and these arguments: two numbers.
-#[tactic(auto, using(crate::proofs::Conversions::not_of_shape, crate::proofs::OtherArguments::numbers_many, crate::proofs::OtherArguments::numbers_few, crate::proofs::OtherArguments::numbers_1, crate::proofs::OtherArguments::numbers_2))]
+#[tactic(auto, using(crate::proofs::Conversions::conversion_steps))]
 pub(crate) fn of_numbers<'a, A: Allocator>(op: Op, args: &'a [Arg<A>]) -> Option<Instruction<'a, A>>
     requires { shape_of table op ≡ Some shapes.Uu }
     ensures some { IfSome result (λ i. row_of i ≡ record { op = op; arguments = map argument_view args.now }) }
@@ -1238,7 +1238,7 @@ pub(crate) fn of_numbers<'a, A: Allocator>(op: Op, args: &'a [Arg<A>]) -> Option
 }
 
 /// Returns the instruction with this opcode and these arguments: a memory argument.
-#[tactic(auto, using(crate::proofs::Conversions::not_of_shape, crate::proofs::OtherArguments::memory_many, crate::proofs::OtherArguments::memory_few, crate::proofs::OtherArguments::memory_1))]
+#[tactic(auto, using(crate::proofs::Conversions::conversion_steps))]
 pub(crate) fn of_memory<'a, A: Allocator>(op: Op, args: &'a [Arg<A>]) -> Option<Instruction<'a, A>>
     requires { shape_of table op ≡ Some shapes.M }
     ensures some { IfSome result (λ i. row_of i ≡ record { op = op; arguments = map argument_view args.now }) }
@@ -1251,7 +1251,7 @@ pub(crate) fn of_memory<'a, A: Allocator>(op: Op, args: &'a [Arg<A>]) -> Option<
 }
 
 /// Returns the instruction with this opcode and these arguments: a memory argument and a lane.
-#[tactic(auto, using(crate::proofs::Conversions::not_of_shape, crate::proofs::OtherArguments::memory_lane_many, crate::proofs::OtherArguments::memory_lane_few, crate::proofs::OtherArguments::memory_lane_1, crate::proofs::OtherArguments::memory_lane_2))]
+#[tactic(auto, using(crate::proofs::Conversions::conversion_steps))]
 pub(crate) fn of_memory_lane<'a, A: Allocator>(
     op: Op,
     args: &'a [Arg<A>],
@@ -1267,7 +1267,7 @@ pub(crate) fn of_memory_lane<'a, A: Allocator>(
 }
 
 /// Returns the instruction with this opcode and these arguments: a lane.
-#[tactic(auto, using(crate::proofs::Conversions::not_of_shape, crate::proofs::OtherArguments::lane_many, crate::proofs::OtherArguments::lane_few, crate::proofs::OtherArguments::lane_1))]
+#[tactic(auto, using(crate::proofs::Conversions::conversion_steps))]
 pub(crate) fn of_lane<'a, A: Allocator>(op: Op, args: &'a [Arg<A>]) -> Option<Instruction<'a, A>>
     requires { shape_of table op ≡ Some shapes.L }
     ensures some { IfSome result (λ i. row_of i ≡ record { op = op; arguments = map argument_view args.now }) }
@@ -1280,7 +1280,7 @@ pub(crate) fn of_lane<'a, A: Allocator>(op: Op, args: &'a [Arg<A>]) -> Option<In
 }
 
 /// Returns the instruction with this opcode and these arguments: a block type.
-#[tactic(auto, using(crate::proofs::Conversions::not_of_shape, crate::proofs::OtherArguments::block_many, crate::proofs::OtherArguments::block_few, crate::proofs::OtherArguments::block_1))]
+#[tactic(auto, using(crate::proofs::Conversions::conversion_steps))]
 pub(crate) fn of_block<'a, A: Allocator>(op: Op, args: &'a [Arg<A>]) -> Option<Instruction<'a, A>>
     requires { shape_of table op ≡ Some shapes.B }
     ensures some { IfSome result (λ i. row_of i ≡ record { op = op; arguments = map argument_view args.now }) }
@@ -1293,7 +1293,7 @@ pub(crate) fn of_block<'a, A: Allocator>(op: Op, args: &'a [Arg<A>]) -> Option<I
 }
 
 /// Returns the instruction with this opcode and these arguments: a heap type.
-#[tactic(auto, using(crate::proofs::Conversions::not_of_shape, crate::proofs::OtherArguments::heap_many, crate::proofs::OtherArguments::heap_few, crate::proofs::OtherArguments::heap_1))]
+#[tactic(auto, using(crate::proofs::Conversions::conversion_steps))]
 pub(crate) fn of_heap<'a, A: Allocator>(op: Op, args: &'a [Arg<A>]) -> Option<Instruction<'a, A>>
     requires { shape_of table op ≡ Some shapes.H }
     ensures some { IfSome result (λ i. row_of i ≡ record { op = op; arguments = map argument_view args.now }) }
@@ -1306,7 +1306,7 @@ pub(crate) fn of_heap<'a, A: Allocator>(op: Op, args: &'a [Arg<A>]) -> Option<In
 }
 
 /// Returns the instruction with this opcode and these arguments: an ordering.
-#[tactic(auto, using(crate::proofs::Conversions::not_of_shape, crate::proofs::OtherArguments::ordering_many, crate::proofs::OtherArguments::ordering_few, crate::proofs::OtherArguments::ordering_1))]
+#[tactic(auto, using(crate::proofs::Conversions::conversion_steps))]
 pub(crate) fn of_ordering<'a, A: Allocator>(
     op: Op,
     args: &'a [Arg<A>],
@@ -1322,7 +1322,7 @@ pub(crate) fn of_ordering<'a, A: Allocator>(
 }
 
 /// Returns the instruction with this opcode and these arguments: an ordering and a number.
-#[tactic(auto, using(crate::proofs::Conversions::not_of_shape, crate::proofs::OtherArguments::ordering_number_many, crate::proofs::OtherArguments::ordering_number_few, crate::proofs::OtherArguments::ordering_number_1, crate::proofs::OtherArguments::ordering_number_2))]
+#[tactic(auto, using(crate::proofs::Conversions::conversion_steps))]
 pub(crate) fn of_ordering_number<'a, A: Allocator>(
     op: Op,
     args: &'a [Arg<A>],
@@ -1338,7 +1338,7 @@ pub(crate) fn of_ordering_number<'a, A: Allocator>(
 }
 
 /// Returns the instruction with this opcode and these arguments: an ordering and two numbers.
-#[tactic(auto, using(crate::proofs::Conversions::not_of_shape, crate::proofs::OtherArguments::ordering_numbers_many, crate::proofs::OtherArguments::ordering_numbers_few, crate::proofs::OtherArguments::ordering_numbers_1, crate::proofs::OtherArguments::ordering_numbers_2, crate::proofs::OtherArguments::ordering_numbers_3))]
+#[tactic(auto, using(crate::proofs::Conversions::conversion_steps))]
 pub(crate) fn of_ordering_numbers<'a, A: Allocator>(
     op: Op,
     args: &'a [Arg<A>],
@@ -1354,7 +1354,7 @@ pub(crate) fn of_ordering_numbers<'a, A: Allocator>(
 }
 
 /// Returns the instruction with this opcode and these arguments: a signed number of 32 bits.
-#[tactic(auto, using(crate::proofs::Conversions::not_of_shape, crate::proofs::OtherArguments::signed32_many, crate::proofs::OtherArguments::signed32_few, crate::proofs::OtherArguments::signed32_1))]
+#[tactic(auto, using(crate::proofs::Conversions::conversion_steps))]
 pub(crate) fn of_signed32<'a, A: Allocator>(
     op: Op,
     args: &'a [Arg<A>],
@@ -1370,7 +1370,7 @@ pub(crate) fn of_signed32<'a, A: Allocator>(
 }
 
 /// Returns the instruction with this opcode and these arguments: a signed number of 64 bits.
-#[tactic(auto, using(crate::proofs::Conversions::not_of_shape, crate::proofs::OtherArguments::signed64_many, crate::proofs::OtherArguments::signed64_few, crate::proofs::OtherArguments::signed64_1))]
+#[tactic(auto, using(crate::proofs::Conversions::conversion_steps))]
 pub(crate) fn of_signed64<'a, A: Allocator>(
     op: Op,
     args: &'a [Arg<A>],
@@ -1386,7 +1386,7 @@ pub(crate) fn of_signed64<'a, A: Allocator>(
 }
 
 /// Returns the instruction with this opcode and these arguments: a float of 32 bits.
-#[tactic(auto, using(crate::proofs::Conversions::not_of_shape, crate::proofs::OtherArguments::float32_many, crate::proofs::OtherArguments::float32_few, crate::proofs::OtherArguments::float32_1))]
+#[tactic(auto, using(crate::proofs::Conversions::conversion_steps))]
 pub(crate) fn of_float32<'a, A: Allocator>(op: Op, args: &'a [Arg<A>]) -> Option<Instruction<'a, A>>
     requires { shape_of table op ≡ Some shapes.F32 }
     ensures some { IfSome result (λ i. row_of i ≡ record { op = op; arguments = map argument_view args.now }) }
@@ -1399,7 +1399,7 @@ pub(crate) fn of_float32<'a, A: Allocator>(op: Op, args: &'a [Arg<A>]) -> Option
 }
 
 /// Returns the instruction with this opcode and these arguments: a float of 64 bits.
-#[tactic(auto, using(crate::proofs::Conversions::not_of_shape, crate::proofs::OtherArguments::float64_many, crate::proofs::OtherArguments::float64_few, crate::proofs::OtherArguments::float64_1))]
+#[tactic(auto, using(crate::proofs::Conversions::conversion_steps))]
 pub(crate) fn of_float64<'a, A: Allocator>(op: Op, args: &'a [Arg<A>]) -> Option<Instruction<'a, A>>
     requires { shape_of table op ≡ Some shapes.F64 }
     ensures some { IfSome result (λ i. row_of i ≡ record { op = op; arguments = map argument_view args.now }) }
@@ -1412,7 +1412,7 @@ pub(crate) fn of_float64<'a, A: Allocator>(op: Op, args: &'a [Arg<A>]) -> Option
 }
 
 /// Returns the instruction with this opcode and these arguments: a vector of 128 bits.
-#[tactic(auto, using(crate::proofs::Conversions::not_of_shape, crate::proofs::OtherArguments::vector_many, crate::proofs::OtherArguments::vector_few, crate::proofs::OtherArguments::vector_1))]
+#[tactic(auto, using(crate::proofs::Conversions::conversion_steps))]
 pub(crate) fn of_vector<'a, A: Allocator>(op: Op, args: &'a [Arg<A>]) -> Option<Instruction<'a, A>>
     requires { shape_of table op ≡ Some shapes.V }
     ensures some { IfSome result (λ i. row_of i ≡ record { op = op; arguments = map argument_view args.now }) }
@@ -1425,7 +1425,7 @@ pub(crate) fn of_vector<'a, A: Allocator>(op: Op, args: &'a [Arg<A>]) -> Option<
 }
 
 /// Returns the instruction with this opcode and these arguments: sixteen lanes.
-#[tactic(auto, using(crate::proofs::Conversions::not_of_shape, crate::proofs::OtherArguments::lanes_many, crate::proofs::OtherArguments::lanes_few, crate::proofs::OtherArguments::lanes_1))]
+#[tactic(auto, using(crate::proofs::Conversions::conversion_steps))]
 pub(crate) fn of_lanes<'a, A: Allocator>(op: Op, args: &'a [Arg<A>]) -> Option<Instruction<'a, A>>
     requires { shape_of table op ≡ Some shapes.Ls }
     ensures some { IfSome result (λ i. row_of i ≡ record { op = op; arguments = map argument_view args.now }) }
@@ -1438,7 +1438,7 @@ pub(crate) fn of_lanes<'a, A: Allocator>(op: Op, args: &'a [Arg<A>]) -> Option<I
 }
 
 /// Returns the instruction with this opcode and these arguments: labels and a default label.
-#[tactic(auto, using(crate::proofs::Conversions::not_of_shape, crate::proofs::OtherArguments::labels_many, crate::proofs::OtherArguments::labels_few, crate::proofs::OtherArguments::labels_1, crate::proofs::OtherArguments::labels_2))]
+#[tactic(auto, using(crate::proofs::Conversions::conversion_steps))]
 pub(crate) fn of_labels<'a, A: Allocator>(op: Op, args: &'a [Arg<A>]) -> Option<Instruction<'a, A>>
     requires { shape_of table op ≡ Some shapes.Bt }
     ensures some { IfSome result (λ i. row_of i ≡ record { op = op; arguments = map argument_view args.now }) }
@@ -1451,7 +1451,7 @@ pub(crate) fn of_labels<'a, A: Allocator>(op: Op, args: &'a [Arg<A>]) -> Option<
 }
 
 /// Returns the instruction with this opcode and these arguments: a block type and catch clauses.
-#[tactic(auto, using(crate::proofs::Conversions::not_of_shape, crate::proofs::OtherArguments::clauses_many, crate::proofs::OtherArguments::clauses_few, crate::proofs::OtherArguments::clauses_1, crate::proofs::OtherArguments::clauses_2))]
+#[tactic(auto, using(crate::proofs::Conversions::conversion_steps))]
 pub(crate) fn of_clauses<'a, A: Allocator>(op: Op, args: &'a [Arg<A>]) -> Option<Instruction<'a, A>>
     requires { shape_of table op ≡ Some shapes.Tt }
     ensures some { IfSome result (λ i. row_of i ≡ record { op = op; arguments = map argument_view args.now }) }
@@ -1464,7 +1464,7 @@ pub(crate) fn of_clauses<'a, A: Allocator>(op: Op, args: &'a [Arg<A>]) -> Option
 }
 
 /// Returns the instruction with this opcode and these arguments: value types.
-#[tactic(auto, using(crate::proofs::Conversions::not_of_shape, crate::proofs::OtherArguments::types_many, crate::proofs::OtherArguments::types_few, crate::proofs::OtherArguments::types_1))]
+#[tactic(auto, using(crate::proofs::Conversions::conversion_steps))]
 pub(crate) fn of_types<'a, A: Allocator>(op: Op, args: &'a [Arg<A>]) -> Option<Instruction<'a, A>>
     requires { shape_of table op ≡ Some shapes.Ts }
     ensures some { IfSome result (λ i. row_of i ≡ record { op = op; arguments = map argument_view args.now }) }
@@ -1477,7 +1477,7 @@ pub(crate) fn of_types<'a, A: Allocator>(op: Op, args: &'a [Arg<A>]) -> Option<I
 }
 
 /// Returns the instruction with this opcode and these arguments: a number and handle clauses.
-#[tactic(auto, using(crate::proofs::Conversions::not_of_shape, crate::proofs::OtherArguments::handles_many, crate::proofs::OtherArguments::handles_few, crate::proofs::OtherArguments::handles_1, crate::proofs::OtherArguments::handles_2))]
+#[tactic(auto, using(crate::proofs::Conversions::conversion_steps))]
 pub(crate) fn of_handles<'a, A: Allocator>(op: Op, args: &'a [Arg<A>]) -> Option<Instruction<'a, A>>
     requires { shape_of table op ≡ Some shapes.Uh }
     ensures some { IfSome result (λ i. row_of i ≡ record { op = op; arguments = map argument_view args.now }) }
@@ -1490,7 +1490,7 @@ pub(crate) fn of_handles<'a, A: Allocator>(op: Op, args: &'a [Arg<A>]) -> Option
 }
 
 /// Returns the instruction with this opcode and these arguments: two numbers and handle clauses.
-#[tactic(auto, using(crate::proofs::Conversions::not_of_shape, crate::proofs::OtherArguments::numbers_handles_many, crate::proofs::OtherArguments::numbers_handles_few, crate::proofs::OtherArguments::numbers_handles_1, crate::proofs::OtherArguments::numbers_handles_2, crate::proofs::OtherArguments::numbers_handles_3))]
+#[tactic(auto, using(crate::proofs::Conversions::conversion_steps))]
 pub(crate) fn of_numbers_handles<'a, A: Allocator>(
     op: Op,
     args: &'a [Arg<A>],

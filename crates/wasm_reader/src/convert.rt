@@ -222,7 +222,7 @@ fn nullable(flags: u8) -> Option<(bool, bool)>
 }
 
 /// Returns the cast with these arguments.
-#[tactic(auto, using(crate::proofs::Conversions::not_of_shape, crate::proofs::OtherArguments::cast_many, crate::proofs::OtherArguments::cast_few, crate::proofs::OtherArguments::cast_1, crate::proofs::OtherArguments::cast_2, crate::proofs::OtherArguments::cast_3, crate::proofs::OtherArguments::cast_4))]
+#[tactic(auto, using(crate::proofs::Conversions::conversion_steps))]
 fn cast<'a, A: Allocator>(op: Op, args: &'a [Arg<A>]) -> Option<Instruction<'a, A>>
     requires { shape_of table op ≡ Some shapes.K }
     ensures some { IfSome result (λ i. row_of i ≡ record { op = op; arguments = map argument_view args.now }) }

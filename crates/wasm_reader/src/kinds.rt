@@ -357,7 +357,7 @@ fn append_custom<B: Allocator>(name: &str, bytes: &[u8], sink: &mut Vec<u8, B>) 
 ///
 /// Returns `TooLong` only if no bytes decode to the items: in the builders' grammar for those
 /// kinds, in either for the others. Returns `Memory` if an allocation fails.
-#[tactic(auto, using(crate::proofs::KindLaws::contents, crate::proofs::KindLaws::fitting))]
+#[tactic(auto, using(crate::proofs::KindValues::value_steps, crate::proofs::KindLaws::exports_appended, crate::proofs::KindLaws::functions_appended, crate::proofs::KindLaws::memories_appended, crate::proofs::KindLaws::tags_appended, crate::proofs::KindLaws::raw_appended, crate::proofs::KindLaws::exports_fit, crate::proofs::KindLaws::functions_fit, crate::proofs::KindLaws::memories_fit, crate::proofs::KindLaws::tags_fit))]
 pub fn encode_items<A: Allocator, B: Allocator>(
     items: &Items<'_, A>,
     sink: &mut Vec<u8, B>,

@@ -54,7 +54,7 @@ fn walk_raw<G: Grammar, E: Effect>(bytes: &[u8], effect: &mut E) -> Result<(), D
 }
 
 /// Walks over the payload of a section of this kind. No list of items is kept.
-#[tactic(auto, using(wasm_base::proofs::WalkLaws::keep_steps))]
+#[tactic(auto, using(wasm_base::proofs::WalkLaws::keep_steps, crate::proofs::WalkSections::kind_steps))]
 pub(crate) fn walk_content<A: Allocator + Copy, G: Grammar, E: Effect>(
     kind: SectionKind,
     bytes: &[u8],
@@ -123,7 +123,7 @@ fn count_members<'a, P: Walk<G>, A: Allocator + Copy, G: Grammar>(
 
 /// Returns the number of items in the payload of a section of this kind, or `None` if they are not
 /// counted. No list of items is kept.
-#[tactic(auto, using(crate::proofs::KindLaws::number_steps))]
+#[tactic(auto, using(crate::proofs::KindLaws::number_steps, crate::proofs::KindLaws::rejects))]
 pub(crate) fn count_content<'a, A: Allocator + Copy, G: Grammar>(
     kind: SectionKind,
     bytes: &'a [u8],

@@ -19,10 +19,7 @@ decode (suc (suc (suc (suc _)))) = Tag
 back : (kind : ExportKind) → decode (kind_code kind) ≡ kind
 unfolding decode
 back Func = refl
-back Table = refl
-back Memory = refl
-back Global = refl
-back Tag = refl
+back kind = refl
 
 pub export_kind_unambiguous : Unambiguous (coded kind_code)
 export_kind_unambiguous = coded_unambiguous kind_code decode back
@@ -58,10 +55,7 @@ export_kind_unknown bytes rest b h l = code_unknown kind_code bytes rest b h oth
   where
     other : (k : ExportKind) → b ≢ kind_code k
     other kinds.Func e = omega (arith, l, e)
-    other kinds.Table e = omega (arith, l, e)
-    other kinds.Memory e = omega (arith, l, e)
-    other kinds.Global e = omega (arith, l, e)
-    other kinds.Tag e = omega (arith, l, e)
+    other k e = omega (arith, l, e)
 
 pub ruleset export_kind_steps = (export_kind_decodes, export_kind_unknown)
 

@@ -142,15 +142,10 @@ contains_more version lines line old new contains follows =
 
 -- An error of the words of a line is the error of the line.
 pub follows_words : {A : Type 0} (said : Result (List Addition) RecipeCause) (old new : Recipe A) (cause : RecipeCause) → said ≡ Err cause → IsOfWords cause → Follows said old new (Err cause)
-follows_words said old new UnknownCommand says of_words = says
-follows_words said old new BadNumber says of_words = says
-follows_words said old new BadHex says of_words = says
-follows_words said old new MissingWord says of_words = says
-follows_words said old new SurplusWord says of_words = says
-follows_words said old new UnknownType says of_words = says
 follows_words said old new Memory says of_words = absurd of_words
 follows_words said old new TooLong says of_words = absurd of_words
 follows_words said old new UnusedLocals says of_words = absurd of_words
+follows_words said old new cause says of_words = says
 
 -- So is the error of an item, if the item fits unless the error is `TooLong`.
 pub follows_refused : {A : Type 0} (said : Result (List Addition) RecipeCause) (entries : List Addition) (old new : Recipe A) (refused : Refused) (result : Result (Unit {0}) RecipeCause)

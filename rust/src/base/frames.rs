@@ -155,18 +155,6 @@ pub fn encode_section<A: Sink>(sink: &mut A, count: u32, bytes: &[u8]) -> Result
 }
 
 /// Bytes that are encoded with their size prefix.
-///
-/// # Examples
-///
-/// ```
-/// use dolzhytik::fallible::Encode;
-/// use dolzhytik::reader::SizedBytes;
-///
-/// let mut bytes = Vec::new();
-/// SizedBytes(b"abc").encode(&mut bytes)?;
-/// assert_eq!(bytes, *b"\x03abc");
-/// # Ok::<(), dolzhytik::fallible::Refused>(())
-/// ```
 #[derive(Clone, Copy, Debug)]
 pub struct SizedBytes<'a>(pub &'a [u8]);
 
@@ -187,18 +175,6 @@ impl Encode for SizedBytes<'_> {
 }
 
 /// Bytes that are encoded as they are, without their size.
-///
-/// # Examples
-///
-/// ```
-/// use dolzhytik::fallible::Encode;
-/// use dolzhytik::reader::RawBytes;
-///
-/// let mut bytes = Vec::new();
-/// RawBytes(b"abc").encode(&mut bytes)?;
-/// assert_eq!(bytes, *b"abc");
-/// # Ok::<(), dolzhytik::fallible::Refused>(())
-/// ```
 #[derive(Clone, Copy, Debug)]
 pub struct RawBytes<'a>(pub &'a [u8]);
 
@@ -277,19 +253,6 @@ impl<'a, A: Allocator + Copy, G: Grammar, T: Readable<'a, A, G>> Readable<'a, A,
 ///
 /// Returns [`Refused::TooLong`] only if there are more than 4294967295 such bytes, and
 /// [`Refused::Memory`] if an allocation fails. The bytes of the sink are unchanged in both cases.
-///
-/// # Examples
-///
-/// ```
-/// use dolzhytik::reader::prefix_size_since;
-///
-/// let mut bytes = b"old".to_vec();
-/// let start = bytes.len();
-/// bytes.extend_from_slice(b"abc");
-/// prefix_size_since(&mut bytes, start)?;
-/// assert_eq!(bytes, *b"old\x03abc");
-/// # Ok::<(), dolzhytik::fallible::Refused>(())
-/// ```
 ///
 /// # Asks
 ///

@@ -77,7 +77,7 @@ pub(crate) mod reading {
     #[doc(alias = "error")]
     #[doc(alias = "malformed")]
     pub use super::fault::ReadFault;
-    pub use super::frames::{RawBytes, SizePrefixed, SizedBytes, prefix_size_since};
+    pub use super::frames::SizePrefixed;
     pub use super::grammar::{Grammar, Padded, Standard};
     pub use super::parts::read_optional;
     pub use super::readable::Layout;
@@ -89,9 +89,9 @@ pub(crate) mod reading {
     #[doc(alias = "shrink")]
     pub use super::shorten::Shorten;
     pub use super::vectors::append_all;
-    pub use super::walk::{Canonical, Shared, check_to_end, check_whole, minimize_many, minimize_to_end, minimize_whole, skip_many, skip_value, walk_in, walk_many, walk_shared, walk_to_end, walk_value, walk_whole};
+    pub use super::walk::{Canonical, Shared, check_to_end, check_whole, minimize_many, minimize_to_end, minimize_whole, skip_many, skip_value, walk_many};
     #[doc(alias = "minimize")]
     #[doc(alias = "skip")]
     pub use super::walk::Walk;
-    pub use super::whole::{read_before, read_to_end, read_whole};
+    pub use super::whole::{read_to_end, read_whole};
 }

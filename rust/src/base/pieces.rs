@@ -8,7 +8,7 @@ use crate::base::once::EncodeOnce;
 use crate::base::refused::{Refused, Result};
 use crate::alloc::{Allocator, Global};
 
-/// The encoded entries of a builder, modelled as the list of their bytes.
+/// The encoded entries of a builder.
 ///
 /// One buffer holds the entries one after another, and a second vector holds the end offset of
 /// each.
@@ -37,6 +37,10 @@ use crate::alloc::{Allocator, Global};
 /// assert_eq!(bytes, [5, 2, b'a', b'b', 0xAC, 0x02]);
 /// # Ok::<(), dolzhytik::fallible::Refused>(())
 /// ```
+///
+/// # Model
+///
+/// Contracts model it as the list of their bytes.
 #[derive(Debug)]
 pub struct Pieces<A: Allocator = Global> {
     bytes: Vec<u8, A>,

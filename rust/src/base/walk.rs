@@ -68,13 +68,13 @@ pub trait Walk<G: Grammar>: Layout {
 ///
 /// ```
 /// use dolzhytik::fallible::Global;
-/// use dolzhytik::reader::{Canonical, Padded, Readable, walk_value};
+/// use dolzhytik::reader::{Canonical, Padded, Walk};
 ///
-/// fn minimal<T: for<'a> Readable<'a, Global, Padded> + Canonical>(
+/// fn minimal<T: Walk<Padded> + Canonical>(
 ///     bytes: &[u8],
 /// ) -> Result<Vec<u8>, dolzhytik::reader::DecodeError> {
 ///     let mut minimal = Vec::new();
-///     walk_value::<T, _, Padded, _>(bytes, Global, &mut minimal)?;
+///     T::walk(bytes, Global, &mut minimal)?;
 ///     Ok(minimal)
 /// }
 ///
@@ -102,10 +102,10 @@ pub trait Canonical: Layout + Encode {
 ///
 /// ```
 /// use dolzhytik::fallible::{ComdatSymbol, Global};
-/// use dolzhytik::reader::{Standard, walk_shared};
+/// use dolzhytik::reader::{Standard, Walk};
 ///
 /// let mut minimal = Vec::new();
-/// walk_shared::<ComdatSymbol, _, Standard, _>(&[0x01, 0x85, 0x00], Global, &mut minimal)?;
+/// <ComdatSymbol as Walk<Standard>>::walk(&[0x01, 0x85, 0x00], Global, &mut minimal)?;
 /// assert_eq!(minimal, [0x01, 0x05]);
 /// # Ok::<(), dolzhytik::reader::DecodeError>(())
 /// ```
@@ -127,19 +127,6 @@ pub trait Shared: Shorten {
 /// # Errors
 ///
 /// Any error but `Memory` means that no such value is at the front.
-///
-/// # Examples
-///
-/// ```
-/// use dolzhytik::fallible::Global;
-/// use dolzhytik::reader::{Padded, walk_value};
-///
-/// let mut minimal = Vec::new();
-/// let rest = walk_value::<u32, _, Padded, _>(&[0x85, 0x00, 0x2A], Global, &mut minimal)?;
-/// assert_eq!(minimal, [5]);
-/// assert_eq!(rest, [0x2A]);
-/// # Ok::<(), dolzhytik::reader::DecodeError>(())
-/// ```
 ///
 /// # Asks
 ///
@@ -186,19 +173,6 @@ pub fn walk_value<
 ///
 /// Any error but `Memory` means that no such value is at the front.
 ///
-/// # Examples
-///
-/// ```
-/// use dolzhytik::fallible::{Global, ValType};
-/// use dolzhytik::reader::{Standard, walk_in};
-///
-/// let mut minimal = Vec::new();
-/// let rest = walk_in::<ValType, _, Standard, _>(&[0x63, 0x6E, 0x2A], Global, &mut minimal)?;
-/// assert_eq!(minimal, [0x6E]);
-/// assert_eq!(rest, [0x2A]);
-/// # Ok::<(), dolzhytik::reader::DecodeError>(())
-/// ```
-///
 /// # Asks
 ///
 /// [What happens otherwise](crate::fallible#what-is-asked).
@@ -241,19 +215,6 @@ pub fn walk_in<'a, T: Readable<'a, A, G> + EncodeIn<G>, A: Allocator + Copy, G: 
 /// # Errors
 ///
 /// Any error but `Memory` means that no such value is at the front.
-///
-/// # Examples
-///
-/// ```
-/// use dolzhytik::fallible::{ComdatSymbol, Global};
-/// use dolzhytik::reader::{Padded, walk_shared};
-///
-/// let mut minimal = Vec::new();
-/// let rest = walk_shared::<ComdatSymbol, _, Padded, _>(&[0x00, 0x87, 0x00], Global, &mut minimal)?;
-/// assert_eq!(minimal, [0x00, 0x07]);
-/// assert!(rest.is_empty());
-/// # Ok::<(), dolzhytik::reader::DecodeError>(())
-/// ```
 ///
 /// # Asks
 ///
@@ -350,18 +311,6 @@ pub fn walk_many<'a, T: Walk<G>, A: Allocator + Copy, G: Grammar, E: Effect>(
 ///
 /// Any error but `Memory` means that the bytes as a whole encode no such value.
 ///
-/// # Examples
-///
-/// ```
-/// use dolzhytik::fallible::Global;
-/// use dolzhytik::reader::{Discard, Padded, ReadFault, walk_whole};
-///
-/// walk_whole::<u32, _, Padded, _>(&[0x85, 0x00], Global, &mut Discard)?;
-/// let error = walk_whole::<u32, _, Padded, _>(&[5, 0], Global, &mut Discard).err();
-/// assert_eq!(error.map(|e| e.cause()), Some(ReadFault::SizeMismatch));
-/// # Ok::<(), dolzhytik::reader::DecodeError>(())
-/// ```
-///
 /// # Proved
 ///
 /// After `Ok`: `found`, the bytes as a whole are an encoding, and the effect takes the minimal one. After an error: `none`, the bytes as a whole are no such encoding, unless the cause is `Memory`; `no_memory`, the cause is `Memory` only with an effect whose calls may fail. In any case: `front`, the effect keeps what it took before.
@@ -396,18 +345,6 @@ pub fn walk_whole<'a, T: Walk<G>, A: Allocator + Copy, G: Grammar, E: Effect>(
 /// # Errors
 ///
 /// Any error but `Memory` means that the bytes as a whole encode no such values.
-///
-/// # Examples
-///
-/// ```
-/// use dolzhytik::fallible::Global;
-/// use dolzhytik::reader::{Padded, walk_to_end};
-///
-/// let mut minimal = Vec::new();
-/// walk_to_end::<u32, _, Padded, _>(&[0x85, 0x00, 7], Global, &mut minimal)?;
-/// assert_eq!(minimal, [5, 7]);
-/// # Ok::<(), dolzhytik::reader::DecodeError>(())
-/// ```
 ///
 /// # Asks
 ///

@@ -53,28 +53,9 @@ pub fn read_whole<'a, T: Readable<'a, A, G>, A: Allocator + Copy, G: Grammar>(
 /// Decodes a value that occupies all of `bytes`, which `rest` follows in the input. The number of
 /// bytes left in an error includes those of `rest`, up to 4294967295.
 ///
-/// [`left`](crate::reader::DecodeError::left) of an error counts the bytes of `rest` too, as
-/// the example shows.
-///
 /// # Errors
 ///
 /// Any error but `Memory` means that the bytes as a whole encode no such value.
-///
-/// # Examples
-///
-/// ```
-/// use dolzhytik::fallible::Global;
-/// use dolzhytik::reader::{Padded, ReadFault, read_before};
-///
-/// // The first three bytes are a name.
-/// let (sized, rest) = b"\x02ab\xFF".split_at(3);
-/// let name = read_before::<&str, Global, Padded>(sized, rest, Global)?;
-/// assert_eq!(name, "ab");
-/// // A name of three bytes, of which two are there: the error is just before `rest`.
-/// let error = read_before::<&str, Global, Padded>(b"\x03ab", rest, Global).unwrap_err();
-/// assert_eq!((error.cause(), error.left()), (ReadFault::Ended, 1));
-/// # Ok::<(), dolzhytik::reader::DecodeError>(())
-/// ```
 ///
 /// # Proved
 ///

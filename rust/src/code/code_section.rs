@@ -6,8 +6,7 @@ use crate::code::function::Function;
 use crate::alloc::{Allocator, Global};
 use crate::base::{Counted, Encode, Pieces, Result, Section, SectionId, encode_size_prefixed};
 
-/// The code section: the bodies of a module's functions, modelled as the bytes of each entry. An
-/// entry is a raw body with its size prefix.
+/// The code section: the bodies of a module's functions.
 ///
 /// ```
 /// # fn example() -> Result<(), Box<dyn std::error::Error>> {
@@ -23,11 +22,18 @@ use crate::base::{Counted, Encode, Pieces, Result, Section, SectionId, encode_si
 /// # example().unwrap();
 /// ```
 ///
+/// Add one body for each entry of the [`FunctionSection`](crate::fallible::FunctionSection), in
+/// the same order.
+///
 /// # Errors
 ///
 /// An adding call that returns an error leaves the section unchanged. The error is `TooLong` only
 /// if the section is full or the body is longer than 4294967295 bytes, and `Memory` only if an
 /// allocation fails.
+///
+/// # Model
+///
+/// Contracts model it as the bytes of each entry. An entry is a raw body with its size prefix.
 #[derive(Debug)]
 pub struct CodeSection<A: Allocator = Global> {
     pieces: Pieces<A>,

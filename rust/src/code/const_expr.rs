@@ -9,8 +9,7 @@ use crate::alloc::{Allocator, Global};
 use crate::base::{Encode, HeapType, Optional, Result, read_groups};
 use crate::insn::{Ieee32, Ieee64, Instruction, InstructionSink};
 
-/// A constant expression, modelled as its stored bytes: the instructions without the `End` that
-/// follows them in the encoding.
+/// A constant expression.
 ///
 /// A single instruction of `global_get`, `ref_null`, `ref_func`, `i32_const`, `i64_const`,
 /// `f32_const` or `f64_const` is kept as a value, without an allocation, as tests show. All others
@@ -37,6 +36,11 @@ use crate::insn::{Ieee32, Ieee64, Instruction, InstructionSink};
 /// assert_eq!(bytes, [0x41, 0xC0, 0x00, 0x41, 0x01, 0x6A, 0x0B]);
 /// # Ok::<(), dolzhytik::fallible::Refused>(())
 /// ```
+///
+/// # Model
+///
+/// Contracts model it as its stored bytes: the instructions without the `End` that follows them
+/// in the encoding.
 #[derive(Debug)]
 pub struct ConstExpr<A: Allocator = Global> {
     first: Option<First>,

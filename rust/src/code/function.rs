@@ -7,7 +7,7 @@ use crate::alloc::{Allocator, Global};
 use crate::base::{Encode, Refused, Result, ValType, encode_size_prefixed, encode_vec};
 use crate::insn::{Buffer, Instruction, InstructionSink};
 
-/// A function, modelled as its raw body: the runs of its locals, and its instructions.
+/// A function.
 ///
 /// ```
 /// # fn example() -> Result<(), Box<dyn std::error::Error>> {
@@ -25,10 +25,17 @@ use crate::insn::{Buffer, Instruction, InstructionSink};
 /// # example().unwrap();
 /// ```
 ///
+/// Make it with the runs of its locals, append the instructions with their last `end`, and add
+/// it to a [`CodeSection`](crate::fallible::CodeSection).
+///
 /// # Errors
 ///
 /// A call that returns an error leaves the body unchanged. The error is `TooLong` only if a count
 /// or length is not representable, and `Memory` only if an allocation fails.
+///
+/// # Model
+///
+/// Contracts model it as its raw body: the runs of its locals, and its instructions.
 #[derive(Debug)]
 pub struct Function<A: Allocator = Global> {
     bytes: Vec<u8, A>,

@@ -10,8 +10,7 @@ use crate::custom::named::after_name;
 use crate::alloc::{Allocator, Global};
 use crate::base::{DecodeError, Encode, Grammar, Kind, Layout, Readable, Result, Section, SectionId, Shorten, read_whole, vec_of};
 
-/// The `core` section of a dumped process, modelled as its data: the byte 00, and the name of the
-/// process.
+/// The `core` section of a dumped process.
 ///
 /// ```
 /// # fn example() -> Result<(), Box<dyn std::error::Error>> {
@@ -29,6 +28,10 @@ use crate::base::{DecodeError, Encode, Grammar, Kind, Layout, Readable, Result, 
 ///
 /// The error of `new` is `TooLong` only if the name is too long, and `Memory` only if an allocation
 /// fails.
+///
+/// # Model
+///
+/// Contracts model it as its data: the byte 00, and the name of the process.
 #[derive(Debug)]
 pub struct CoreDumpSection<A: Allocator = Global> {
     data: Vec<u8, A>,

@@ -11,8 +11,7 @@ use crate::custom::named::after_name;
 use crate::alloc::{Allocator, Global};
 use crate::base::{CowSlice, CowStr, DecodeError, Encode, Grammar, Layout, Pieces, Readable, Result, Section, SectionId, Shorten, read_whole, vec_of};
 
-/// The `corestack` section of a thread, modelled as the bytes before its stack frames and the bytes
-/// of each frame. The former are the byte 00 and the name of the thread.
+/// The `corestack` section of a thread.
 ///
 /// ```
 /// # fn example() -> Result<(), Box<dyn std::error::Error>> {
@@ -30,6 +29,11 @@ use crate::base::{CowSlice, CowStr, DecodeError, Encode, Grammar, Layout, Pieces
 ///
 /// An adding call that returns an error leaves the section unchanged. The error is `TooLong` only
 /// if the section is full or an item does not fit, and `Memory` only if an allocation fails.
+///
+/// # Model
+///
+/// Contracts model it as the bytes before its stack frames and the bytes of each frame. The
+/// former are the byte 00 and the name of the thread.
 #[derive(Debug)]
 pub struct CoreDumpStackSection<A: Allocator = Global> {
     front: Vec<u8, A>,

@@ -90,7 +90,7 @@ pub trait CustomKind: Kind {
     fn layout_laws();
 }
 
-/// A custom section of entries of the kind `K`, modelled as the bytes of each entry.
+/// A custom section of entries of the kind `K`.
 ///
 /// It is the builder of custom sections, such as [`NameSection`](crate::fallible::NameSection).
 /// The calls that add entries are those of the kind `K`.
@@ -115,6 +115,10 @@ pub trait CustomKind: Kind {
 /// assert!(has_entries(&modules));
 /// # Ok::<(), dolzhytik::fallible::Refused>(())
 /// ```
+///
+/// # Model
+///
+/// Contracts model it as the bytes of each entry.
 #[derive(Debug)]
 pub struct CustomEntries<K, A: Allocator = Global> {
     pieces: Pieces<A>,

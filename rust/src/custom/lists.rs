@@ -52,7 +52,7 @@ pub trait ListKind {
     fn subsection() -> Option<u8>;
 }
 
-/// A list of counted members of the kind `K`, modelled as the bytes of each entry.
+/// A list of counted members of the kind `K`.
 ///
 /// It is a list in a custom section, such as [`NameMap`](crate::fallible::NameMap). The calls
 /// that add members are those of the kind `K`.
@@ -75,6 +75,10 @@ pub trait ListKind {
 /// assert_eq!(bytes, *b"\x01\x05\x01f");
 /// # Ok::<(), dolzhytik::fallible::Refused>(())
 /// ```
+///
+/// # Model
+///
+/// Contracts model it as the bytes of each entry.
 #[derive(Debug)]
 pub struct CountedList<K: ListKind, A: Allocator = Global> {
     pieces: Pieces<A>,

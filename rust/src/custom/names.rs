@@ -732,7 +732,8 @@ pub enum NameItem<'a, A: Allocator = Global> {
     Module(&'a str),
     /// A name map: indices of the kind that the id selects, such as functions, and their names.
     Map {
-        /// The id of the subsection.
+        /// The id of the subsection: 1 functions, 4 types, 5 tables, 6 memories, 7 globals, 8 element
+        /// segments, 9 data segments, 11 tags.
         id: u8,
         /// The indices and the names.
         names: Vec<(u32, &'a str), A>,
@@ -740,7 +741,8 @@ pub enum NameItem<'a, A: Allocator = Global> {
     /// An indirect name map: indices of the outer kind, such as functions for locals, each with the
     /// indices and names in it.
     Indirect {
-        /// The id of the subsection.
+        /// The id of the subsection: 2 locals of functions, 3 labels of functions, 10 fields of types,
+        /// 12 parameters of function types, 13 parameters of tags.
         id: u8,
         /// The indices, and the names of each.
         maps: Vec<(u32, Vec<(u32, &'a str), A>), A>,

@@ -267,8 +267,7 @@ impl Encode for Relocation {
     }
 }
 
-/// A relocation section, modelled as its name, the bytes before its relocations, and the bytes of
-/// each relocation. The bytes before them are the index of the section that is relocated.
+/// A relocation section.
 ///
 /// ```
 /// # fn example() -> Result<(), Box<dyn std::error::Error>> {
@@ -300,6 +299,11 @@ impl Encode for Relocation {
 ///
 /// An adding call that returns an error leaves the section unchanged. The error is `TooLong` only
 /// if the section is full, and `Memory` only if an allocation fails.
+///
+/// # Model
+///
+/// Contracts model it as its name, the bytes before its relocations, and the bytes of each
+/// relocation. The bytes before them are the index of the section that is relocated.
 #[derive(Debug)]
 pub struct RelocationSection<A: Allocator = Global> {
     name: String<A>,

@@ -274,7 +274,7 @@ pub trait decoding {
     ///
     /// Definitions: [`Encoding`](formats::Encoding).
     type IsIncludedIn;
-    /// Every value that `S` encodes has an encoding by `T` that is no longer.
+    /// Every value that `S` encodes has an encoding by `T` that is at most as long.
     ///
     /// ```text
     /// abbrev pub ShrinksTo : {X : Type 0} → Encoding X → Encoding X → Type 0
@@ -284,7 +284,7 @@ pub trait decoding {
     ///
     /// Definitions: [`Encoding`](formats::Encoding).
     type ShrinksTo;
-    /// In each grammar a value that has a padded encoding has exactly one minimal encoding, which is no longer. A mode has all encodings of each mode that is [`Below`](numbers::Below) it.
+    /// In each grammar a value that has a padded encoding has exactly one minimal encoding, which is at most as long. A mode has all encodings of each mode that is [`Below`](numbers::Below) it.
     ///
     /// ```text
     /// pub record HasEncodings {X : Type 0} (F : Format X) : Type 0 where

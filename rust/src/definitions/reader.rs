@@ -1080,7 +1080,7 @@ pub trait shortening {
     ///
     /// Definitions: [`Rewrite`](shortening::Rewrite), [`target_of`](shortening::target_of), [`AllStay`](shortening::AllStay), [`header`](super::base::formats::header).
     type HasLostOffsets;
-    /// The buffer gains the header and the output for each section: its minimal encoding, or its bytes unchanged if they do not decode by its kind. `kept` counts the unchanged ones. With `Refuse` every section keeps its offsets, and with `LeaveOut` exactly the sections that hold offsets are left out. The output is a module with the ids of the sections that are not left out, and is no longer than the input.
+    /// The buffer gains the header and the output for each section: its minimal encoding, or its bytes unchanged if they do not decode by its kind. `kept` counts the unchanged ones. With `Refuse` every section keeps its offsets, and with `LeaveOut` exactly the sections that hold offsets are left out. The output is a module with the ids of the sections that are not left out, and is at most as long as the input.
     ///
     /// ```text
     /// pub record ShortensModule (offsets : Offsets) (bytes : List ℕ) (kept : ℕ)

@@ -62,7 +62,7 @@ pub trait ItemKind: Kind {
 /// ```
 pub trait RecordOf<K>: Encode {}
 
-/// A section of counted items of the kind `K`, modelled as the bytes of each entry.
+/// A section of counted items of the kind `K`.
 ///
 /// It is the builder of core sections, such as
 /// [`ExportSection`](crate::fallible::ExportSection). The calls that add items are those of the
@@ -90,6 +90,10 @@ pub trait RecordOf<K>: Encode {}
 /// assert_eq!(exports.piece(0), Some(&[1, b'f', 0, 0][..]));
 /// # Ok::<(), dolzhytik::fallible::Refused>(())
 /// ```
+///
+/// # Model
+///
+/// Contracts model it as the bytes of each entry.
 #[derive(Debug)]
 pub struct CountedSection<K, A: Allocator = Global> {
     pieces: Pieces<A>,

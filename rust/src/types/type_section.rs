@@ -7,7 +7,7 @@ use crate::types::types::{ARRAY, ContType, FUNC, FieldType, FuncType, STRUCT, St
 use crate::alloc::{Allocator, Global};
 use crate::base::{Counted, DecodeError, Encode, Grammar, Kind, Pieces, Result, Section, SectionId, ValType, read_whole, vec_of};
 
-/// The type section: the types that a module defines, modelled as the bytes of each entry.
+/// The type section: the types that a module defines.
 ///
 /// ```
 /// # fn example() -> Result<(), Box<dyn std::error::Error>> {
@@ -27,6 +27,10 @@ use crate::base::{Counted, DecodeError, Encode, Grammar, Kind, Pieces, Result, S
 ///
 /// An adding call that returns an error leaves the section unchanged. The error is `TooLong` only
 /// if the section is full or a list is too long, and `Memory` only if an allocation fails.
+///
+/// # Model
+///
+/// Contracts model it as the bytes of each entry.
 #[derive(Debug)]
 pub struct TypeSection<A: Allocator = Global> {
     pieces: Pieces<A>,

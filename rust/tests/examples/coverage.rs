@@ -85,6 +85,7 @@ fn memory_at(offset: usize) -> CoverageError {
 /// ensures found { IfOk result (λ new. IsCovered bytes.now new.items) }
 /// ensures none { IfErr result (λ e. IsMalformed e → IsDecodable bytes.now → ⊥) }
 /// ensures unfit { IfErr result (λ e. IsUnfit e → IsCoverable bytes.now → ⊥) }
+/// ensures reason { IfErr result (λ e. IsReason bytes.now e) }
 /// ```
 pub fn covered<A: Allocator + Copy>(bytes: &[u8], alloc: A) -> Result<Vec<u8, A>, CoverageError> {
     if bytes.len() >= MAX_LENGTH {
@@ -145,6 +146,7 @@ fn sections_of<A: Allocator + Copy>(
 /// ensures found { IfOk result (λ x. IsSplit id sections.now x.0.now x.1.now x.2.now) }
 /// ensures none { IfErr result (λ e. IsMalformed e → ⊥) }
 /// ensures unfit { IfErr result (λ e. IsUnfit e → HasNone id sections.now) }
+/// ensures reason { IfErr result (λ e. (e ≡ Missing id) × HasNone id sections.now) }
 /// ```
 fn split<'s, 'a, A: Allocator + Copy>(
     sections: &'s [Section<'a, A>],
@@ -233,6 +235,7 @@ fn numbers_of<A: Allocator + Copy>(
 /// ensures found { AllByRecursion (λ s. IsSection s.section) sections.now → OnOk result (KeepsSections (map row sections.now) new.old new.new) }
 /// ensures none { IfErr result (λ e. IsMalformed e → ⊥) }
 /// ensures unfit { AllByRecursion (λ s. IsSection s.section) sections.now → IfErr result (λ e. IsUnfit e → AllByRecursion IsKept (map row sections.now) → ⊥) }
+/// ensures reason { IfErr result (λ e. Any (λ s. IsObstacle s e) sections.now) }
 /// ```
 fn copy_all<A: Allocator + Copy>(
     sections: &[Section<'_, A>],
@@ -253,6 +256,7 @@ fn copy_all<A: Allocator + Copy>(
 /// ensures found { IsSection section.now.section → OnOk result (IsKept (row section.now) × GainsSections (row section.now ∷ []) new.old new.new) }
 /// ensures none { IfErr result (λ e. IsMalformed e → ⊥) }
 /// ensures unfit { IsSection section.now.section → IfErr result (λ e. IsUnfit e → IsKept (row section.now) → ⊥) }
+/// ensures reason { IfErr result (λ e. IsObstacle section.now e) }
 /// ```
 fn keep<A: Allocator + Copy>(
     section: &Section<'_, A>,
@@ -382,6 +386,7 @@ fn has_counter(exports: &[Export<'_>]) -> bool {
 /// ensures found { IsSection section.now.section → section.now.section.id ≡ 7 → OnOk result ((exports : List ExportItem) × vec export standard section.now.section.payload exports × (has_counter exports ≡ false)) }
 /// ensures none { IfErr result (λ e. IsMalformed e → RejectsWhole (content (section_kind_of section.now.section)) standard section.now.section.payload) }
 /// ensures unfit { IsSection section.now.section → section.now.section.id ≡ 7 → IfErr result (λ e. IsUnfit e → (exports : List ExportItem) → vec export standard section.now.section.payload exports → has_counter exports ≡ true) }
+/// ensures reason { IsSection section.now.section → section.now.section.id ≡ 7 → IfErr result (λ e. IsTaken section.now e) }
 /// ```
 fn check_exports<A: Allocator + Copy>(section: &Section<'_, A>) -> Result<(), CoverageError> {
     let offset = section.offset();
@@ -402,6 +407,7 @@ fn check_exports<A: Allocator + Copy>(section: &Section<'_, A>) -> Result<(), Co
 /// ensures found { IsSection section.now.section → section.now.section.id ≡ 7 → OnOk result ((exports : List ExportItem) × vec export standard section.now.section.payload exports × (has_counter exports ≡ false) × GainsItems 7 (vec export) (exports ++ counter_exports numbers.function numbers.counter numbers.bodies) new.old new.new) }
 /// ensures none { IsSection section.now.section → section.now.section.id ≡ 7 → IfErr result (λ e. IsMalformed e → HasDecoding (row section.now) → ⊥) }
 /// ensures unfit { IsSection section.now.section → section.now.section.id ≡ 7 → IfErr result (λ e. IsUnfit e → (exports : List ExportItem) → vec export standard section.now.section.payload exports → has_counter exports ≡ true) }
+/// ensures reason { IsSection section.now.section → section.now.section.id ≡ 7 → IfErr result (λ e. IsTaken section.now e) }
 /// ```
 fn add_exports<A: Allocator + Copy>(
     section: &Section<'_, A>,

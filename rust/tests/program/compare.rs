@@ -364,7 +364,7 @@ fn files_that_are_no_modules() {
     let folder = Folder::new("compare_files");
     folder.write("a.wasm", module(&[]));
     folder.write("b.wasm", "");
-    let empty = Answer::fault("b.wasm: empty, and no module");
+    let empty = Answer::fault("b.wasm: is empty, not a module");
     assert_eq!(compare(&folder, &["--fail-above=0"]), empty);
     // A section whose size is not there.
     folder.write("b.wasm", module(&["01"]));

@@ -154,8 +154,9 @@ function {index} <g>: type 0, offset {offset:#x}, size 3
     check(&sections, &["3", "-r"], &format!("{head}{third}"));
     let folder = Folder::new("no_function");
     for (word, why) in [
-        ("h", "no function \"h\""),
-        ("5", "no function 5"),
+        ("h", "no function \"h\"; did you mean \"f\"?"),
+        ("other", "no function \"other\""),
+        ("5", "no function 5: the module has 5"),
         ("+1", "no function \"+1\""),
         ("0", "function 0 is an import, and has no body"),
         ("a.b", "function \"a.b\" is an import, and has no body"),

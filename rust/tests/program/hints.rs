@@ -4,6 +4,10 @@ use crate::samples::{UNREAD, custom, module};
 use crate::shortened::check_shortened;
 use std::process::Command;
 
+/// The end of the report, by the number of dropped sections.
+const NONE: &str = "0 sections copied undecoded";
+const ONE: &str = "1 section dropped, 0 copied undecoded";
+
 const NAME: &str = "metadata.code.branch_hint";
 
 /// The name with its size.
@@ -45,7 +49,7 @@ fn check_as(sections: &[&str], options: &[&str], expected: &[&str], told: &str) 
 
 #[track_caller]
 fn check(sections: &[&str], expected: &[&str]) {
-    check_as(sections, &[], expected, "0");
+    check_as(sections, &[], expected, NONE);
 }
 
 /// Checks the error, and that no file is written.
@@ -146,16 +150,25 @@ fn code_that_does_not_change() {
     let padded = format!("00 21 {NAMED} 01 8100 01 05 01 01");
     let minimal = hints("01 01 01 05 01 01");
     check(&with(&padded, &short), &with(&minimal, &short));
+    let check_copied = |sections: &[&str], undecoded| {
+        check_shortened(
+            sections,
+            &[],
+            sections,
+            "1 section copied undecoded",
+            &[undecoded],
+        );
+    };
     // Hints that do not decode are kept.
     let damaged = hints("05");
     let undecoded =
         "4 (custom \"metadata.code.branch_hint\") at offset 0x39: unexpected end of input";
     let sections = with(&damaged, &short);
-    check_shortened(&sections, &[], &sections, "1", &[undecoded]);
+    check_copied(&sections, undecoded);
     // So is code that does not decode: its payload is behind 8 + 34 + 3 bytes.
     let sections = [&minimal, "0a 8400 01 02 00 ff"];
     let undecoded = "2 (code) at offset 0x30: unknown opcode";
-    check_shortened(&sections, &[], &sections, "1", &[undecoded]);
+    check_copied(&sections, undecoded);
 }
 
 #[test]
@@ -167,14 +180,19 @@ fn with_options() {
     let sections = [&with(&before, &padded)[..], &[&build_id]].concat();
     let adjusted = with(&after, &short);
     let kept = [&adjusted[..], &[&build_id]].concat();
-    check_as(&sections, &["--build-id=keep"], &kept, "0");
-    check_as(&sections, &["--build-id=drop"], &adjusted, "0; left out: 1");
-    check_as(&sections, &["--keep-code"], &sections, "1");
+    check_as(&sections, &["--build-id=keep"], &kept, NONE);
+    check_as(&sections, &["--build-id=drop"], &adjusted, ONE);
+    check_as(&sections, &["--keep-code"], &sections, "1 section copied");
     let dropped = [&FRONT[..], &[&short]].concat();
-    check_as(&sections, &["--drop-offsets"], &dropped, "0; left out: 2");
+    check_as(
+        &sections,
+        &["--drop-offsets"],
+        &dropped,
+        "2 sections dropped, 0 copied undecoded",
+    );
     let kept = [&dropped[..], &[&build_id]].concat();
     let options = ["--drop-offsets", "--build-id=keep"];
-    check_as(&sections, &options, &kept, "0; left out: 1");
+    check_as(&sections, &options, &kept, ONE);
 }
 
 #[test]
@@ -217,14 +235,14 @@ fn sections_that_do_not_decode() {
         &[imports, &none, &padded],
         &[],
         &[imports, &none, &short],
-        "1",
+        "1 section copied undecoded",
         &undecoded,
     );
     check_shortened(
         &[imports, &padded],
         &["--build-id=keep"],
         &[imports, &short],
-        "1",
+        "1 section copied undecoded",
         &undecoded,
     );
     // Of a second code section, which does not decode, no function has hints.
@@ -236,7 +254,13 @@ fn sections_that_do_not_decode() {
         "6 (function) at offset 0x5f: unexpected end of input",
         "7 (code) at offset 0x64: unknown opcode",
     ];
-    check_shortened(&sections, &[], &expected, "2", &undecoded);
+    check_shortened(
+        &sections,
+        &[],
+        &expected,
+        "2 sections copied undecoded",
+        &undecoded,
+    );
 }
 
 #[test]
@@ -288,7 +312,7 @@ fn dry_runs() {
 "
         .into(),
         ..Answer::told(
-            "standard input: 95 bytes before, 90 after; sections kept as they were: 0; not written",
+            "standard input: 95 bytes before, 90 after; 0 sections copied undecoded (dry run)",
         )
     };
     let words = ["shorten", "-", "--dry-run"];

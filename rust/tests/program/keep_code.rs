@@ -16,7 +16,10 @@ fn check(sections: &[&str], kept: usize, expected: &[&str]) {
 
 #[track_caller]
 fn check_keeping(sections: &[&str], kept: usize, expected: &[&str], undecoded: &[&str]) {
-    let told = kept.to_string();
+    let told = match kept {
+        1 => "1 section copied".to_owned(),
+        kept => format!("{kept} sections copied"),
+    };
     check_shortened(sections, &["--keep-code"], expected, &told, undecoded);
 }
 
@@ -153,9 +156,7 @@ fn dry_runs() {
         68         60          8  all
 "
         .into(),
-        ..Answer::told(
-            "standard input: 68 bytes before, 60 after; sections kept as they were: 1; not written",
-        )
+        ..Answer::told("standard input: 68 bytes before, 60 after; 1 section copied (dry run)")
     };
     let words = ["shorten", "-", "--keep-code", "--dry-run"];
     assert_eq!(folder.call(&words, &module(&sections)), answer);

@@ -38,12 +38,12 @@ fn check(bytes: &[u8], why: &str) {
 
 #[test]
 fn empty_files() {
-    check(b"", "empty, and no module");
+    check(b"", "is empty, not a module");
 }
 
 #[test]
 fn texts() {
-    let text = "text, and no binary module";
+    let text = "is text, not a binary module";
     check(b" \n(module)", text);
     check(b";; a module", text);
     check("\u{feff}é\r\n\tb".as_bytes(), text);
@@ -52,7 +52,7 @@ fn texts() {
 
 #[test]
 fn components() {
-    let component = "a component, and no module";
+    let component = "is a component, not a module";
     check(&bytes_of("0061736d0d000100"), component);
     check(&bytes_of("0061736d0100010007"), component);
 }
@@ -62,7 +62,7 @@ fn damaged_headers() {
     let check_version = |header: &str, version: &str, offset: &str| {
         let module = [bytes_of(header), module(&PADDED)[8..].to_vec()].concat();
         let why = format!(
-            "a module of version {version}, and not 1: the header differs at offset {offset}"
+            "is a module of version {version}, not 1: the header differs at offset {offset}"
         );
         check(&module, &why);
     };
@@ -70,21 +70,21 @@ fn damaged_headers() {
     check_version("0061736d01010000", "257", "0x5");
     check_version("0061736d01000200", "131073", "0x6");
     check_version("0061736d01000001", "16777217", "0x7");
-    let magic = "no module: it differs from 00 61 73 6d 01 00 00 00 at offset";
+    let magic = "is not a module: it differs from 00 61 73 6d 01 00 00 00 at offset";
     check(&bytes_of("0061736e01000000"), &format!("{magic} 0x3"));
     check(
         &bytes_of("006173"),
-        "no module: it ends in the header, at offset 0x3",
+        "is not a module: it ends in the header, at offset 0x3",
     );
     check(
         &bytes_of("0061736d010000"),
-        "no module: it ends in the header, at offset 0x7",
+        "is not a module: it ends in the header, at offset 0x7",
     );
 }
 
 #[test]
 fn other_files() {
-    let other = "no module: it does not begin with 00 61 73 6d 01 00 00 00";
+    let other = "is not a module: it does not begin with 00 61 73 6d 01 00 00 00";
     check(b"\x7fELF", other);
     // Control characters and bytes that are not UTF-8 are no text.
     check(b"(module)\x1b", other);

@@ -271,7 +271,7 @@ fn files_with_errors() {
     let answer = folder.call(&["outline", "b.txt", "a.wasm", "c.wasm", "--strict"], b"");
     let expected = Answer {
         out: format!("a.wasm:\n{FIRST}{A}\nc.wasm:\n{FIRST}{C}").into(),
-        err: "dolzhytik: b.txt: text, and no binary module
+        err: "dolzhytik: b.txt: is text, not a binary module
 dolzhytik: c.wasm: section 2 (function) at offset 0xf: unexpected end of input
 dolzhytik: c.wasm: 1 section does not decode
 dolzhytik: errors in 2 of 3 files
@@ -310,7 +310,7 @@ fn json_of_files() {
 "#;
     let expected = Answer {
         out: text.into(),
-        err: "dolzhytik: b.txt: text, and no binary module\ndolzhytik: errors in 1 of 3 files\n"
+        err: "dolzhytik: b.txt: is text, not a binary module\ndolzhytik: errors in 1 of 3 files\n"
             .into(),
         status: 1,
     };

@@ -48,7 +48,7 @@ impl Answer {
     /// The same after the lines for sections of a file that do not decode and are kept.
     pub fn keeping(self, file: &str, sections: &[&str]) -> Self {
         let lines = sections.iter();
-        let lines = lines.map(|it| format!("dolzhytik: {file}: section {it}; kept as it is\n"));
+        let lines = lines.map(|it| format!("dolzhytik: {file}: section {it}; copied undecoded\n"));
         Answer {
             err: lines.collect::<String>() + &self.err,
             ..self

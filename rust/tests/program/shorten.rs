@@ -10,7 +10,7 @@ const REFUSED: &str = "holds offsets that would become wrong; \
 fn padded_numbers_get_shorter() {
     let folder = Folder::new("shorten");
     folder.write("a.wasm", module(&PADDED));
-    let told = Answer::told("a.wasm: 52 bytes before, 39 after; sections kept as they were: 0");
+    let told = Answer::told("a.wasm: 52 bytes before, 39 after; 0 sections copied undecoded");
     assert_eq!(
         folder.call(&["shorten", "a.wasm", "-o", "b.wasm"], b""),
         told
@@ -24,7 +24,7 @@ fn padded_numbers_get_shorter() {
 fn sections_that_do_not_decode_are_kept_and_named() {
     let folder = Folder::new("kept");
     folder.write("a.wasm", module(&[PADDED[1], UNREAD, "08 8200 07 00"]));
-    let told = Answer::told("a.wasm: 24 bytes before, 21 after; sections kept as they were: 2");
+    let told = Answer::told("a.wasm: 24 bytes before, 21 after; 2 sections copied undecoded");
     let told = told.keeping(
         "a.wasm",
         &[
@@ -51,9 +51,8 @@ fn code_that_does_not_decode_is_kept_and_named() {
     let name = custom("name", "05");
     let sections = [&sections[..], &[&lost, &name]].concat();
     folder.write("a.wasm", module(&sections));
-    let told = Answer::told(
-        "a.wasm: 47 bytes before, 29 after; sections kept as they were: 2; left out: 1",
-    );
+    let told =
+        Answer::told("a.wasm: 47 bytes before, 29 after; 1 section dropped, 2 copied undecoded");
     let told = told.keeping(
         "a.wasm",
         &[
@@ -70,7 +69,7 @@ fn standard_streams() {
     let folder = Folder::new("streams");
     let answer = Answer {
         out: module(&SHORT),
-        ..Answer::told("standard input: 52 bytes before, 39 after; sections kept as they were: 0")
+        ..Answer::told("standard input: 52 bytes before, 39 after; 0 sections copied undecoded")
     };
     let words = ["shorten", "-", "--output", "-"];
     assert_eq!(folder.call(&words, &module(&PADDED)), answer);
@@ -92,9 +91,8 @@ fn offsets() {
     assert_eq!(folder.names(), ["a.wasm", "b.wasm"]);
 
     // The first has 2 + 1 + 10 + 2 bytes, the second 2 + 1 + 11 + 1.
-    let told = Answer::told(
-        "a.wasm: 82 bytes before, 39 after; sections kept as they were: 0; left out: 2",
-    );
+    let told =
+        Answer::told("a.wasm: 82 bytes before, 39 after; 2 sections dropped, 0 copied undecoded");
     let words = ["shorten", "--drop-offsets", "a.wasm", "-o", "b.wasm"];
     assert_eq!(folder.call(&words, b""), told);
     assert_eq!(folder.read("b.wasm"), module(&SHORT));
@@ -106,7 +104,7 @@ fn offsets_into_code_that_stays() {
     let linking = custom("linking", "02");
     let sections = [PADDED[0], SHORT[1], SHORT[2], SHORT[3], &linking];
     folder.write("a.wasm", module(&sections));
-    let told = Answer::told("a.wasm: 54 bytes before, 50 after; sections kept as they were: 0");
+    let told = Answer::told("a.wasm: 54 bytes before, 50 after; 0 sections copied undecoded");
     assert_eq!(
         folder.call(&["shorten", "a.wasm", "-o", "b.wasm"], b""),
         told
@@ -129,7 +127,7 @@ fn dry_runs_write_nothing() {
     let folder = Folder::new("dry");
     folder.write("a.wasm", module(&PADDED));
     let all = "        52         39         13  all\n";
-    let sizes = "52 bytes before, 39 after; sections kept as they were: 0; not written";
+    let sizes = "52 bytes before, 39 after; 0 sections copied undecoded (dry run)";
     let told = |name: &str| Answer {
         out: format!("{SAVINGS}{all}").into(),
         ..Answer::told(&format!("{name}: {sizes}"))
@@ -157,8 +155,7 @@ fn dry_runs_as_json() {
 ]}
 "#;
     let words = ["shorten", "-", "--dry-run", "--json", "--drop-offsets"];
-    let sizes =
-        "43 bytes before, 21 after; sections kept as they were: 0; left out: 1; not written";
+    let sizes = "43 bytes before, 21 after; 1 section dropped, 0 copied undecoded (dry run)";
     let told = Answer {
         out: json.into(),
         ..Answer::told(&format!("standard input: {sizes}"))
@@ -190,8 +187,7 @@ fn dry_runs_of_modules_with_offsets() {
         94         51         43  all
 ";
     let words = ["shorten", "-", "--dry-run", "--drop-offsets"];
-    let sizes =
-        "94 bytes before, 51 after; sections kept as they were: 1; left out: 2; not written";
+    let sizes = "94 bytes before, 51 after; 2 sections dropped, 1 copied undecoded (dry run)";
     let told = Answer {
         out: format!("{SAVINGS}{lines}").into(),
         ..Answer::told(&format!("standard input: {sizes}"))

@@ -16,7 +16,7 @@ pub fn check_shortened(
     let (before, after) = (module(sections), module(expected));
     folder.write("a.wasm", &before);
     let sizes = format!(
-        "a.wasm: {} bytes before, {} after; sections kept as they were: {told}",
+        "a.wasm: {} bytes before, {} after; {told}",
         before.len(),
         after.len(),
     );
@@ -26,5 +26,5 @@ pub fn check_shortened(
     assert_eq!(answer, expected(&sizes), "{options:?}");
     assert_eq!(folder.read("b.wasm"), after);
     let answer = folder.call(&[&words[..], &["--dry-run"]].concat(), b"");
-    assert_eq!(answer.err, expected(&(sizes + "; not written")).err);
+    assert_eq!(answer.err, expected(&(sizes + " (dry run)")).err);
 }

@@ -75,6 +75,34 @@ fn ten_functions_without_an_option() {
     check(&sections, &["--functions", "12"], &all);
 }
 
+/// An active segment of two bytes, whose name is `da`, and a passive one of six.
+#[test]
+fn data_segments() {
+    let sections = [
+        "0b 10 02 00 41 00 0b 02 aabb 01 06 010203040506",
+        &custom("name", "09 05 01 00 02 6461"),
+    ];
+    let begin = "        18  45.0  data
+        14  35.0  custom \"name\"
+         8  20.0  header
+        40 100.0  all
+";
+    let larger = "         8  20.0  data 1\n";
+    let smaller = "         7  17.5  data 0 <da>\n";
+    check(&sections, &[], &format!("{begin}{larger}{smaller}"));
+    check(&sections, &["--functions=1"], &format!("{begin}{larger}"));
+    check(&sections, &["--functions=0"], begin);
+    let folder = Folder::new("size_data");
+    let answer = folder.call(&["size", "-", "--json"], &module(&sections));
+    let data = r#""data": [
+  {"data": 1, "name": null, "bytes": 8},
+  {"data": 0, "name": "da", "bytes": 7}
+]}
+"#;
+    let text = String::from_utf8(answer.out).unwrap();
+    assert!(text.ends_with(data), "{text}");
+}
+
 #[test]
 fn groups_of_imports() {
     // Two functions and a memory of module `a`, and then three functions of it.
@@ -118,6 +146,12 @@ fn faults() {
 ";
     let unknown = "section 1 (import) at offset 0xf: unexpected byte or value";
     check(&["02 07 01 01 61 01 62 09 00"], lines, unknown);
+    let lines = "         4  33.3  data
+         8  66.7  header
+        12 100.0  all
+";
+    let unknown = "section 1 (data) at offset 0xb: unexpected byte or value";
+    check(&["0b 02 01 03"], lines, unknown);
     let names = |data: &str, line: &[u8]| {
         let sections = module(&[NAMED[3], &custom("name", data)]);
         let answer = folder.call(&["size", "-", "--functions=1"], &sections);
@@ -140,10 +174,10 @@ fn json() {
   {"function": 1, "name": null, "bytes": 4}
 ], "groups": [
   {"prefix": null, "functions": 2, "bytes": 7}
-], "other_groups": {"count": 0, "functions": 0, "bytes": 0}, "all_functions": {"functions": 2, "bytes": 7}}
+], "other_groups": {"count": 0, "functions": 0, "bytes": 0}, "all_functions": {"functions": 2, "bytes": 7}, "data": []}
 "#;
     assert_eq!(answer, Answer::of(text));
-    let text = r#"{"bytes": 8, "sections": [], "functions": [], "groups": [], "other_groups": {"count": 0, "functions": 0, "bytes": 0}, "all_functions": {"functions": 0, "bytes": 0}}
+    let text = r#"{"bytes": 8, "sections": [], "functions": [], "groups": [], "other_groups": {"count": 0, "functions": 0, "bytes": 0}, "all_functions": {"functions": 0, "bytes": 0}, "data": []}
 "#;
     assert_eq!(
         folder.call(&["size", "-", "--json"], &module(&[])),
@@ -206,13 +240,13 @@ fn json_of_groups() {
   {"function": 3, "name": "<c::S>::f", "bytes": 6}
 ], "groups": [
   {"prefix": "a", "functions": 2, "bytes": 7}
-], "other_groups": {"count": 2, "functions": 2, "bytes": 11}, "all_functions": {"functions": 4, "bytes": 18}}
+], "other_groups": {"count": 2, "functions": 2, "bytes": 11}, "all_functions": {"functions": 4, "bytes": 18}, "data": []}
 "#;
     assert_eq!(answer, Answer::of(text));
     // Code that does not decode has no groups.
     let text = r#"{"bytes": 14, "sections": [
   {"section": 1, "kind": "code", "name": null, "bytes": 6}
-], "functions": [], "groups": [], "other_groups": null, "all_functions": null}
+], "functions": [], "groups": [], "other_groups": null, "all_functions": null, "data": []}
 "#;
     let ended = "standard input: section 1 (code) at offset 0xe: unexpected end of input";
     let expected = Answer {

@@ -15,7 +15,7 @@ const EMPTY: &str = "00 11 10 2e6f626a636f70792e72656d6f766564";
 fn is_minimized_where_code_stays() {
     let padded = [&[PADDED_LIBRARY], &SHORT[..]].concat();
     let short = [&[LIBRARY], &SHORT[..]].concat();
-    check_shortened(&padded, &[], &short, "0", &[]);
+    check_shortened(&padded, &[], &short, "0 sections copied undecoded", &[]);
 }
 
 #[test]
@@ -31,7 +31,13 @@ fn fails_where_code_changes() {
     let known = custom("dylink.0", "02 01 00");
     let sections = [&[&known[..]], &PADDED[..]].concat();
     let expected = [&[&known[..]], &SHORT[..]].concat();
-    check_shortened(&sections, &[], &expected, "0", &[]);
+    check_shortened(
+        &sections,
+        &[],
+        &expected,
+        "0 sections copied undecoded",
+        &[],
+    );
 }
 
 #[test]
@@ -42,7 +48,7 @@ fn stays_without_offsets() {
         &sections,
         &["--drop-offsets"],
         &expected,
-        "0; left out: 0",
+        "0 sections dropped, 0 copied undecoded",
         &[],
     );
 }
@@ -52,8 +58,8 @@ fn keeps_all_with_the_code() {
     let linking = custom("linking", "02 0a 01 00");
     for section in [PADDED_LIBRARY, &linking] {
         let sections = [&[section], &PADDED[..]].concat();
-        let kept = sections.len().to_string();
-        check_shortened(&sections, &["--keep-code"], &sections, &kept, &[]);
+        let told = format!("{} sections copied", sections.len());
+        check_shortened(&sections, &["--keep-code"], &sections, &told, &[]);
     }
 }
 

@@ -331,11 +331,11 @@ fn help_of_commands() {
                  [--fail-above N|N%] [--json | --color WHEN]
 
 prints the sizes of the sections in bytes and in percent, and of the ten largest
-functions, the largest first. If names of functions have ::, it prints groups of
-functions by the part before that: ten, the others, and the sum. Of two builds
-it prints what grew and shrank: the sections, ten functions and ten data
-segments, the largest change first. Functions are matched by name, then by equal
-body, and data segments by name, or by index without one.
+functions and data segments, the largest first. If names of functions have ::,
+it prints groups of functions by the part before that: ten, the others, and the
+sum. Of two builds it prints what grew and shrank: the sections, ten functions
+and ten data segments, the largest change first. Functions are matched by name,
+then by equal body, and data segments by name, or by index without one.
 
 --why FUNCTION           prints why a function, an index or a name, is in the
                          module: a shortest path of references to it from an
@@ -343,8 +343,7 @@ body, and data segments by name, or by index without one.
                          global or a table. Then it prints the functions that
                          are reachable only through it.
 --functions N            how many functions size prints, by default 10, and how
-                         many groups. Of two builds it prints as many data
-                         segments.
+                         many data segments and groups.
 --fail-above N|N%        the status is 1 if NEW is larger than OLD by more than
                          this, in bytes or in percent of OLD.
 --json                   prints JSON, for other programs, with offsets and sizes

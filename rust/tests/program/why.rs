@@ -186,5 +186,5 @@ fn damaged_modules() {
         "0",
         "section 1 at offset 0x9: unexpected end of input",
     );
-    check_fault(b"", "0", "empty, and no module");
+    check_fault(b"", "0", "is empty, not a module");
 }

@@ -90,25 +90,39 @@ export class ByteView {
     const first = row * this.#width;
     const line = make('div', { className: 'line' });
     line.append(make('span', { className: 'at', textContent: first.toString(16).padStart(8, '0') }));
-    const ascii = make('span', { className: 'ascii' });
-    for (let offset = first; offset < first + this.#width; offset += 1) {
-      const [byte, char] = this.#cells(offset);
-      line.append(byte);
-      ascii.append(char);
-    }
-    line.append(ascii);
+    const offsets = Array.from({ length: this.#width }, (_, column) => first + column);
+    line.append(...offsets.map((offset) => this.#cell(offset)), this.#characters(offsets));
     return line;
   }
 
-  /** A byte in hexadecimal and as a character. */
-  #cells(offset) {
-    if (offset < this.#from || offset >= this.#to) return [make('b', { className: 'none' }), ' '];
-    const byte = this.#bytes[offset];
-    const className = this.#classAt(offset);
-    const char = byte > 0x20 && byte < 0x7f ? String.fromCharCode(byte) : '·';
-    const cell = make('b', { className, textContent: byte.toString(16).padStart(2, '0') });
+  #isShown(offset) {
+    return this.#from <= offset && offset < this.#to;
+  }
+
+  /** A byte in hexadecimal. */
+  #cell(offset) {
+    if (!this.#isShown(offset)) return make('b', { className: 'none' });
+    const textContent = this.#bytes[offset].toString(16).padStart(2, '0');
+    const cell = make('b', { className: this.#classAt(offset), textContent });
     cell.dataset.offset = offset;
-    return [cell, make('span', { className, textContent: char })];
+    return cell;
+  }
+
+  /** Bytes as characters, with an element for each run of one class. */
+  #characters(offsets) {
+    const runs = [];
+    for (const offset of offsets) {
+      const className = this.#isShown(offset) ? this.#classAt(offset) : '';
+      if (runs.at(-1)?.className !== className) runs.push({ className, textContent: '' });
+      runs.at(-1).textContent += this.#character(offset);
+    }
+    return make('span', { className: 'ascii' }, ...runs.map((run) => make('span', run)));
+  }
+
+  #character(offset) {
+    if (!this.#isShown(offset)) return ' ';
+    const byte = this.#bytes[offset];
+    return byte > 0x20 && byte < 0x7f ? String.fromCharCode(byte) : '·';
   }
 
   #classAt(offset) {

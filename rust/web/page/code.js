@@ -1,4 +1,4 @@
-// The instructions of a function.
+// The instructions of a function, with their relocations.
 import { partsOf } from '../operands.js';
 import { byId, counted, escaped, hasModifier, hex, make, moved, number } from './elements.js';
 import { Rows } from './rows.js';
@@ -20,13 +20,22 @@ function depthsOf(instructions) {
   });
 }
 
+/** A line for each instruction, and one below it for each of its relocations. */
+function linesOf(instructions) {
+  const depths = depthsOf(instructions);
+  return instructions.flatMap(({ relocations = [], ...it }, index) => {
+    const depth = depths[index];
+    const below = relocations.map((each) => ({ ...each, depth: depth + 1, isRelocation: true }));
+    return [{ ...it, depth }, ...below];
+  });
+}
+
 export class CodeView {
-  #instructions = [];
-  #depths = [];
+  #lines = [];
   #names = new Map();
   chosen = -1;
 
-  /** `onChoose` is called with the chosen instruction. */
+  /** `onChoose` is called with the chosen instruction or relocation, and its text. */
   constructor(element, onChoose) {
     this.element = element;
     this.onChoose = onChoose;
@@ -39,17 +48,16 @@ export class CodeView {
   }
 
   show({ instructions, names }, text) {
-    [this.#instructions, this.#names, this.chosen] = [instructions, names, -1];
-    this.#depths = depthsOf(instructions);
+    [this.#lines, this.#names, this.chosen] = [linesOf(instructions), names, -1];
     this.element.removeAttribute('aria-activedescendant');
-    this.element.setAttribute('aria-rowcount', instructions.length);
+    this.element.setAttribute('aria-rowcount', this.#lines.length);
     this.element.style.setProperty('--at', `${hex(instructions.at(-1)?.offset ?? 0).length}ch`);
-    this.rows.show(instructions.length, text);
+    this.rows.show(this.#lines.length, text);
   }
 
   choose(index) {
     this.mark(index);
-    this.onChoose(this.#instructions[index]);
+    this.onChoose(this.#lines[index], byId(`instruction-${index}`).querySelector('.text').textContent);
   }
 
   mark(index) {
@@ -62,19 +70,21 @@ export class CodeView {
 
   /** The position of the instruction with the byte at an offset, or -1. */
   indexAt(offset) {
-    return this.#instructions.findIndex((it) => it.offset <= offset && offset < it.offset + it.size);
+    return this.#lines.findIndex((it) => !it.isRelocation && it.offset <= offset && offset < it.offset + it.size);
   }
 
   #row(index) {
-    const it = this.#instructions[index];
-    const row = make('div', { className: 'instruction', id: `instruction-${index}`, role: 'row' });
+    const it = this.#lines[index];
+    const className = it.isRelocation ? 'instruction relocation' : 'instruction';
+    const row = make('div', { className, id: `instruction-${index}`, role: 'row' });
     row.dataset.index = index;
     row.setAttribute('aria-rowindex', index + 1);
     row.setAttribute('aria-selected', index === this.chosen);
     row.append(make('span', { className: 'at', role: 'gridcell', textContent: hex(it.offset) }));
     const code = make('span', { className: 'text', role: 'gridcell' });
-    code.style.paddingLeft = `${2 * this.#depths[index]}ch`;
-    code.append(make('span', { className: 'opcode', textContent: it.name }), ...this.#operands(it));
+    code.style.paddingLeft = `${2 * it.depth}ch`;
+    const operands = it.isRelocation ? this.#target(it) : this.#operands(it);
+    code.append(make('span', { className: 'opcode', textContent: it.name }), ...operands);
     row.append(code);
     return row;
   }
@@ -86,13 +96,20 @@ export class CodeView {
     });
   }
 
+  /** The symbol or type of a relocation, and the addend with its sign. */
+  #target({ target, addend }) {
+    const sum = addend === null ? '' : addend < 0 ? String(addend) : `+${addend}`;
+    return [' ', ...this.#part(target), sum];
+  }
+
   /** A text, or an index with its name, which is a link if it is that of a function. */
   #part(part) {
     if (typeof part === 'string') return [part];
     const { kind, index } = part;
+    const of = kind === 'function' ? index : part.function;
     const name = this.#names.get(`${kind} ${index}`);
     const text = name ? `${index} <${escaped(name)}>` : String(index);
-    if (kind === 'function') return [make('a', { href: `#function=${index}`, textContent: text, tabIndex: -1 })];
+    if (of !== undefined) return [make('a', { href: `#function=${of}`, textContent: text, tabIndex: -1 })];
     return name ? [`${index} `, make('span', { className: 'entry', textContent: `<${escaped(name)}>` })] : [text];
   }
 
@@ -102,7 +119,7 @@ export class CodeView {
       byId(`instruction-${this.chosen}`)?.querySelector('a')?.click();
       return;
     }
-    const to = moved(event.key, this.chosen, this.#instructions.length, this.rows.inView);
+    const to = moved(event.key, this.chosen, this.#lines.length, this.rows.inView);
     if (to === null || to < 0) return;
     event.preventDefault();
     this.choose(to);

@@ -14,9 +14,13 @@ const labels = {
   data: ({ index, name }) => (name === null ? `data ${index}` : escaped(name)),
 };
 
-function row(group, label, { before, after, change }) {
+/** The address of a function that the open file has, or null. */
+const addressOf = ({ index, after }) => (after === null ? null : `#function=${index}`);
+
+function row(group, label, { before, after, change }, href = null) {
   const share = before ? percent.format(change / before) : '–';
-  const name = make('th', { scope: 'row', className: 'name', title: label }, make('bdi', { textContent: label }));
+  const text = make('bdi', { textContent: label });
+  const name = make('th', { scope: 'row', className: 'name', title: label }, href ? make('a', { href }, text) : text);
   const element = make('tr', { className: sign(change) });
   const size = (value) => numberCell(value === null ? '–' : number(value));
   element.append(make('td', { textContent: group }), name, size(before), size(after));
@@ -25,9 +29,9 @@ function row(group, label, { before, after, change }) {
 }
 
 /** Rows of the parts that changed, and one for those that are not listed. */
-function rowsOf(group, word, parts, label) {
+function rowsOf(word, parts, label, address = () => null) {
   const changed = parts.filter(({ change }) => change !== 0);
-  const rows = changed.slice(0, MOST_ROWS).map((part) => row(word, label(part), part));
+  const rows = changed.slice(0, MOST_ROWS).map((part) => row(word, label(part), part, address(part)));
   const others = [...changed.slice(MOST_ROWS), ...parts.filter(({ change }) => change === 0)];
   if (others.length) {
     const sum = (its) => others.reduce((all, part) => all + (part[its] ?? 0), 0);
@@ -39,22 +43,23 @@ function rowsOf(group, word, parts, label) {
 
 /** The parts that changed, as nodes whose areas are what changed. */
 function nodesOf({ sections, functions, data }) {
-  const node = (label) => (part) => ({
+  const node = (label, address = () => null) => (part) => ({
     label: `${label(part)} ${signed(part.change)}`,
     size: Math.abs(part.change),
     kind: `change ${sign(part.change)}`,
+    open: address(part) && (() => (location.hash = address(part))),
   });
   const others = sections.filter(({ kind }) => kind !== 'code' && kind !== 'data');
-  const parts = [...functions.map(node(labels.functions)), ...data.map(node(labels.data))];
+  const parts = [...functions.map(node(labels.functions, addressOf)), ...data.map(node(labels.data))];
   return [...parts, ...others.map(node(labels.sections))];
 }
 
 function showTable(found) {
   const { sections, functions, data } = found;
   byId('changes').tBodies[0].replaceChildren(
-    ...sections.map((part) => row('section', labels.sections(part), part)),
-    ...rowsOf('functions', 'function', functions, labels.functions),
-    ...rowsOf('data', 'data', data, labels.data),
+    ...rowsOf('section', sections, labels.sections),
+    ...rowsOf('function', functions, labels.functions, addressOf),
+    ...rowsOf('data', data, labels.data),
   );
   const total = { before: found.before, after: found.after, change: found.after - found.before };
   byId('changes').tFoot.replaceChildren(row('', 'module', total));

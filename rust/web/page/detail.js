@@ -2,8 +2,8 @@
 import { ByteView } from './bytes.js';
 import { CodeView, codeFacts } from './code.js';
 import { byId, counted, escaped, hex, number, range } from './elements.js';
-import { reader } from './engine.js';
-import { ItemList, titleOfItem } from './items.js';
+import { reader, received } from './engine.js';
+import { ItemList, isFunction, titleOfItem } from './items.js';
 import { HEADER_SIZE, MOST_ITEMS } from './limits.js';
 import * as links from './links.js';
 import { endOf, functionName, functionsIn, indexAt, isFlawed, state, titleOf } from './state.js';
@@ -83,8 +83,9 @@ async function itemsOf(section) {
       if (isCode(section) || found.items.length) return found;
     }
     const index = state.file.sections.indexOf(section);
-    const { items, isCut } = await reader.call('items', index);
-    return { section, items: items.map((item, at) => ({ ...item, index: at })), isCut, error: null };
+    const { count, isCut } = await reader.call('items', index);
+    const items = await received(count, (at) => reader.call('itemsFrom', at));
+    return { section, items, isCut, error: null };
   } catch (error) {
     return { section, items: [], isCut: false, error };
   }
@@ -92,8 +93,7 @@ async function itemsOf(section) {
 
 /** The functions that are in the section, as items with their names. */
 function functionItems(section) {
-  const items = functionsIn(section).map((it) => ({ ...it, text: it.name ?? `function ${it.index}` }));
-  return { section, items, isCut: section.isUndecoded || isFlawed(section), error: null };
+  return { section, items: functionsIn(section), isCut: section.isUndecoded || isFlawed(section), error: null };
 }
 
 function whyNoItems(section, error) {
@@ -105,8 +105,9 @@ function whyNoItems(section, error) {
 }
 
 function showItems({ section, items, isCut, error }) {
-  byId('items-title').textContent = isCode(section) || items[0]?.body ? 'Functions' : 'Items';
-  const isFull = !items[0]?.body && items.length === MOST_ITEMS;
+  const areFunctions = isCode(section) || isFunction(items[0]);
+  byId('items-title').textContent = areFunctions ? 'Functions' : 'Items';
+  const isFull = !areFunctions && items.length === MOST_ITEMS;
   const count = items.length ? number(items.length) : '';
   const cut = isCut && items.length ? `${count} before the damage` : count;
   byId('items-facts').textContent = isFull ? `the first ${count}` : cut;
@@ -119,7 +120,7 @@ function showItems({ section, items, isCut, error }) {
 function chooseItem(item) {
   byteView.mark(item.offset, item.offset + item.size);
   byId('items-note').textContent = escaped(titleOfItem(item));
-  notePicked(`${item.body ? 'Function' : 'Item'} ${item.index}`, item);
+  notePicked(`${isFunction(item) ? 'Function' : 'Item'} ${item.index}`, item);
 }
 
 function notePicked(what, { offset, size }) {
@@ -128,7 +129,7 @@ function notePicked(what, { offset, size }) {
 
 /** Shows the instructions of a function that is chosen in the list. */
 function openItem(item, isByKey = false) {
-  if (item.body) openFunction(item.index, isByKey);
+  if (isFunction(item)) openFunction(item.index, isByKey);
 }
 
 /** Marks the item or instruction that has the byte, and its bytes. */
@@ -140,7 +141,7 @@ function markItemAt(offset) {
   byteView.marked = item ? { from: item.offset, to: item.offset + item.size } : { from: 0, to: 0 };
   byteView.rows.draw();
   const byte = state.file.bytes[offset];
-  const isOfFunctions = itemList.items[0]?.body !== undefined;
+  const isOfFunctions = isFunction(itemList.items[0]);
   const isKnown = itemList.items.length > 0 && (isOfFunctions || itemList.items.length < MOST_ITEMS);
   const word = isOfFunctions ? 'function' : 'item';
   const inItem = item ? `in ${word} ${item.index}` : isKnown ? `in no ${word}` : '';
@@ -208,7 +209,7 @@ export async function showFunction(index, isByKey = false) {
   shown = it;
   itemList.mark(itemList.items.findIndex((item) => item.index === index));
   byteView.mark(it.offset, it.offset + it.size);
-  const found = await reader.call('instructions', it);
+  const found = await reader.call('instructions', index);
   if (asked !== state.file || shown !== it) return;
   byId('list').hidden = true;
   byId('function').hidden = false;
@@ -217,14 +218,19 @@ export async function showFunction(index, isByKey = false) {
   byId('function-facts').textContent = facts.join(' · ');
   codeView.show(found, 'No instruction decodes.');
   notePicked(`Function ${index}`, it);
-  byId('items-note').textContent = signature(it);
+  byId('items-note').textContent = signature(found);
   if (isByKey) byId('code').focus();
+}
+
+/** A run of locals with its indices, which are not known without the type of the function. */
+function runText({ first, count, type }) {
+  if (first === null) return `${counted(count, 'local')} ${type}`;
+  return count === 1 ? `local ${first} ${type}` : `locals ${first} to ${first + count - 1} ${type}`;
 }
 
 /** The type of a function, and its runs of locals. */
 function signature({ type, locals }) {
-  const runs = locals.map((run) => `${counted(run.count, 'local')} ${run.type}`);
-  return [type ?? 'The type is not known', ...runs].join(', ');
+  return [type ?? 'The type is not known', ...locals.map(runText)].join(', ');
 }
 
 function noteMissing(index) {
@@ -241,9 +247,9 @@ function showList() {
   byId('list').hidden = false;
 }
 
-function chooseInstruction(it) {
+function chooseInstruction(it, text) {
   byteView.mark(it.offset, it.offset + it.size);
-  byId('items-note').textContent = it.name;
+  byId('items-note').textContent = text;
   notePicked(it.name, it);
 }
 

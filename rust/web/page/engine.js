@@ -40,5 +40,17 @@ export class Engine {
   }
 }
 
+/**
+ * A list of this length, which comes in messages of some items each. `call` returns those from a
+ * position on.
+ */
+export async function received(count, call, each = (item) => item) {
+  const items = [];
+  while (items.length < count) {
+    for (const item of await call(items.length)) items.push(each(item));
+  }
+  return items;
+}
+
 export const reader = new Engine();
 export const minimizer = new Engine();

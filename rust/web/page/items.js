@@ -8,9 +8,12 @@ const ORDERS = {
   name: (a, b) => (a.text < b.text ? -1 : a.text > b.text ? 1 : 0),
 };
 
-/** The text of an item; that of a function has the number of its instructions. */
-export function titleOfItem({ text, count }) {
-  return count === undefined ? text : `${text}: ${counted(count, 'instruction')}`;
+/** Whether an item is a function. It has the number of its instructions. */
+export const isFunction = (item) => item?.count !== undefined;
+
+/** The text of an item, and of a function the number of its instructions. */
+export function titleOfItem(item) {
+  return isFunction(item) ? `${item.text}: ${counted(item.count, 'instruction')}` : item.text;
 }
 
 export class ItemList {

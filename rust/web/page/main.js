@@ -10,7 +10,7 @@ import { clearMinimal, listenToMinimizing, minimize, showChoices, showSavings } 
 import { listenToRecipe } from './recipe.js';
 import { listenToSections, markSection, showBar, showSections } from './sections.js';
 import { listenToHandle } from './split.js';
-import { sectionsOf, setFile, shareOf, state } from './state.js';
+import { readParts, sectionsOf, setFile, shareOf, state } from './state.js';
 import { treeOf } from './tree.js';
 import { Treemap } from './treemap.js';
 
@@ -87,7 +87,10 @@ async function open(name, bytes, isBuilt = false) {
 
 /** Shows the functions and the treemap, when they are known, and what the address says. */
 async function showParts(ready, link) {
-  if (!ready(await reader.call('parts'))) return;
+  const { file } = state;
+  if (!ready(await readParts())) return;
+  await painted();
+  if (file !== state.file) return;
   showMap();
   if (link) follow(link);
 }

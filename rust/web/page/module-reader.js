@@ -3,16 +3,17 @@ import { DolzhytikError, list, outline } from '../dolzhytik.js';
 import { Indices, entriesOf, instructionsOf } from '../dump.js';
 import { Names } from '../names.js';
 import { sized } from '../sizes.js';
-import { HEADER_SIZE, MOST_ITEMS } from './limits.js';
+import { HEADER_SIZE, MESSAGE_ITEMS, MOST_ITEMS } from './limits.js';
+import { Relocations } from './relocations.js';
 
 /** Sections that name and type functions and other entries, and those whose items have sizes. */
 const isNaming = ({ id, name }) => [1, 2, 3, 7].includes(id) || (id === 0 && (name === 'name' || name === 'linking'));
 const isSized = ({ id }) => id === 10 || id === 11;
 
-/** The texts of the types of functions, by the index of the function. */
+/** The types of functions, by the index of the function. */
 function typesOf(sections) {
   const entries = (id) => sections.filter((section) => section.id === id).flatMap((section) => section.entries);
-  const types = entries(1).map(({ text }) => text);
+  const types = entries(1);
   const functions = [...entries(2).filter(({ kind }) => kind === 'func'), ...entries(3)];
   return new Map(functions.map(({ index, type }) => [index, types[type]]));
 }
@@ -22,6 +23,16 @@ function typesOf(sections) {
  * counted.
  */
 const isFlawed = ({ id, name, items }) => (id === 0 ? name === null : id <= 13 && items === null);
+
+/** Runs of locals with their first indices, which are after those of the parameters. */
+function numbered(locals, parameters) {
+  let next = parameters?.length ?? null;
+  return locals.filter(({ count }) => count > 0).map((run) => {
+    const first = next;
+    if (next !== null) next += run.count;
+    return { ...run, first };
+  });
+}
 
 /** An unsigned LEB128 number in five bytes, which every size prefix of 32 bits has space for. */
 const padded = (value) => [0, 7, 14, 21, 28].map((bit) => ((value >>> bit) & 127) | (bit < 28 ? 128 : 0));
@@ -54,6 +65,15 @@ export class ModuleReader {
   #module;
   #error = null;
   #names = null;
+  /** The sections with the entries that name others. */
+  #named = [];
+  #relocations = null;
+  /** The functions and data segments in their order. */
+  #parts = { functions: [], data: [] };
+  /** The items of the section that was asked for last. */
+  #items = [];
+  /** What the page does not keep of functions, by their indices. */
+  #bodies = new Map();
 
   constructor(bytes, posted) {
     this.#bytes = bytes;
@@ -107,7 +127,7 @@ export class ModuleReader {
     return { entries: entries.map(inFile), isCut: true, id };
   }
 
-  /** The functions and data segments with their names, and how many functions are imported. */
+  /** How many functions and data segments there are, and the names of imported functions. */
   parts() {
     const indices = new Indices();
     const all = this.#sections.map((section, index) => {
@@ -115,43 +135,73 @@ export class ModuleReader {
       return { ...section, entries: isWanted ? this.#entries(index, indices).entries : [] };
     });
     if (this.#error) all.push({ id: null, name: null, ...this.#entries(this.#sections.length, indices) });
+    this.#named = all;
     this.#names = new Names(all);
     const functions = sized(all, this.#names, 10);
     const bodies = all.filter(({ id }) => id === 10).flatMap(({ entries }) => entries);
     const types = typesOf(all);
     functions.forEach((it, at) => {
       const { body, locals, instruction_count: count } = bodies[at];
-      Object.assign(it, { body, locals, count, type: types.get(it.index) });
+      this.#bodies.set(it.index, { offset: it.offset, body, locals, type: types.get(it.index) });
+      it.count = count;
     });
     const names = {};
     for (let index = 0; index < indices.imported('func'); index += 1) names[index] = this.#names.of('function', index);
-    return { functions, data: sized(all, this.#names, 11), imported: names };
+    this.#parts = { functions, data: sized(all, this.#names, 11) };
+    const counts = { functions: functions.length, data: this.#parts.data.length };
+    return { counts, imported: names };
   }
 
-  /** The first items of a section with their texts, up to the first that does not decode. */
+  /** Some `functions` or `data` with their names and sizes, from a position on. */
+  partsFrom(which, at) {
+    return this.#parts[which].slice(at, at + MESSAGE_ITEMS);
+  }
+
+  /**
+   * How many of the first items of a section are listed, up to the first that does not decode, and
+   * whether there is such an item.
+   */
   items(index) {
     const { entries, isCut } = this.#entries(index, new Indices(), MOST_ITEMS);
-    const items = entries.slice(0, MOST_ITEMS).map(({ offset, size, text }) => ({ offset, size, text }));
-    return { items, isCut };
+    this.#items = entries.slice(0, MOST_ITEMS).map(({ offset, size, text }, at) => ({ index: at, offset, size, text }));
+    return { count: this.#items.length, isCut };
   }
 
-  /** The instructions of a body with the names of their operands. */
-  instructions({ index, body }) {
-    const { instructions, error } = instructionsOf(this.#bytes, body, MOST_ITEMS);
-    const nameOf = ({ kind, index: of }) =>
-      kind === 'local' ? this.#names.ofLocal(index, of) : this.#names.of(kind, of);
-    return { instructions, error, names: namesOf(instructions, nameOf) };
+  /** Some of these items with their texts, from a position on. */
+  itemsFrom(at) {
+    return this.#items.slice(at, at + MESSAGE_ITEMS);
+  }
+
+  /**
+   * The instructions of a function with their relocations, and the names of what they have; its type
+   * and locals.
+   */
+  instructions(index) {
+    const { offset, body, locals, type } = this.#bodies.get(index);
+    const { instructions: found, error } = instructionsOf(this.#bytes, body, MOST_ITEMS);
+    const entriesAt = (section, limit) => this.#entries(section, new Indices(), limit).entries;
+    this.#relocations ??= new Relocations(this.#named, entriesAt);
+    const instructions = this.#relocations.among(found, offset);
+    const names = namesOf(instructions, (entry) => this.#nameOf(index, entry));
+    return { instructions, error, names, locals: numbered(locals, type?.params), type: type?.text };
+  }
+
+  /** The name of an entry that a function has. */
+  #nameOf(index, { kind, index: of }) {
+    if (kind === 'local') return this.#names.ofLocal(index, of);
+    return kind === 'symbol' ? this.#relocations.nameOf(of) : this.#names.of(kind, of);
   }
 }
 
-/** The names of the entries that operands have, by `kind index`. */
+/** The names of the entries that operands and relocations have, by `kind index`. */
 function namesOf(instructions, nameOf) {
   const names = new Map();
   const take = (entry) => {
     const key = `${entry.kind} ${entry.index}`;
     if (!names.has(key)) names.set(key, nameOf(entry));
   };
-  for (const { operands } of instructions) {
+  for (const { operands, relocations = [] } of instructions) {
+    relocations.forEach(({ target }) => take(target));
     for (const operand of operands) {
       if (operand.index !== undefined) take(operand);
       if (operand.of) take(operand.of);

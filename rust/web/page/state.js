@@ -1,5 +1,7 @@
 // The open module, and texts about its sections.
+import { prefixOf } from '../names.js';
 import { counted, escaped, make, percent } from './elements.js';
+import { reader, received } from './engine.js';
 import { HEADER_SIZE } from './limits.js';
 
 /**
@@ -8,6 +10,21 @@ import { HEADER_SIZE } from './limits.js';
  * the chosen section.
  */
 export const state = { file: null, parts: null, ready: null, chosen: -1 };
+
+/** The functions, as items of lists with the prefixes of their names, and the data segments. */
+export async function readParts() {
+  const { counts, imported } = await reader.call('parts');
+  // Equal prefixes are one string, which is fast to find in a map.
+  const prefixes = new Map();
+  const asItem = (it) => {
+    const prefix = it.name === null ? null : prefixOf(it.name);
+    if (!prefixes.has(prefix)) prefixes.set(prefix, prefix);
+    return Object.assign(it, { prefix: prefixes.get(prefix), text: it.name ?? `function ${it.index}` });
+  };
+  const functions = await received(counts.functions, (at) => reader.call('partsFrom', 'functions', at), asItem);
+  const data = await received(counts.data, (at) => reader.call('partsFrom', 'data', at));
+  return { functions, data, imported };
+}
 
 /** Sets the open module. Returns what to call when the parts of it are known. */
 export function setFile(file) {

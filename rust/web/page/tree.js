@@ -1,38 +1,61 @@
 // The parts of the module as nodes of a treemap.
-import { labelOf, prefixOf } from '../names.js';
+import { labelOf } from '../names.js';
 import { escaped } from './elements.js';
 import { functionName, functionsIn, kindClass, shortName, state, wholeSize } from './state.js';
 
 /** The hue of the n-th group, so that neighbours differ. */
 const hueClass = (index) => `kind hue-${index % 8}`;
 
+/**
+ * A function or data segment as a node. `its` has functions of the part: its texts are made when they
+ * are shown, since there may be very many.
+ */
+class PartNode {
+  constructor(part, kind, its) {
+    this.part = part;
+    this.kind = kind;
+    this.size = part.size;
+    this.its = its;
+  }
+
+  get label() {
+    return this.its.label(this.part);
+  }
+
+  get title() {
+    return this.its.title(this.part);
+  }
+
+  open() {
+    this.its.open(this.part);
+  }
+}
+
+const segmentName = ({ index, name }) => (name === null ? `data ${index}` : escaped(name));
+
 /** Functions as nodes: in groups by the prefixes of their names, if there are any. */
-function functionNodes(functions, openFunction) {
+function functionNodes(functions, open) {
   const groups = new Map();
   for (const it of functions) {
-    const prefix = it.name === null ? null : prefixOf(it.name);
-    if (!groups.has(prefix)) groups.set(prefix, []);
-    groups.get(prefix).push(it);
+    let group = groups.get(it.prefix);
+    if (group === undefined) groups.set(it.prefix, (group = { prefix: it.prefix, members: [], size: 0 }));
+    group.members.push(it);
+    group.size += it.size;
   }
-  const sumOf = (its) => its.reduce((sum, { size }) => sum + size, 0);
-  const sums = [...groups].map(([prefix, its]) => ({ prefix, its, size: sumOf(its) }));
-  sums.sort((a, b) => b.size - a.size);
+  const sums = [...groups.values()].sort((a, b) => b.size - a.size);
   const label = (it) => (it.name === null ? functionName(it) : escaped(labelOf(it.name)));
-  const node = (kind) => (it) => ({
-    label: label(it), title: functionName(it), size: it.size, kind, open: () => openFunction(it.index),
-  });
+  const its = { label, title: functionName, open };
+  const node = (kind) => (it) => new PartNode(it, kind, its);
   if (sums.length === 1) return functions.map(node(hueClass(0)));
-  return sums.map(({ prefix, its, size }, index) => {
+  return sums.map(({ prefix, members, size }, index) => {
     const groupLabel = prefix === null ? 'without a prefix' : `${escaped(prefix)}::*`;
-    return { label: groupLabel, size, kind: hueClass(index), children: () => its.map(node(hueClass(index))) };
+    return { label: groupLabel, size, kind: hueClass(index), children: () => members.map(node(hueClass(index))) };
   });
 }
 
-function segmentNodes(data, openItem) {
-  return data.map(({ index, name, offset, size }) => {
-    const label = name === null ? `data ${index}` : escaped(name);
-    return { label, size, kind: 'kind kind-data', open: () => openItem(offset) };
-  });
+function segmentNodes(data, open) {
+  const its = { label: segmentName, title: segmentName, open };
+  return data.map((it) => new PartNode(it, 'kind kind-data', its));
 }
 
 /** The node of the module. */
@@ -41,9 +64,9 @@ export function treeOf({ openSection, openFunction, openItem }) {
   const node = (section, index) => {
     const base = { label: shortName(section), size: wholeSize(section), kind: kindClass(section) };
     const functions = functionsIn(section);
-    if (functions.length) return { ...base, children: () => functionNodes(functions, openFunction) };
+    if (functions.length) return { ...base, children: () => functionNodes(functions, ({ index: of }) => openFunction(of)) };
     const hasSegments = section.id === 11 && parts?.data.length > 1;
-    if (hasSegments) return { ...base, children: () => segmentNodes(parts.data, openItem) };
+    if (hasSegments) return { ...base, children: () => segmentNodes(parts.data, ({ offset }) => openItem(offset)) };
     return { ...base, open: () => openSection(index) };
   };
   const nodes = file.sections.map(node);

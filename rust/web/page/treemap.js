@@ -63,8 +63,13 @@ function chunksOf(nodes) {
 
 /** The largest nodes, and some for the others if there are too many or too small ones. */
 function visible(nodes, area, most) {
-  const sorted = nodes.filter(({ size }) => size > 0).sort((a, b) => b.size - a.size);
-  const sum = sorted.reduce((all, { size }) => all + size, 0);
+  const sorted = [];
+  let sum = 0;
+  for (const node of nodes) {
+    if (node.size > 0) sorted.push(node);
+    sum += node.size;
+  }
+  sorted.sort((a, b) => b.size - a.size);
   const isSmall = ({ size }) => (size / sum) * area < LEAST_AREA;
   const small = sorted.findIndex(isSmall);
   const count = Math.min(small < 0 ? sorted.length : small, most);

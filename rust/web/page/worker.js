@@ -16,7 +16,9 @@ const calls = {
     return opened.sections();
   },
   parts: () => opened.parts(),
+  partsFrom: (library, which, at) => opened.partsFrom(which, at),
   items: (library, index) => opened.items(index),
+  itemsFrom: (library, at) => opened.itemsFrom(at),
   instructions: (library, index) => opened.instructions(index),
   minimize([{ minimize, outline }], bytes, options) {
     const minimal = minimize(bytes, options);
@@ -28,7 +30,9 @@ const calls = {
 
 self.onmessage = async ({ data: { id, call, values } }) => {
   try {
-    self.postMessage({ id, value: calls[call](await loading, ...values) });
+    const value = calls[call](await loading, ...values);
+    // A module is moved, not copied.
+    self.postMessage({ id, value }, value?.bytes ? [value.bytes.buffer] : []);
   } catch (error) {
     self.postMessage({ id, error: posted(error) });
   }

@@ -140,23 +140,10 @@ fn text_of(recipe: &[u8]) -> Result<&str, Failure<'_>> {
     })
 }
 
-/// A block with a module.
-fn block_of<'a>(module: &[u8]) -> Answer<'a> {
-    let mut block = Block::new(DONE)?;
-    block.bytes.extend_from_slice(module)?;
-    Ok(block.finish()?)
-}
-
 /// The module of a recipe of either version.
 pub fn module_of(recipe: &[u8]) -> Answer<'_> {
-    block_of(&assemble_versioned(Global, text_of(recipe)?)?)
-}
-
-/// The module of a recipe of version 1. It is the call of the page's example, which is small.
-#[cfg(feature = "example")]
-pub fn module_of_version_1(recipe: &[u8]) -> Answer<'_> {
-    block_of(&dolzhytik::fallible::recipe::assemble(
-        Global,
-        text_of(recipe)?,
-    )?)
+    let module = assemble_versioned(Global, text_of(recipe)?)?;
+    let mut block = Block::new(DONE)?;
+    block.bytes.extend_from_slice(&module)?;
+    Ok(block.finish()?)
 }

@@ -3,6 +3,7 @@
 //! A call takes the address and the size of bytes that `dz_alloc` returned, and returns the address
 //! of a block, or 0 where memory is refused. The caller frees both by `dz_free`.
 use crate::answers::{self, Answer};
+use crate::failure::Failure;
 use crate::heap::{ALIGNMENT, Heap, Memory};
 use core::alloc::{GlobalAlloc, Layout};
 use core::arch::wasm32::{memory_grow, memory_size, unreachable};
@@ -10,6 +11,7 @@ use core::cell::UnsafeCell;
 use core::mem::ManuallyDrop;
 use core::panic::PanicInfo;
 use core::{ptr, slice};
+use dolzhytik::fallible::{AllocError, Vec};
 
 const PAGE: u32 = 1 << 16;
 
@@ -139,11 +141,19 @@ unsafe fn bytes<'a>(address: u32, len: u32) -> &'a [u8] {
     unsafe { slice::from_raw_parts(word(address).cast(), len as usize) }
 }
 
+/// The block of an error. The example of the page has no texts of errors.
+fn block_of(failure: Failure<'_>) -> Result<Vec<u8>, AllocError> {
+    if cfg!(feature = "example") {
+        return Err(AllocError);
+    }
+    failure.block()
+}
+
 /// The address of a block, or 0.
 fn leak(answer: Answer<'_>) -> u32 {
     let block = match answer {
         Ok(block) => Ok(block),
-        Err(failure) => failure.block(),
+        Err(failure) => block_of(failure),
     };
     match block {
         Ok(block) => ManuallyDrop::new(block.into_std())
@@ -174,7 +184,7 @@ macro_rules! calls {
 // The example of the page has one call.
 #[cfg(feature = "example")]
 calls! {
-    dz_assemble() => answers::module_of_version_1;
+    dz_assemble() => answers::module_of;
 }
 
 #[cfg(not(feature = "example"))]

@@ -10,7 +10,7 @@ use crate::sections::sections_from;
 use crate::texts::{Count, Show, Text};
 use core::fmt::Display;
 use dolzhytik::fallible::{
-    AllocError, BranchHint, Export, Global, Imports, MemoryType, TagType, Vec,
+    AllocError, BranchHint, Export, Global, Imports, MemoryType, Relocation, TagType, Vec,
 };
 use dolzhytik::reader::{
     ElementItem, GlobalItem, Instructions, LinkItem, ReadFault, Readable, Section, Segment,
@@ -282,7 +282,8 @@ fn custom(part: Part<'_>, list: &mut List) -> Result<(), ReadFault> {
         }
         "dylink.0" => to_end(rest, |rest| other(rest, list)),
         name if name.starts_with("reloc.") => {
-            index(rest, list, ["relocations of section ", ""], "section").map(drop)
+            let rest = index(rest, list, ["relocations of section ", ""], "section")?;
+            all::<Relocation>(rest, list)
         }
         _ => Ok(()),
     }

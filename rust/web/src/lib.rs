@@ -18,6 +18,9 @@ mod items;
 #[path = "../../src/bin/dolzhytik/kind_name.rs"]
 mod kind_name;
 mod read;
+#[path = "../../src/bin/dolzhytik/relocation.rs"]
+mod relocation;
+mod relocations;
 mod sections;
 mod texts;
 

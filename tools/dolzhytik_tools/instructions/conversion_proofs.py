@@ -1,8 +1,7 @@
-"""The lemmas that the conversion of an opcode and its immediates has all opcodes of each shape, and
-that it rejects other immediates."""
+"""The lemmas that the conversion of an opcode and its immediates has all opcodes of each shape."""
 from __future__ import annotations
 
-from .conversions import NAMES, Class, classes, words_of
+from .conversions import NAMES, Class, classes
 from .layouts import LAYOUTS
 from .table import Case, Enum, of_enum
 
@@ -27,21 +26,6 @@ use Rattle.wasm_reader.proofs.OpcodesOfShapes.{keys, byte_of, prefix_of, number_
 -- ---- instructions without immediates
 
 """
-HEAD_OF_ARGUMENTS = """-- This file proves that an opcode with an immediate of another type than its shape's is no
--- instruction.
-use Rattle.wasm_base.proofs.Words.{◌≡◌, ◌≢◌, ◌<◌, ◌≤◌, List, Some, map, length, get_or, refl, arith}
-use Rattle.wasm_insn.proofs.Words.{table, shape_of}
-use Rattle.wasm_insn.specs.declared.op.Op.{Op}
-use Rattle.wasm_insn.specs.declared.op.Shape.TheVariants as shapes
-use Rattle.wasm_insn.specs.declared.part.Part.TheVariants as parts
-use Rattle.wasm_insn.specs.declared.arguments.Arg.{Arg}
-use Rattle.wasm_insn.specs.Arguments.{part_of}
-use Rattle.wasm_insn.specs.Views.{argument_view}
-use Rattle.wasm_reader.specs.Conversions.{IsNoInstruction}
-use Rattle.wasm_reader.proofs.Conversions.{too_few, too_many, wrong_at}
-
-"""
-
 
 def of_array(enum: Enum, cases: list[Case]) -> str:
     """Returns the lemmas about an item of an array: its number, and what is known if it is absent or
@@ -72,34 +56,6 @@ pub {name}_none : {subject} IfNone (get_or {items} n d) ({claim})
 pub {name}_beyond : (n : ℕ) → {size} ≤ n → {claim}
 {name}_beyond n l = {name}_absent n (beyond {items} n l)
 """
-
-
-def other_arguments(layout: str) -> str:
-    """Returns the lemma for each argument of a layout that one of another type is no such
-    instruction."""
-    name, shape, parts = NAMES[layout][0], LAYOUTS[layout].shape, [f"parts.{it.capitalize()}" for it in words_of(layout)]
-    text = ""
-    for i, part in enumerate(parts):
-        text += f"""  pub {name}_{i + 1} : shape_of table op ≡ Some shapes.{shape} → {len(parts)} ≤ length items → a ≡ get_or items {i} a → part_of (argument_view a) ≢ {part} → IsNoInstruction op (map argument_view items)
-  {name}_{i + 1} shaped enough is differs = wrong_at op shapes.{shape} items shaped {i} a {part} (omega (arith, enough)) is refl differs
-
-"""
-    return text
-
-
-def other_counts(layout: str) -> str:
-    """Returns the lemmas that another number of arguments is no instruction of a layout."""
-    name, shape, count = NAMES[layout][0], LAYOUTS[layout].shape, len(words_of(layout))
-    text = f"""  pub {name}_many : shape_of table op ≡ Some shapes.{shape} → {count + 1} ≤ length items → IsNoInstruction op (map argument_view items)
-  {name}_many shaped more = too_many op shapes.{shape} items shaped more
-
-"""
-    if count:
-        text += f"""  pub {name}_few : shape_of table op ≡ Some shapes.{shape} → length items < {count} → IsNoInstruction op (map argument_view items)
-  {name}_few shaped fewer = too_few op shapes.{shape} items shaped fewer
-
-"""
-    return text
 
 
 def written(numbers: list[str]) -> str:
@@ -157,11 +113,3 @@ def opcodes(cases: list[Case]) -> str:
         text += "\n".join(lemma_of(it) for it in of if it.prefix is None or not it.bare)
         text += "\n" + others(layout, of)
     return HEAD + text
-
-
-def arguments() -> str:
-    """Returns the file of the lemmas about arguments."""
-    of_items = "module _ {A : Type 0} (op : Op) (items : List (Arg A)) where\n"
-    of_one = of_items.replace(" where", " (a : Arg A) where")
-    text = HEAD_OF_ARGUMENTS + of_items + "".join(map(other_counts, LAYOUTS)) + of_one + "".join(map(other_arguments, LAYOUTS))
-    return text.rstrip("\n") + "\n"

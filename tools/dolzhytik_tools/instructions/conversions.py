@@ -282,8 +282,7 @@ def words_of(layout: str) -> list[str]:
 def of_arguments(layout: str) -> str:
     """Returns the function that takes the arguments of a layout apart."""
     (name, words), shape, parts = NAMES[layout], LAYOUTS[layout].shape, words_of(layout)
-    of = ["many", *["few"] * bool(parts), *range(1, len(parts) + 1)]
-    lemmas = ["Conversions::not_of_shape", *(f"OtherArguments::{name}_{it}" for it in of)]
+    lemmas = ["Conversions::conversion_steps"]
     letters = "abcd"[: len(parts)]
     handed = "".join(f", {getter(word)}({letter})?" for word, letter in zip(parts, letters))
     return f"""/// Returns the instruction with this opcode and these arguments: {words}.

@@ -110,7 +110,6 @@ def conversion_files(cases: list[Case]) -> dict[str, str]:
     found = {
         "src/by_opcode.rt": conversions.source(cases),
         "proofs/ByOpcode.antt": conversion_proofs.opcodes(cases),
-        "proofs/OtherArguments.antt": conversion_proofs.arguments(),
     }
     return {path: noted(path, text) for path, text in found.items()}
 

@@ -48,6 +48,7 @@ FORMS = {
     'link': [('', '')],
     'replaced': [('', '')],
     'prose': [('', '')],
+    'modelled': [('', '')],
     'alias': [('', r'(?:# \[ doc \( alias = "[^"]*" \) \] ?)+')],
     'module': [('mod', r'pub \( crate \) mod')],
     'border': [(r'extern "C"', ''), ('mod', r'pub \( crate \) mod')],

@@ -7,7 +7,7 @@ from ..rattle.lexer import is_word
 from .crates import Crate
 from .glosses import asked
 from .source import Source
-from .tables import PUBLIC, READERS
+from .tables import BETWEEN, PUBLIC, READERS
 
 
 @dataclass(frozen=True)
@@ -30,6 +30,8 @@ def asked_by(crate: Crate, source: Source, place: int) -> list[Asked]:
     owner = owner_of(source, function)
     visible = [at for at in range(place, function) if source.tokens[at] == 'pub']
     if not (owner.is_public_trait or (visible and source.tokens[source.skip(visible[0] + 1)] != '(')):
+        return []
+    if (owner.name or name) in BETWEEN.get(crate.name, ()):
         return []
     module = 'reader' if (owner.name or name) in READERS.get(crate.name, ()) else PUBLIC.get(crate.name, 'fallible')
     path = '::'.join(part for part in (module, owner.name, name) if part)

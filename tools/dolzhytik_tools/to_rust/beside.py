@@ -11,6 +11,7 @@ missing.
 from __future__ import annotations
 
 import functools
+import itertools
 import re
 from collections.abc import Iterator
 from dataclasses import dataclass, field
@@ -158,6 +159,8 @@ def add_beside(source: Source) -> None:
     for item in items(source):
         if item.kind in ('struct', 'enum', 'type', 'const', 'fn') and item.name in at_the_root():
             replace(source, item)
+        else:
+            move_model(source, item)
         text = own.get(item.name)
         if text:
             used().add((source.crate.name, item.name))
@@ -232,6 +235,16 @@ def replace(source: Source, item: Item) -> None:
     first = source.with_docs(item.start)
     if first < item.start:
         source.edit(first, item.start, '', 'replaced')
+
+
+def move_model(source: Source, item: Item) -> None:
+    """Moves what contracts model a type as, behind a comma of its first paragraph, to a heading of its own."""
+    docs = [at for at in range(source.with_docs(item.start), item.start) if source.tokens[at].startswith('///')]
+    first = list(itertools.takewhile(lambda at: source.tokens[at] != '///', docs))
+    summary, found, model = ' '.join(source.tokens[at][4:] for at in first).partition(', modelled as ')
+    if found:
+        source.edit(first[0], first[-1] + 1, f'/// {summary}.', 'modelled')
+        source.note(item.start, 'Model', f'Contracts model it as {model}')
 
 
 @functools.lru_cache(maxsize=None)

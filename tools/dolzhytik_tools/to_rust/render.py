@@ -62,8 +62,8 @@ def wrapped(line: str) -> list[str]:
 
 
 def beside(notes: Notes) -> list[str]:
-    """Returns the lines that are appended to a doc comment before the clauses: prose, errors, and
-    examples."""
+    """Returns the lines that are appended to a doc comment before the clauses: prose, errors,
+    examples, and what contracts model a type as."""
     text = '\n'.join(notes.get('Text', []))
     prose, fence, example = text.partition('```')
     lines = ['', *(part for line in prose.strip().split('\n') for part in wrapped(line))] if prose.strip() else []
@@ -71,6 +71,8 @@ def beside(notes: Notes) -> list[str]:
         lines += ['', '# Errors', '', *wrapped(notes['Errors'][0])]
     if example:
         lines += ['', '# Examples', '', *(fence + example).split('\n')]
+    if 'Model' in notes:
+        lines += ['', '# Model', '', *wrapped(notes['Model'][0])]
     return lines
 
 

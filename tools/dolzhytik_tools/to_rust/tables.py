@@ -48,11 +48,10 @@ PUBLIC_LAWS = {'wasm_reader': 'reader::laws'}
 # library's module has them in a module of its own, which `reader` exports.
 READERS = {
     'wasm_base': {
-        'Canonical', 'DecodeError', 'Discard', 'Effect', 'EncodeIn', 'Grammar', 'Layout', 'Padded', 'RawBytes', 'ReadFault',
-        'Readable', 'Shared', 'Shorten', 'SizePrefixed', 'SizedBytes', 'Standard', 'Walk', 'append_all', 'check_to_end', 'check_whole',
-        'minimize_many', 'minimize_to_end', 'minimize_whole', 'prefix_size_since', 'read_before', 'read_optional',
-        'read_to_end', 'read_whole', 'skip_many', 'skip_value', 'walk_in', 'walk_many', 'walk_shared', 'walk_to_end',
-        'walk_value', 'walk_whole',
+        'Canonical', 'DecodeError', 'Discard', 'Effect', 'EncodeIn', 'Grammar', 'Layout', 'Padded', 'ReadFault',
+        'Readable', 'Shared', 'Shorten', 'SizePrefixed', 'Standard', 'Walk', 'append_all', 'check_to_end',
+        'check_whole', 'minimize_many', 'minimize_to_end', 'minimize_whole', 'read_optional', 'read_to_end',
+        'read_whole', 'skip_many', 'skip_value', 'walk_many',
     },
     'wasm_types': {'SubItem', 'TypeEntry'},
     'wasm_insn': {'Arg', 'Operands', 'Plain'},
@@ -63,7 +62,10 @@ READERS = {
 READING = 'reading'
 # The names that only libraries above use: private in the package.
 BETWEEN = {
-    'wasm_base': {'read_index', 'read_val_after'},
+    'wasm_base': {
+        'prefix_size_since', 'read_before', 'read_index', 'read_val_after', 'walk_in', 'walk_shared', 'walk_to_end',
+        'walk_value', 'walk_whole', 'RawBytes', 'SizedBytes',
+    },
     'wasm_insn': {'read_instruction'},
     'wasm_custom': {
         'walk_build_id', 'walk_debug_file', 'walk_dylink', 'walk_features', 'walk_hints', 'walk_instances', 'walk_links',

@@ -173,9 +173,10 @@ def replace_links(folder: pathlib.Path) -> None:
             shutil.copy(file, link)
 
 
-def cargo(command: str, *words: str) -> None:
-    """Runs a command of Cargo for the target, in release."""
+def cargo(command: str, *words: str, flags: tuple[str, ...] = ()) -> None:
+    """Runs a command of Cargo for the target, in release, with flags of rustc."""
     env = compiler()
-    flags = {'RUSTFLAGS': '-C linker-flavor=wasm-ld'} if 'RUSTC' in env else {}
-    env = {**os.environ, **env, **flags, 'CARGO_TARGET_DIR': str(OUT), 'CARGO_NET_OFFLINE': 'true'}
+    flavor = ('-C', 'linker-flavor=wasm-ld') if 'RUSTC' in env else ()
+    given = {'RUSTFLAGS': ' '.join([*flavor, *flags])} if flavor or flags else {}
+    env = {**os.environ, **env, **given, 'CARGO_TARGET_DIR': str(OUT), 'CARGO_NET_OFFLINE': 'true'}
     subprocess.run(['cargo', command, '--release', '--target', TARGET, *words], env=env, check=True)

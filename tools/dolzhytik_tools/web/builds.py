@@ -23,11 +23,14 @@ def native(*words: str) -> str:
 
 def build() -> None:
     """Builds the example of the page, and the module of the package. The example has one call, and
-    names of functions."""
+    the names of functions as people read them."""
     named = ['--config', 'profile.release.strip="debuginfo"', '--config', 'profile.release.opt-level="z"']
-    cargo('build', '--locked', '--manifest-path', MANIFEST, '--features', 'example', *named)
+    readable = ('-C', 'symbol-mangling-version=v0', '-C', 'link-arg=--demangle')
+    cargo('build', '--locked', '--manifest-path', MANIFEST, '--features', 'example', *named, flags=readable)
     shutil.copyfile(OUT / TARGET / 'release/dolzhytik_web.wasm', EXAMPLE)
-    cargo('build', '--locked', '--manifest-path', MANIFEST)
+    # Without it the linker pads each number that it writes.
+    minimal = ('-C', 'link-arg=--compress-relocations')
+    cargo('rustc', '--locked', '--manifest-path', MANIFEST, '--', *minimal)
     shutil.copyfile(OUT / TARGET / 'release/dolzhytik_web.wasm', MODULE)
 
 

@@ -72,8 +72,8 @@ fn list(input: &Input, choice: &dump::Choice) -> Result<(), Failure> {
 
 // ---- sizes
 
-/// Prints the sizes of the sections, and of this number of functions. Those of the sections are
-/// printed before an error in one of them.
+/// Prints the sizes of the sections, and of this number of functions and of data segments. Sizes
+/// are printed before an error in a section.
 fn show_sizes(input: &Input, functions: usize, format: Format) -> Result<(), Failure> {
     let bytes = input.read()?;
     let progress = Progress::of(bytes.len());
@@ -84,7 +84,7 @@ fn show_sizes(input: &Input, functions: usize, format: Format) -> Result<(), Fai
         Format::Json => json::sizes(&sizes),
         Format::Table => sizes.to_string(),
     })?;
-    sizes.failure.map_or(Ok(()), Err)
+    fail(sizes.failures.into_iter())
 }
 
 /// Prints why a function is in a module, and this number of functions that are in it only for that

@@ -232,6 +232,15 @@ impl<'a> Context<'a> {
         named.map(|((_, index), _)| *index).collect()
     }
 
+    /// The names of the entries below an index, except those that are of imports.
+    pub fn own_names(&self, space: Space, end: usize) -> impl Iterator<Item = &'a str> {
+        let names = self.names.iter();
+        names.filter_map(move |((of, index), (_, name))| match name {
+            Name::Own(name) if *of == space && (*index as usize) < end => Some(*name),
+            _ => None,
+        })
+    }
+
     /// An index, with the name of its entry.
     pub fn entry(&self, space: Space, index: u32) -> Entry<'a> {
         Entry {

@@ -49,11 +49,10 @@ pub enum Failure {
         /// How many sections the module has.
         count: usize,
     },
-    /// No function with a body is selected.
+    /// The selected function is an import.
     NoBody {
         input: Input,
         function: Function,
-        is_import: bool,
     },
     /// No function is selected.
     NoFunction(NoFunction),
@@ -288,7 +287,7 @@ impl fmt::Display for Failure {
             ),
             Failure::References(section) => write!(
                 f,
-                "{section} holds section indices or offsets that would no longer be right; \
+                "{section} holds section indices or offsets that would become wrong; \
                  --build-id keep leaves them right"
             ),
             Failure::Strip(obstacle) => write!(f, "{obstacle}"),
@@ -305,17 +304,10 @@ impl fmt::Display for Failure {
                 }
                 Ok(())
             }
-            Failure::NoBody {
-                input,
-                function,
-                is_import: true,
-            } => write!(
+            Failure::NoBody { input, function } => write!(
                 f,
                 "{input}: function {function} is an import, and has no body"
             ),
-            Failure::NoBody {
-                input, function, ..
-            } => write!(f, "{input}: no function {function}"),
             Failure::NoFunction(function) => write!(f, "{function}"),
             Failure::SeveralFunctions(functions) => write!(f, "{functions}"),
             Failure::Undecoded { input, count } => {

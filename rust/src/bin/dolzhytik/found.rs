@@ -46,21 +46,24 @@ impl Found {
 impl fmt::Display for Found {
     fn fmt(&self, f: &mut fmt::Formatter<'_>) -> fmt::Result {
         match self {
-            Found::Empty => write!(f, "empty, and no module"),
-            Found::Component => write!(f, "a component, and no module"),
-            Found::Text => write!(f, "text, and no binary module"),
+            Found::Empty => write!(f, "is empty, not a module"),
+            Found::Component => write!(f, "is a component, not a module"),
+            Found::Text => write!(f, "is text, not a binary module"),
             Found::Version(version, offset) => write!(
                 f,
-                "a module of version {version}, and not 1: the header differs at offset {offset:#x}"
+                "is a module of version {version}, not 1: the header differs at offset {offset:#x}"
             ),
-            Found::Front(end) => write!(f, "no module: it ends in the header, at offset {end:#x}"),
+            Found::Front(end) => write!(
+                f,
+                "is not a module: it ends in the header, at offset {end:#x}"
+            ),
             Found::Other(0) => write!(
                 f,
-                "no module: it does not begin with 00 61 73 6d 01 00 00 00"
+                "is not a module: it does not begin with 00 61 73 6d 01 00 00 00"
             ),
             Found::Other(offset) => write!(
                 f,
-                "no module: it differs from 00 61 73 6d 01 00 00 00 at offset {offset:#x}"
+                "is not a module: it differs from 00 61 73 6d 01 00 00 00 at offset {offset:#x}"
             ),
         }
     }

@@ -1,13 +1,11 @@
 //! Compares the sizes of two builds of a module.
-use crate::context::{Context, Space};
-use crate::cursor::Cursor;
+use crate::context::Context;
 use crate::failure::{Failure, Grown};
 use crate::files::Input;
 use crate::matching::{Change, Growth, Matching, Part, Segment};
 use crate::sections::{HEADER, Section, sections_of};
-use crate::sizes::{Function, functions_of};
+use crate::sizes::{CODE, DATA, Function, functions_of, segments_of};
 use crate::words::Format;
-use dolzhytik::reader::{self, ReadError};
 use std::fmt::{self, Display};
 use std::num::ParseIntError;
 use std::str::FromStr;
@@ -91,33 +89,9 @@ impl<'a> Build<'a> {
     }
 
     fn segments(&self) -> Result<Vec<Segment<'a>>, Failure> {
-        let mut sizes = Vec::new();
-        for section in self.sections.iter().filter(|it| it.id() == DATA) {
-            add_segments(section.cursor(), &mut sizes)
-                .map_err(|error| section.failure(self.input, error))?;
-        }
-        let segment = |(index, size)| Segment {
-            size,
-            entry: self.context.entry(Space::Data, index),
-        };
-        Ok((0..).zip(sizes).map(segment).collect())
+        segments_of(self.input, &self.sections, &self.context)
     }
 }
-
-/// Adds the size of each data segment.
-fn add_segments(mut cursor: Cursor<'_>, sizes: &mut Vec<usize>) -> Result<(), ReadError> {
-    let count: u32 = cursor.read()?;
-    for _ in 0..count {
-        let begun = cursor.offset();
-        cursor.read::<reader::Segment<'_>>()?;
-        sizes.push(cursor.offset() - begun);
-    }
-    Ok(())
-}
-
-/// The ids of sections whose parts are compared.
-const CODE: u8 = 10;
-const DATA: u8 = 11;
 
 /// The sizes of the headers.
 pub const HEADERS: Growth = Growth::of(HEADER, HEADER);

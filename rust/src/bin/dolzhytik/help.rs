@@ -33,8 +33,8 @@ pub const MANUALS: [Manual; 8] = [
 prints a line for each section of a module: its number, id, offset, size, number of items, whether \
 it decodes as its kind, and name. Offset and size are those of the payload, in bytes; the offset is \
 hexadecimal. The items of a type section are its entries: a recursion group is one. Those of a \
-data count section are the number that it holds. There is a - for items that are not counted, \
-and a - for decodes if the kind is not known. Sections of ids 1 to 13 that do not decode are \
+data count section are the number that it holds. A - means not counted, and under decodes that the \
+kind is not known. Sections of ids 1 to 13 that do not decode are \
 reported on standard error. Several files have their names above, and the status is 1 if one has an \
 error. Other commands take one file, and size two builds.",
         options: &[Flag::Why, Flag::Strict, Flag::Json, Flag::Color],
@@ -76,8 +76,8 @@ functions that have that alone.",
             "[--json | --color WHEN]",
         ],
         says: "\
-prints the sizes of the sections in bytes and in percent, and of the ten largest functions, the \
-largest first. If names of functions have ::, it prints groups of functions by the part before \
+prints the sizes of the sections in bytes and in percent, and of the ten largest functions and \
+data segments, the largest first. If names of functions have ::, it prints groups of functions by the part before \
 that: ten, the others, and the sum. Of two builds it prints what grew and shrank: the sections, ten functions and ten \
 data segments, the largest change first. Functions are matched by name, then by equal body, and \
 data segments by name, or by index without one.",
@@ -126,8 +126,8 @@ removed one leaves an empty section .objcopy.removed, as with LLVM's strip.",
         ],
         says: "\
 writes the module with each section in its minimal encoding. A section that does not decode is \
-kept as it is, and named on standard error. Branch hints follow their instructions. It fails if offsets in \
-another custom section would no longer be right.",
+copied, and named on standard error. Branch hints follow their instructions. It fails if offsets in \
+another custom section would become wrong.",
         options: &[
             Flag::Output,
             Flag::DryRun,
@@ -283,8 +283,7 @@ functions that are reachable only through it.",
         "--functions",
         Given::With("N"),
         "\
-how many functions size prints, by default 10, and how many groups. Of two builds it prints as \
-many data segments.",
+how many functions size prints, by default 10, and how many data segments and groups.",
     ),
     explained(
         Flag::FailAbove,
@@ -368,7 +367,7 @@ Without it, build_id is a section that holds offsets.",
         "--dry-run",
         Given::Alone,
         "\
-prints the bytes that each section would save, and writes no module. The status is that of shorten.",
+prints the bytes that each section would save, and writes no module. Exits as shorten would.",
     ),
     explained(
         Flag::Man,

@@ -274,6 +274,13 @@ fn other_groups<'a>(groups: &Groups<'_>) -> Value<'a> {
     Value::Object(count.into_iter().chain(total(others)).collect())
 }
 
+/// The index, name and size of a data segment.
+fn segment<'a>(segment: &Segment<'a>) -> Members<'a> {
+    let mut members = identity_of_segment(segment);
+    members.push(("bytes", segment.size.into()));
+    members
+}
+
 /// The sizes of a module.
 pub fn sizes(sizes: &Sizes<'_>) -> String {
     let groups = sizes.groups.as_ref();
@@ -284,6 +291,7 @@ pub fn sizes(sizes: &Sizes<'_>) -> String {
         "groups": Value::list(groups.map_or(&[][..], |it| &it.listed).iter().map(group)),
         "other_groups": groups.map(other_groups),
         "all_functions": groups.map(|it| total(it.all)),
+        "data": Value::list(sizes.data.iter().map(segment)),
     })
 }
 

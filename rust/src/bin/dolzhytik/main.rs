@@ -24,6 +24,7 @@ mod outline;
 mod progress;
 mod reach;
 mod references;
+mod relocation;
 mod sections;
 mod shorten;
 mod sizes;

@@ -1,14 +1,19 @@
-//! The sizes of sections and of function bodies.
+//! The sizes of sections, function bodies and data segments.
 use crate::context::{Context, Space};
 use crate::cursor::Cursor;
 use crate::failure::Failure;
 use crate::files::Input;
 use crate::groups::Groups;
+use crate::matching::{Part, Segment};
 use crate::name::Name;
 use crate::sections::{HEADER, Section, sections_of};
-use dolzhytik::reader::ReadError;
+use dolzhytik::reader::{self, ReadError};
 use std::cmp::Reverse;
 use std::fmt::{self, Display};
+
+/// The ids of sections that have functions and data segments.
+pub const CODE: u8 = 10;
+pub const DATA: u8 = 11;
 
 /// The sizes of a module.
 pub struct Sizes<'a> {
@@ -21,26 +26,46 @@ pub struct Sizes<'a> {
     pub functions: Vec<Function<'a>>,
     /// The groups of all functions, if these are asked for and decode.
     pub groups: Option<Groups<'a>>,
-    /// The error of that section.
-    pub failure: Option<Failure>,
+    /// Data segments, the largest first. There are none if a data section does not decode.
+    pub data: Vec<Segment<'a>>,
+    /// The errors of these sections.
+    pub failures: Vec<Failure>,
 }
 
 impl<'a> Sizes<'a> {
-    /// Returns the sizes of the sections, and of this number of functions and of groups.
+    /// Returns the sizes of the sections, and of this number of functions, of data segments and of
+    /// groups.
     pub fn of(input: &Input, module: &'a [u8], most: usize) -> Result<Self, Failure> {
-        let mut sections = sections_of(input, module)?;
-        let (functions, groups, failure) = match largest(input, &sections, most) {
-            Ok((functions, groups)) => (functions, groups, None),
-            Err(failure) => (Vec::new(), None, Some(failure)),
-        };
-        sections.sort_by_key(|section| Reverse(section.bytes().len()));
-        Ok(Sizes {
+        let sections = sections_of(input, module)?;
+        let mut sizes = Sizes {
             module: module.len(),
-            sections,
-            functions,
-            groups,
-            failure,
-        })
+            sections: Vec::new(),
+            functions: Vec::new(),
+            groups: None,
+            data: Vec::new(),
+            failures: Vec::new(),
+        };
+        if most > 0 {
+            sizes.add_parts(input, &sections, most);
+        }
+        sizes.sections = largest(sections, usize::MAX);
+        Ok(sizes)
+    }
+
+    /// Adds functions, groups and data segments, or why these do not decode.
+    fn add_parts(&mut self, input: &Input, sections: &[Section<'a>], most: usize) {
+        let context = Context::of(sections);
+        match functions_of(input, sections, &context) {
+            Ok(functions) => {
+                self.groups = Some(Groups::of(&functions, most));
+                self.functions = largest(functions, most);
+            }
+            Err(failure) => self.failures.push(failure),
+        }
+        match segments_of(input, sections, &context) {
+            Ok(segments) => self.data = largest(segments, most),
+            Err(failure) => self.failures.push(failure),
+        }
     }
 
     fn line(&self, f: &mut fmt::Formatter<'_>, size: usize, of: impl Display) -> fmt::Result {
@@ -62,7 +87,7 @@ pub fn line(
     writeln!(f, "{size:>10} {percent:>5.1}  {of}")
 }
 
-/// A table with a line for each section and function.
+/// A table with a line for each section, function and data segment.
 impl Display for Sizes<'_> {
     fn fmt(&self, f: &mut fmt::Formatter<'_>) -> fmt::Result {
         f.write_str("     bytes     %  name\n")?;
@@ -73,6 +98,9 @@ impl Display for Sizes<'_> {
         self.line(f, self.module, "all")?;
         for function in &self.functions {
             self.line(f, function.size, function)?;
+        }
+        for segment in &self.data {
+            self.line(f, segment.size, segment)?;
         }
         // The group of all functions would say no more than the line of the code section.
         match self.groups.as_ref().filter(|it| it.has_prefixes) {
@@ -120,23 +148,11 @@ impl Display for Function<'_> {
     }
 }
 
-/// Functions, and their groups.
-type Largest<'a> = (Vec<Function<'a>>, Option<Groups<'a>>);
-
-/// Returns this number of functions and of groups, or all if there are fewer, the largest first.
-fn largest<'a>(
-    input: &Input,
-    sections: &[Section<'a>],
-    most: usize,
-) -> Result<Largest<'a>, Failure> {
-    if most == 0 {
-        return Ok((Vec::new(), None));
-    }
-    let mut functions = functions_of(input, sections, &Context::of(sections))?;
-    let groups = Groups::of(&functions, most);
-    functions.sort_by_key(|function| Reverse(function.size));
-    functions.truncate(most);
-    Ok((functions, Some(groups)))
+/// Returns this number of parts, or all if there are fewer, the largest first.
+fn largest<T: Part>(mut parts: Vec<T>, most: usize) -> Vec<T> {
+    parts.sort_by_key(|part| Reverse(part.size()));
+    parts.truncate(most);
+    parts
 }
 
 /// Returns the functions that have a body, in the order of their indices.
@@ -150,7 +166,7 @@ pub fn functions_of<'a>(
         let decoded = match section.id() {
             // Imports that do not decode would leave indices unknown.
             2 => section.count().map(drop),
-            10 => add_bodies(section.cursor(), &mut bodies),
+            CODE => add_bodies(section.cursor(), &mut bodies),
             _ => Ok(()),
         };
         decoded.map_err(|error| section.failure(input, error))?;
@@ -191,6 +207,35 @@ fn add_bodies<'a>(mut cursor: Cursor<'a>, bodies: &mut Vec<Body<'a>>) -> Result<
             offset: cursor.offset() - bytes.len(),
             bytes,
         });
+    }
+    Ok(())
+}
+
+/// Returns the data segments, in the order of their indices.
+pub fn segments_of<'a>(
+    input: &Input,
+    sections: &[Section<'a>],
+    context: &Context<'a>,
+) -> Result<Vec<Segment<'a>>, Failure> {
+    let mut sizes = Vec::new();
+    for section in sections.iter().filter(|it| it.id() == DATA) {
+        add_segments(section.cursor(), &mut sizes)
+            .map_err(|error| section.failure(input, error))?;
+    }
+    let segment = |(index, size)| Segment {
+        size,
+        entry: context.entry(Space::Data, index),
+    };
+    Ok((0..).zip(sizes).map(segment).collect())
+}
+
+/// Adds the size of each data segment.
+fn add_segments(mut cursor: Cursor<'_>, sizes: &mut Vec<usize>) -> Result<(), ReadError> {
+    let count: u32 = cursor.read()?;
+    for _ in 0..count {
+        let begun = cursor.offset();
+        cursor.read::<reader::Segment<'_>>()?;
+        sizes.push(cursor.offset() - begun);
     }
     Ok(())
 }

@@ -1,11 +1,10 @@
 //! Why a function is in a module, and what is in it for this function alone.
 use crate::context::Space;
 use crate::dump::Function as Selected;
-use crate::failure::{Failure, NoFunction, SeveralFunctions};
+use crate::failure::{Failure, SeveralFunctions};
 use crate::files::Input;
 use crate::groups::Total;
-use crate::misuse::nearest;
-use crate::name::{Entry, Name};
+use crate::name::Entry;
 use crate::reach::{Graph, Reached, Reference};
 use crate::sections::sections_of;
 use crate::sizes::{Function, line};
@@ -94,26 +93,8 @@ fn find(graph: &Graph<'_>, input: &Input, selected: &Selected) -> Result<u32, Fa
             count,
             indices: indices.into_iter().take(MOST).collect(),
         })),
-        (_, None) => Err(Failure::NoFunction(NoFunction {
-            input: input.clone(),
-            function: selected.clone(),
-            count: graph.count(),
-            meant: near(graph, selected),
-        })),
+        (_, None) => Err(selected.missing(input, graph.context(), graph.count())),
     }
-}
-
-/// The name of a function that was probably meant.
-fn near(graph: &Graph<'_>, selected: &Selected) -> Option<String> {
-    let Selected::Name(word) = selected else {
-        return None;
-    };
-    let indices = 0..graph.count() as u32;
-    let names = indices.filter_map(|it| match graph.context().name(Space::Function, it) {
-        Some(Name::Own(name)) => Some(name),
-        _ => None,
-    });
-    nearest(word, names).map(String::from)
 }
 
 fn step<'a>(graph: &Graph<'a>, (index, reference): (u32, Reference<'a>)) -> Step<'a> {

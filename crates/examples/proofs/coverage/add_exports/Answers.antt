@@ -1,4 +1,5 @@
 use Rattle.examples.proofs.Common.{export, exports_section, counter_exports, add_found, error_stays, exports_long, gains_extended, no_count, no_exports}
+use Rattle.examples.proofs.CoverageLaws.{reason_stays}
 use Rattle.examples.proofs.coverage.add_exports.Goals as goal
 
 pub returns-clause-found : goal.returns-clause-found
@@ -13,3 +14,6 @@ returns-in_err-check_exports-clause-none g c = λ is id. error_stays c.from_resi
 
 pub returns-in_err-payload-clause-none : goal.returns-in_err-payload-clause-none
 returns-in_err-payload-clause-none g c = λ is id. error_stays c.from_residual-in_err-payload.result _ c.from_residual-in_err-payload.ensures.1 (λ n has. no_count (has.exports id).1 (c.in_err-payload.ensures.none n))
+
+pub returns-in_err-check_exports-clause-reason : goal.returns-in_err-check_exports-clause-reason
+returns-in_err-check_exports-clause-reason g c = λ is id. reason_stays _ c.from_residual.result _ c.from_residual.ensures.1 (c.in_err-check_exports.ensures.reason is id)

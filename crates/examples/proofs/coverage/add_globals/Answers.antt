@@ -1,4 +1,4 @@
-use Rattle.examples.proofs.Common.{on_ok, replicate, subst, members, standard, global_item, globals_section, counter, gains_extended, replicate_long}
+use Rattle.examples.proofs.Common.{on_ok, replicate, global_item, globals_section, counter, gains_extended, replicate_long}
 use Rattle.examples.proofs.coverage.add_globals.Goals as goal
 
 pub returns-clause-found : goal.returns-clause-found

@@ -1,3 +1,4 @@
+use Rattle.examples.proofs.CoverageLaws.{reason_stays}
 use Rattle.examples.proofs.Common.{sym, subst, IsSection, IsKept, KeepsSections, row, each_at, keeps_more, of_images, rows_more, unfit_stays}
 use Rattle.examples.proofs.coverage.copy_all.Goals as goal
 
@@ -17,3 +18,6 @@ returns-in_err-keep-clause-unfit g c = λ each. unfit_stays c.from_residual.resu
     let i = c.loop-section.section-index in
     let is = each_at (λ t. IsSection t.section) list i s each c.loop-section-test.true c.section-item.is in
     c.in_err-keep.ensures.unfit is u (each_at (λ t. IsKept (row t)) list i s (of_images IsKept row list kept) c.loop-section-test.true c.section-item.is))
+
+pub returns-in_err-keep-clause-reason : goal.returns-in_err-keep-clause-reason
+returns-in_err-keep-clause-reason g c = reason_stays _ c.from_residual.result _ c.from_residual.ensures.1 (c.loop-section.section-index, c.section-item.result, c.loop-section-test.true, sym c.section-item.is, c.in_err-keep.ensures.reason)

@@ -1,4 +1,5 @@
-use Rattle.examples.proofs.CoverageLaws.{all_decode, are_sections, covered_result, error_stays, kept_rows, no_count, no_first, no_second, no_third, not_taken, unfit_stays}
+use Rattle.examples.proofs.CoverageLaws.{all_decode, are_sections, covered_result, error_stays, kept_rows, lacks_first, lacks_second, lacks_third, no_count, no_first, no_second, no_third, not_taken, obstructed, reader_reason, reason_stays, taken, unfit_stays}
+use Rattle.wasm_base.proofs.Words.{inl, inr}
 use Rattle.examples.proofs.coverage.covered.Goals as goal
 
 pub returns-clause-found : goal.returns-clause-found
@@ -73,3 +74,40 @@ returns-in_err-copy_all-4-clause-unfit g c = unfit_stays c.from_residual-in_err-
     let are = are_sections c.in_ok-sections.ensures.found c.deref.ensures.value c.deref-2.ensures.value c.in_ok-before.ensures.found c.in_ok-between.ensures.found c.in_ok-middle.ensures.found in
     let kept = kept_rows d c.in_ok-sections.ensures.found c.deref.ensures.value c.in_ok-before.ensures.found c.in_ok-between.ensures.found c.in_ok-middle.ensures.found in
     c.in_err-copy_all-4.ensures.unfit are.after_are u kept.3)
+
+pub returns-in_err-before-clause-reason : goal.returns-in_err-before-clause-reason
+returns-in_err-before-clause-reason g c = reason_stays _ c.from_residual-in_err-before.result _ c.from_residual-in_err-before.ensures.1 (lacks_first c.in_ok-sections.ensures.found c.deref.ensures.value c.in_err-before.ensures.reason)
+
+pub returns-in_err-between-clause-reason : goal.returns-in_err-between-clause-reason
+returns-in_err-between-clause-reason g c = reason_stays _ c.from_residual-in_err-between.result _ c.from_residual-in_err-between.ensures.1 (lacks_second c.in_ok-sections.ensures.found c.deref.ensures.value c.in_ok-before.ensures.found c.in_err-between.ensures.reason)
+
+pub returns-in_err-middle-clause-reason : goal.returns-in_err-middle-clause-reason
+returns-in_err-middle-clause-reason g c = reason_stays _ c.from_residual-in_err-middle.result _ c.from_residual-in_err-middle.ensures.1 (lacks_third c.in_ok-sections.ensures.found c.deref.ensures.value c.in_ok-before.ensures.found c.in_ok-between.ensures.found c.in_err-middle.ensures.reason)
+
+pub returns-in_err-numbers-clause-reason : goal.returns-in_err-numbers-clause-reason
+returns-in_err-numbers-clause-reason g c = reason_stays _ c.from_residual-in_err-numbers.result _ c.from_residual-in_err-numbers.ensures.1 (reader_reason _ _ (λ u.
+    let are = are_sections c.in_ok-sections.ensures.found c.deref.ensures.value c.deref-2.ensures.value c.in_ok-before.ensures.found c.in_ok-between.ensures.found c.in_ok-middle.ensures.found in
+    c.in_err-numbers.ensures.unfit are.each are.globals_is c.in_ok-before.ensures.found.has_id are.code_is c.in_ok-middle.ensures.found.has_id u))
+
+pub returns-in_err-copy_all-clause-reason : goal.returns-in_err-copy_all-clause-reason
+returns-in_err-copy_all-clause-reason g c = reason_stays _ c.from_residual-in_err-copy_all.result _ c.from_residual-in_err-copy_all.ensures.1 (obstructed c.in_ok-sections.ensures.found c.deref.ensures.value c.in_ok-before.ensures.found c.in_ok-between.ensures.found c.in_ok-middle.ensures.found _ (inl (inl c.in_err-copy_all.ensures.reason)))
+
+pub returns-in_err-copy_all-2-clause-reason : goal.returns-in_err-copy_all-2-clause-reason
+returns-in_err-copy_all-2-clause-reason g c = reason_stays _ c.from_residual-in_err-copy_all-2.result _ c.from_residual-in_err-copy_all-2.ensures.1 (obstructed c.in_ok-sections.ensures.found c.deref.ensures.value c.in_ok-before.ensures.found c.in_ok-between.ensures.found c.in_ok-middle.ensures.found _ (inl (inr c.in_err-copy_all-2.ensures.reason)))
+
+pub returns-in_err-copy_all-3-clause-reason : goal.returns-in_err-copy_all-3-clause-reason
+returns-in_err-copy_all-3-clause-reason g c = reason_stays _ c.from_residual-in_err-copy_all-3.result _ c.from_residual-in_err-copy_all-3.ensures.1 (obstructed c.in_ok-sections.ensures.found c.deref.ensures.value c.in_ok-before.ensures.found c.in_ok-between.ensures.found c.in_ok-middle.ensures.found _ (inr (inl c.in_err-copy_all-3.ensures.reason)))
+
+pub returns-in_err-copy_all-4-clause-reason : goal.returns-in_err-copy_all-4-clause-reason
+returns-in_err-copy_all-4-clause-reason g c = reason_stays _ c.from_residual-in_err-copy_all-4.result _ c.from_residual-in_err-copy_all-4.ensures.1 (obstructed c.in_ok-sections.ensures.found c.deref.ensures.value c.in_ok-before.ensures.found c.in_ok-between.ensures.found c.in_ok-middle.ensures.found _ (inr (inr c.in_err-copy_all-4.ensures.reason)))
+
+pub returns-in_err-add_exports-clause-reason : goal.returns-in_err-add_exports-clause-reason
+returns-in_err-add_exports-clause-reason g c = reason_stays _ c.from_residual-in_err-add_exports.result _ c.from_residual-in_err-add_exports.ensures.1 (
+    let are = are_sections c.in_ok-sections.ensures.found c.deref.ensures.value c.deref-2.ensures.value c.in_ok-before.ensures.found c.in_ok-between.ensures.found c.in_ok-middle.ensures.found in
+    taken c.in_ok-sections.ensures.found c.deref.ensures.value c.in_ok-before.ensures.found c.in_ok-between.ensures.found c.in_ok-middle.ensures.found _ (c.in_err-add_exports.ensures.reason are.exports_is c.in_ok-between.ensures.found.has_id))
+
+pub returns-in_err-add_globals-clause-reason : goal.returns-in_err-add_globals-clause-reason
+returns-in_err-add_globals-clause-reason g c = reason_stays _ c.from_residual-in_err-add_globals.result _ c.from_residual-in_err-add_globals.ensures.1 (reader_reason _ _ c.in_err-add_globals.ensures.unfit)
+
+pub returns-in_err-add_code-clause-reason : goal.returns-in_err-add_code-clause-reason
+returns-in_err-add_code-clause-reason g c = reason_stays _ c.from_residual-in_err-add_code.result _ c.from_residual-in_err-add_code.ensures.1 (reader_reason _ _ c.in_err-add_code.ensures.unfit)

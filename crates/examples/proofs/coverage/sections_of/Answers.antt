@@ -5,7 +5,7 @@ pub loop-found-init : goal.loop-found-init
 loop-found-init g c = found_none _ _ c.new-found.ensures.items
 
 pub returns-in-None-clause-found : goal.returns-in-None-clause-found
-returns-in-None-clause-found g c = found_all c.args.bytes.now c.in_ok-sections.ensures.found c.loop-found.invariant c.in-None.ensures.steps.0
+returns-in-None-clause-found g c = found_all c.args.bytes.now c.in_ok-sections.ensures.found c.in_ok-sections.ensures.offset c.loop-found.invariant c.in-None.ensures.steps.0
 
 pub loop-found-smaller : goal.loop-found-smaller
 loop-found-smaller g c = section_shrinks (next_section c.in_ok-section-in-Some.was c.in-Some.ensures.steps)

@@ -3,7 +3,7 @@ use Rattle.wasm_reader.specs.Words.{ahead}
 use Rattle.examples.proofs.coverage.sections_of.Given as goal
 
 abbrev pub invariant-loop-found : goal.invariant-loop-found
-invariant-loop-found g l = HasFound (ahead l.initial.sections) (ahead l.sections) l.found.items
+invariant-loop-found g l = HasFound l.initial.sections l.sections l.found.items
 
 abbrev pub decreases-loop-found : goal.decreases-loop-found
 decreases-loop-found g l = length (ahead l.sections)

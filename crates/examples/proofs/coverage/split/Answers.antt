@@ -1,4 +1,4 @@
-use Rattle.examples.proofs.Common.{subst, take_all, ◌∙◌, HasNone, none_more_of}
+use Rattle.examples.proofs.Common.{refl, subst, take_all, ◌∙◌, HasNone, none_more_of}
 use Rattle.examples.proofs.coverage.split.Goals as goal
 
 pub loop-at-preserved : goal.loop-at-preserved
@@ -6,3 +6,6 @@ loop-at-preserved g c = none_more_of c.args.id c.args.sections.now c.loop-at.at 
 
 pub returns-clause-unfit : goal.returns-clause-unfit
 returns-clause-unfit g c = λ u. subst (HasNone c.args.id) (take_all c.loop-at.at c.args.sections.now c.loop-at-test.false) c.loop-at.invariant
+
+pub returns-clause-reason : goal.returns-clause-reason
+returns-clause-reason g c = (refl, subst (HasNone c.args.id) (take_all c.loop-at.at c.args.sections.now c.loop-at-test.false) c.loop-at.invariant)

@@ -1,10 +1,11 @@
 use Rattle.wasm_reader.proofs.Common.{◌≡◌, ℕ, List, map, sym, ap, subst, ◌∙◌, on_ok, AppendsMinimal, instance_view, hints_view, dylink_view, feature_view, Contents, Hints, CoreInstances}
-use Rattle.wasm_reader.proofs.Common.{TargetFeatures, Dylink, content, contents_of, grammars_of, kind_in, AppendsItems, items_appended}
+use Rattle.wasm_reader.proofs.Common.{TargetFeatures, Dylink, content, contents_of, grammars_of, kind_in}
+use Rattle.wasm_reader.proofs.KindValues.{AppendsValue, value_appended}
 use Rattle.wasm_reader.proofs.kinds.encode_items.Goals as goal
 
 -- The items are those of a case of a match.
-of_items : (x y : Contents) (old new : List ℕ) → x ≡ y → AppendsItems y old new → AppendsMinimal (grammars_of (kind_in x)) (content (kind_in x)) x old new
-of_items x y old new e a = subst (λ z. AppendsMinimal (grammars_of (kind_in z)) (content (kind_in z)) z old new) (sym e) (items_appended y old new a)
+of_items : (x y : Contents) (old new : List ℕ) → x ≡ y → AppendsValue y old new → AppendsMinimal (grammars_of (kind_in x)) (content (kind_in x)) x old new
+of_items x y old new e a = subst (λ z. AppendsMinimal (grammars_of (kind_in z)) (content (kind_in z)) z old new) (sym e) (value_appended y old new a)
 
 pub returns-in-Hints-clause-ok : goal.returns-in-Hints-clause-ok
 returns-in-Hints-clause-ok g c = on_ok c.append_hints.result _ _ c.append_hints.ensures.ok λ a. of_items _ _ _ _ (ap contents_of c.in-Hints.is ∙ ap (λ v. Hints (map hints_view v)) (sym c.deref-in-Hints.ensures.value)) a

@@ -1,8 +1,5 @@
-use Rattle.wasm_reader.proofs.Common.{if_err_more, functions_read, uncounted}
+use Rattle.wasm_reader.proofs.Common.{uncounted}
 use Rattle.wasm_reader.proofs.walk.count_content.Goals as goal
-
-pub returns-in-Functions-clause-none : goal.returns-in-Functions-clause-none
-returns-in-Functions-clause-none g c = if_err_more c.count_members-in-Functions.result (λ e f n. (functions_read _ c.args.kind c.args.bytes.now c.in-Functions.is).0 (f n)) c.count_members-in-Functions.ensures.none
 
 pub returns-in_ok-walk_content-in_default : goal.returns-in_ok-walk_content-in_default
 returns-in_ok-walk_content-in_default g c =

@@ -11,8 +11,9 @@ mod text;
 mod values;
 
 use crate::context::{Context, Space};
-use crate::failure::{self, Failure};
+use crate::failure::{self, Failure, NoFunction};
 use crate::files::{Input, Output};
+use crate::misuse::nearest;
 use crate::sections::{Section, sections_of};
 use crate::words::Format;
 use code::list_code;
@@ -126,6 +127,20 @@ impl Function {
             Function::Name(name) => context.named(Space::Function, name),
         }
     }
+
+    /// The failure of a module that has this number of functions, and not this one.
+    pub fn missing(&self, input: &Input, context: &Context<'_>, count: usize) -> Failure {
+        let meant = match self {
+            Function::Index(_) => None,
+            Function::Name(word) => nearest(word, context.own_names(Space::Function, count)),
+        };
+        Failure::NoFunction(NoFunction {
+            input: input.clone(),
+            function: self.clone(),
+            count,
+            meant: meant.map(String::from),
+        })
+    }
 }
 
 /// `3`, or `"name"`.
@@ -224,14 +239,16 @@ fn functions_of(
     let indices = function.indices(context);
     let is_import = |index: &u32| *index < imported;
     let has_body = |index: &u32| !is_import(index) && u64::from(*index) < end;
-    if !indices.iter().any(has_body) {
+    if indices.iter().any(has_body) {
+        return Ok(Some(indices));
+    }
+    if indices.iter().any(is_import) {
         return Err(Failure::NoBody {
             input: input.clone(),
             function: function.clone(),
-            is_import: indices.iter().any(is_import),
         });
     }
-    Ok(Some(indices))
+    Err(function.missing(input, context, end as usize))
 }
 
 /// Lists the sections of a module.

@@ -5,11 +5,12 @@ use crate::dump::symbols::Shown;
 use crate::json::{Members, Value, members};
 use crate::name::Entry;
 use crate::references::is_of_relocations;
+use crate::relocation::{TypeName, addend_of, index_of, is_of_type, offset_of};
 use crate::sections::Section;
-use dolzhytik::fallible::{PlainRelocation, Relocation};
+use dolzhytik::fallible::Relocation;
 use dolzhytik::reader::{Items, ReadError};
 use std::collections::HashMap;
-use std::fmt::{self, Debug, Display, Formatter};
+use std::fmt::{self, Display, Formatter};
 
 /// A relocation of a section of the module.
 #[derive(Clone, Copy)]
@@ -29,24 +30,9 @@ impl<'c> Patch<'c> {
         }
     }
 
-    /// The name of its type, such as `R_WASM_MEMORY_ADDR_LEB`.
-    fn type_name(&self) -> String {
-        match &self.relocation {
-            Relocation::Plain { kind, .. } => name_in_llvm(kind),
-            Relocation::Addend32 { kind, .. } => name_in_llvm(kind),
-            Relocation::Addend64 { kind, .. } => name_in_llvm(kind),
-            _ => String::new(),
-        }
-    }
-
     /// The offset in the section.
     fn offset(&self) -> u32 {
-        match self.relocation {
-            Relocation::Plain { offset, .. }
-            | Relocation::Addend32 { offset, .. }
-            | Relocation::Addend64 { offset, .. } => offset,
-            _ => 0,
-        }
+        offset_of(&self.relocation)
     }
 
     /// The offset in the file.
@@ -59,44 +45,31 @@ impl<'c> Patch<'c> {
         self.file_offset().is_some_and(|offset| offset < end)
     }
 
-    fn addend(&self) -> Option<i64> {
-        match self.relocation {
-            Relocation::Addend32 { addend, .. } => Some(addend.into()),
-            Relocation::Addend64 { addend, .. } => Some(addend),
-            _ => None,
-        }
-    }
-
     /// The symbol whose value is written, or the type.
     fn target(&self) -> Entry<'c> {
-        match self.relocation {
-            Relocation::Plain {
-                kind: PlainRelocation::TypeIndexLeb,
-                index,
-                ..
-            } => self.context.entry(Space::Type, index),
-            Relocation::Plain { index, .. }
-            | Relocation::Addend32 { index, .. }
-            | Relocation::Addend64 { index, .. } => symbol_entry(self.context, index),
-            _ => symbol_entry(self.context, 0),
+        let index = index_of(&self.relocation);
+        if is_of_type(&self.relocation) {
+            self.context.entry(Space::Type, index)
+        } else {
+            symbol_entry(self.context, index)
         }
     }
 
     /// What a line of a relocation section has of it.
     pub fn text(&self) -> String {
-        let (kind, offset, target) = (self.type_name(), self.offset(), self.target());
-        let addend = self.addend().map(|addend| format!(" addend {addend}"));
+        let (kind, offset, target) = (TypeName(&self.relocation), self.offset(), self.target());
+        let addend = addend_of(&self.relocation).map(|addend| format!(" addend {addend}"));
         let addend = addend.unwrap_or_default();
         format!("{kind} offset {offset:#x} {} {target}{addend}", target.kind)
     }
 
     pub fn members(&self) -> Members<'c> {
         members! {
-            "type": self.type_name(),
+            "type": TypeName(&self.relocation).to_string(),
             "offset": self.file_offset(),
             "section_offset": self.offset(),
             "target": self.target(),
-            "addend": self.addend(),
+            "addend": addend_of(&self.relocation),
         }
     }
 }
@@ -106,9 +79,9 @@ impl Display for Patch<'_> {
     fn fmt(&self, f: &mut Formatter<'_>) -> fmt::Result {
         let offset = self.file_offset().unwrap_or_default();
         let offset = Dim(format_args!("{offset:06x}"));
-        write!(f, "{offset}: {} {}", self.type_name(), self.target())?;
-        self.addend()
-            .map_or(Ok(()), |addend| write!(f, "{addend:+}"))
+        let name = TypeName(&self.relocation);
+        write!(f, "{offset}: {name} {}", self.target())?;
+        addend_of(&self.relocation).map_or(Ok(()), |addend| write!(f, "{addend:+}"))
     }
 }
 
@@ -127,18 +100,6 @@ pub fn symbol_entry<'c>(context: &'c Context<'c>, index: u32) -> Entry<'c> {
             .symbol(index)
             .and_then(|symbol| Shown::new(symbol, context).name()),
     }
-}
-
-/// The name of a type of relocations in LLVM: `R_WASM_MEMORY_ADDR_I32` for `MemoryAddrI32`.
-fn name_in_llvm(kind: &impl Debug) -> String {
-    let mut name = String::from("R_WASM");
-    for c in format!("{kind:?}").chars() {
-        if c.is_ascii_uppercase() {
-            name.push('_');
-        }
-        name.push(c.to_ascii_uppercase());
-    }
-    name
 }
 
 /// The relocations of the sections of a module, in the order of their offsets.

@@ -155,14 +155,14 @@ fn refusal<'s>(input: &Input, lost: impl Iterator<Item = &'s Section<'s>>) -> Op
 
 /// Prints on standard error why sections do not decode, and the sizes. It is no error if that
 /// fails: the module is written.
-fn report(input: &Input, bytes: &[u8], choice: Choice, shortened: &Shortened<'_>, more: &str) {
-    let (before, after, kept) = (bytes.len(), shortened.size(), shortened.kept());
-    if kept > 0 {
+fn report(input: &Input, bytes: &[u8], choice: Choice, shortened: &Shortened<'_>, counts: &str) {
+    let (before, after) = (bytes.len(), shortened.size());
+    if shortened.kept() > 0 {
         report_undecoded(input, bytes, choice);
     }
     let _ = writeln!(
         io::stderr(),
-        "dolzhytik: {input}: {before} bytes before, {after} after; sections kept as they were: {kept}{more}"
+        "dolzhytik: {input}: {before} bytes before, {after} after; {counts}"
     );
 }
 
@@ -172,17 +172,22 @@ fn report_undecoded(input: &Input, bytes: &[u8], choice: Choice) {
     for section in sections.iter().filter(|it| !choice.drops(it)) {
         if let Err(error) = section.count() {
             let failure = section.failure(input, error);
-            let _ = writeln!(io::stderr(), "dolzhytik: {failure}; kept as it is");
+            let _ = writeln!(io::stderr(), "dolzhytik: {failure}; copied undecoded");
         }
     }
 }
 
-/// What a report says of dropped sections.
-fn dropped(choice: Choice, savings: &Savings<'_>) -> String {
-    if choice.drops_any() {
-        format!("; left out: {}", savings.dropped())
-    } else {
-        String::new()
+/// The end of a report: how many sections are dropped, if a choice drops any, and how many are
+/// copied. Where the code stays, these also decode.
+fn counts(choice: Choice, dropped: Option<usize>, copied: usize) -> String {
+    let sections = |count: usize| match count {
+        1 => "1 section".to_owned(),
+        count => format!("{count} sections"),
+    };
+    let why = if choice.keeps_code { "" } else { " undecoded" };
+    match dropped {
+        Some(dropped) => format!("{} dropped, {copied} copied{why}", sections(dropped)),
+        None => format!("{} copied{why}", sections(copied)),
     }
 }
 
@@ -193,15 +198,13 @@ pub fn shorten(input: &Input, output: &Output, choice: Choice) -> Result<(), Fai
     let progress = Progress::of(bytes.len());
     progress.begin("shortening");
     let shortened = shortened(input, &bytes, choice)?;
-    let left_out = if choice.drops_any() {
-        dropped(choice, &shortened.savings(input, &bytes)?)
-    } else {
-        String::new()
-    };
+    let savings = choice.drops_any().then(|| shortened.savings(input, &bytes));
+    let dropped = savings.transpose()?.map(|it| it.dropped());
     progress.begin("writing");
     output.write_parts(&shortened.parts())?;
     drop(progress);
-    report(input, &bytes, choice, &shortened, &left_out);
+    let counts = counts(choice, dropped, shortened.kept());
+    report(input, &bytes, choice, &shortened, &counts);
     Ok(())
 }
 
@@ -229,8 +232,9 @@ pub fn dry_run(input: &Input, choice: Choice, format: Format) -> Result<(), Fail
     match refused {
         Some(failure) => Err(failure),
         None => {
-            let more = dropped(choice, &savings) + "; not written";
-            report(input, &bytes, choice, &shortened, &more);
+            let dropped = choice.drops_any().then(|| savings.dropped());
+            let counts = counts(choice, dropped, shortened.kept()) + " (dry run)";
+            report(input, &bytes, choice, &shortened, &counts);
             Ok(())
         }
     }

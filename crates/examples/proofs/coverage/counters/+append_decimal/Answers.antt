@@ -1,6 +1,6 @@
 use Rattle.examples.proofs.Common.{◌+◌, ◌/◌, ◌%◌, decimal, append_assoc, decimal_digit, decimal_step}
 use Rattle.examples.proofs.coverage.counters.+append_decimal.Goals.{then-n-ge10+in_ok-append_decimal, else-n-ge10}
-use Rattle.std.proofs.Common.{◌≡◌, ◌++◌, ◌∷◌, [], ℕ, List, ◌<◌, ◌≤◌, arith, refl, sym, ap, ◌∙◌}
+use Rattle.std.proofs.Common.{◌≡◌, ◌++◌, ◌∷◌, [], arith, sym, ap, ◌∙◌}
 use Rattle.examples.proofs.coverage.counters.+append_decimal.Goals as goal
 
 pub returns : goal.returns

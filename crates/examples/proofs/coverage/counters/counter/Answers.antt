@@ -1,4 +1,4 @@
-use Rattle.examples.proofs.Common.{arith, ints, ap, ◌∙◌, ◌++◌, ◌≡◌, one_constant, expression_encoding, global_encoding, counter, counter_encodes}
+use Rattle.examples.proofs.Common.{arith, ints, ap, ◌∙◌, ◌++◌, one_constant, expression_encoding, global_encoding, counter, counter_encodes}
 use Rattle.examples.proofs.coverage.counters.counter.Goals as goal
 
 pub returns : goal.returns

@@ -1,5 +1,5 @@
-use Rattle.examples.proofs.Common.{◌+◌, imports_item, imported_more}
-use Rattle.std.proofs.Common.{arith, ◌∙◌, sym, ap}
+use Rattle.examples.proofs.Common.{imports_item, imported_more}
+use Rattle.std.proofs.Common.{arith}
 use Rattle.examples.proofs.coverage.imports.imported_by.Goals as goal
 
 pub loop-entry-preserved : goal.loop-entry-preserved

@@ -1,6 +1,6 @@
-use Rattle.examples.proofs.Common.{◌+◌, count_by, take_all, count_by_more_no, count_by_more_yes, items_of, compact_item, imported_from, is_in, counted_images}
+use Rattle.examples.proofs.Common.{count_by, take_all, count_by_more_no, count_by_more_yes, items_of, compact_item, imported_from, is_in, counted_images}
 use Rattle.examples.proofs.coverage.imports.imported_from.Goals.{then-contains, else-contains}
-use Rattle.std.proofs.Common.{arith, ap, sym, ◌∙◌, subst, take}
+use Rattle.std.proofs.Common.{arith, ap, sym, ◌∙◌}
 use Rattle.wasm_sections.specs.Imports.{imports_item}
 use Rattle.examples.proofs.coverage.imports.imported_from.Goals as goal
 
