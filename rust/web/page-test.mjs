@@ -1013,7 +1013,7 @@ async function runTests(page, library) {
       counts.passed += 1;
     } catch (error) {
       counts.failed += 1;
-      console.log(`${its}: ${error.stack}`);
+      console.log(`${its}: failed: ${error.stack}`);
     }
   }
   return counts;

@@ -7,7 +7,7 @@ use crate::instruction::Instruction;
 use crate::op::Op;
 
 /// Instructions on aggregates and references without immediates: those after the prefix FB.
-#[derive(Clone, Copy, Debug)]
+#[derive(Clone, Copy)]
 pub enum Aggregate {
     ArrayLen = 15,
     AnyConvertExtern = 26,

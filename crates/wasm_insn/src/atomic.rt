@@ -11,7 +11,7 @@ use wasm_base::{Encode, Result};
 use wasm_immediates::{MemArg, Ordering};
 
 /// Atomic instructions: those after the prefix FE.
-#[derive(Clone, Copy, Debug)]
+#[derive(Clone, Copy)]
 pub enum Atomic {
     // begin: written by tools/instructions
     MemoryAtomicNotify(MemArg),

@@ -7,7 +7,7 @@ use crate::instruction::Instruction;
 use crate::op::Op;
 
 /// Numeric instructions: the one-byte opcodes 45 to C4.
-#[derive(Clone, Copy, Debug)]
+#[derive(Clone, Copy)]
 pub enum Numeric {
     I32Eqz = 0x45,
     I32Eq = 0x46,

@@ -7,7 +7,7 @@ use crate::instruction::Instruction;
 use crate::op::Op;
 
 /// Numeric instructions after the prefix FC: truncations that saturate, and wide arithmetic.
-#[derive(Clone, Copy, Debug)]
+#[derive(Clone, Copy)]
 pub enum PrefixedNumeric {
     I32TruncSatF32S = 0,
     I32TruncSatF32U = 1,

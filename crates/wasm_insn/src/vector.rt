@@ -7,7 +7,7 @@ use crate::instruction::Instruction;
 use crate::op::Op;
 
 /// Vector instructions without immediates: those after the prefix FD.
-#[derive(Clone, Copy, Debug)]
+#[derive(Clone, Copy)]
 pub enum Vector {
     I8x16Swizzle = 14,
     I8x16Splat = 15,

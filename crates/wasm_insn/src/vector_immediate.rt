@@ -19,7 +19,7 @@ pub(crate) fn vector_bytes(value: i128) -> [u8; 16]
 }
 
 /// Vector instructions with immediates: those after the prefix FD.
-#[derive(Clone, Copy, Debug)]
+#[derive(Clone, Copy)]
 pub enum VectorImmediate {
     // begin: written by tools/instructions
     V128Load(MemArg),

@@ -38,6 +38,7 @@ use crate::immediates::{BlockType, Catch, Handle, Ieee32, Ieee64, MemArg};
 /// assert_eq!(bytes, [0x41, 0x7F, 0x6A, 0x0E, 2, 0, 0, 0]);
 /// # Ok::<(), dolzhytik::fallible::Refused>(())
 /// ```
+#[derive(Debug)]
 #[non_exhaustive]
 pub enum Instruction<'a, A: Allocator = Global> {
     /// `unreachable` (opcode 0x00), a control instruction that traps.

@@ -128,7 +128,7 @@ use crate::instruction::Instruction;
 use crate::op::Op;
 
 /// {enum.says}
-#[derive(Clone, Copy, Debug)]
+#[derive(Clone, Copy)]
 pub enum {enum.name} {{
 {variants(enum, cases)}}}
 

@@ -198,6 +198,8 @@ TYPES = [
     ('#[derive(Clone, Copy, PartialEq, Debug)]\npub struct Ieee32 {', '#[derive(Clone, Copy, PartialEq)]\npub struct Ieee32 {'),
     ('#[derive(Clone, Copy, Debug)]\npub enum Items {', '#[derive(Clone, Copy, Debug)]\n#[non_exhaustive]\npub enum Items {'),
     ('#[derive(Debug)]\npub(crate) enum Inner {', '#[derive(Debug)]\npub(crate) enum Inner {'),
+    ('#[derive(Clone, Copy)]\npub enum Atomic {', '#[derive(Clone, Copy, Debug)]\n#[non_exhaustive]\npub enum Atomic {'),
+    ('#[derive(Drop)]\npub enum Instruction {', '#[derive(Debug)]\n#[non_exhaustive]\npub enum Instruction {'),
 ]
 
 

@@ -4,7 +4,7 @@ from __future__ import annotations
 from ..rattle.lexer import is_word
 from .errors import display
 from .source import Source
-from .tables import BORDERS, CLONED, COPIED, ERASED_ATTRIBUTES, ERASED_DERIVES, EXHAUSTIVE, KEPT_ATTRIBUTES, KEPT_DERIVES, LIBRARIES, SHOWN_BY_HAND
+from .tables import BORDERS, CLONED, COPIED, ERASED_ATTRIBUTES, ERASED_DERIVES, EXHAUSTIVE, KEPT_ATTRIBUTES, KEPT_DERIVES, LIBRARIES, SHOWN, SHOWN_BY_HAND
 
 
 def erase_attributes(source: Source) -> None:
@@ -30,7 +30,7 @@ def erase_attributes(source: Source) -> None:
 
 
 def turn_derive(source: Source, place: int, bracket: int, end: int) -> None:
-    """Keeps the derived traits of Rust."""
+    """Keeps the derived traits of Rust, and adds those that only rustc derives."""
     names = [t for t in source.tokens[bracket + 1:end - 1] if is_word(t)][1:]
     for name in names:
         if name not in ERASED_DERIVES | KEPT_DERIVES:
@@ -44,6 +44,8 @@ def turn_derive(source: Source, place: int, bracket: int, end: int) -> None:
     kept = [name for name in names if name not in erased]
     if derived_for in COPIED:
         kept.insert(1, 'Copy')
+    if derived_for in SHOWN:
+        kept.append('Debug')
     if 'Error' in names:
         source.errors.append(display(source, end))
     if kept != names:

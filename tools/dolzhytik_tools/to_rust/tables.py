@@ -106,6 +106,9 @@ COPIED = {'CodeBody', 'Section'}
 # Structs and enums that are not `Copy`: the root of the package exports them, and those of the Rust
 # crate are `Clone` alone. A symbol has one of them.
 CLONED = {'Catch', 'CoreDumpValue', 'DataSymbolDefinition', 'Handle', 'RawCustomSection', 'Symbol'}
+# Enums of instructions, for which rustc derives `Debug`: a proof of it takes minutes, and says nothing
+# of what is printed.
+SHOWN = {'Aggregate', 'Atomic', 'Instruction', 'Numeric', 'PrefixedNumeric', 'Vector', 'VectorImmediate'}
 # Structs whose `Debug` is in rust/src/drop_in/debug.rs: those of the Rust crate have an unnamed field.
 SHOWN_BY_HAND = {'Ieee32', 'Ieee64'}
 # Public enums of the libraries that a `match` may list in full, and why. All others may get variants

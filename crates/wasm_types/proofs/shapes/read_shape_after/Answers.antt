@@ -6,3 +6,9 @@ returns-in_err-params-in-96-clause-none g c = fault_stays c.from_residual.result
 
 pub returns-in_err-field-in-94-clause-none : goal.returns-in_err-field-in-94-clause-none
 returns-in_err-field-in-94-clause-none g c = fault_stays c.from_residual-in_err-field-in-94.result _ c.from_residual-in_err-field-in-94.ensures.1 λ n. array_none c.args.bytes.now c.args.tag c.in-94.is (c.in_err-field-in-94.ensures.none n)
+
+pub returns-in_err-fields-in-95-clause-none : goal.returns-in_err-fields-in-95-clause-none
+returns-in_err-fields-in-95-clause-none g c = fault_stays c.from_residual-in_err-fields-in-95.result _ c.from_residual-in_err-fields-in-95.ensures.1 λ n. structure_none c.args.bytes.now c.args.tag c.in-95.is (c.in_err-fields-in-95.ensures.none n)
+
+pub returns-in_err-index-in-93-clause-none : goal.returns-in_err-index-in-93-clause-none
+returns-in_err-index-in-93-clause-none g c = fault_stays c.from_residual-in_err-index-in-93.result _ c.from_residual-in_err-index-in-93.ensures.1 λ n. cont_none c.args.bytes.now c.args.tag c.in-93.is (c.in_err-index-in-93.ensures.none n)

@@ -30,6 +30,9 @@ returns-in-8-clause-none g c = if_err_more c.walk-in-8.result (λ e none n. symb
 pub returns-in-8-clause-found : goal.returns-in-8-clause-found
 returns-in-8-clause-found g c = if_ok_more c.walk-in-8.result (λ rest h. symbols_walk g.G.Grammar.grammar c.in_ok-id.ensures.found c.in_ok-put.ensures.ok c.in-8.is h) c.walk-in-8.ensures.found
 
+pub returns-in-9-clause-none : goal.returns-in-9-clause-none
+returns-in-9-clause-none g c = if_err_more c.walk-in-9.result (λ e none n. arch_none g.G.Grammar.grammar c.args.bytes.now _ _ c.in_ok-id.ensures.found c.in-9.is (none n)) c.walk-in-9.ensures.none
+
 pub returns-in-9-clause-found : goal.returns-in-9-clause-found
 returns-in-9-clause-found g c = if_ok_more c.walk-in-9.result (λ rest h. arch_walks g.G.Grammar.grammar c.in_ok-id.ensures.found c.in_ok-put.ensures.ok c.in-9.is h) c.walk-in-9.ensures.found
 

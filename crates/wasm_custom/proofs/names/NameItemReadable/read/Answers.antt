@@ -9,3 +9,6 @@ returns-in_err-content-clause-none g c = fault_stays c.from_residual-in_err-cont
 
 pub returns-in_err-item-clause-none : goal.returns-in_err-item-clause-none
 returns-in_err-item-clause-none g c = fault_stays c.from_residual-in_err-item.result _ c.from_residual-in_err-item.ensures.1 λ n. subsection_rejects c.args.bytes.now _ _ _ _ _ c.in_ok-id.ensures.found c.in_ok-content.ensures.found c.name_kind_of.ensures (c.in_err-item.ensures.none n)
+
+pub returns-clause-found : goal.returns-clause-found
+returns-clause-found g c = search (subsection_decodes, c.in_ok-id.ensures.found, c.in_ok-content.ensures.found, c.in_ok-item.ensures.found, c.name_kind_of.ensures)

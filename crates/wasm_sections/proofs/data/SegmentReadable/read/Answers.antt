@@ -23,5 +23,8 @@ returns-in_err-offset-in-2-clause-none g c = fault_stays c.from_residual-in_err-
 pub returns-in_ok-offset-in-2-clause-found : goal.returns-in_ok-offset-in-2-clause-found
 returns-in_ok-offset-in-2-clause-found g c = other_decodes _ c.args.bytes.now _ _ _ _ c.in_ok-flag.ensures.found c.in-2.is c.in_ok-memory-in-2.ensures.found (c.has_index.ensures.0 c.if-not-has_index.false) _ (instructions_view c.in_ok-offset-in-2.offset) c.in_ok-offset-in-2.field-0-0-1.0.now c.in_ok-offset-in-2.ensures.found
 
+pub returns-in_ok-offset-in-0-clause-found : goal.returns-in_ok-offset-in-0-clause-found
+returns-in_ok-offset-in-0-clause-found g c = search (first_decodes, c.in_ok-flag.ensures.found, c.in-0.is, c.in_ok-offset-in-0.ensures.found)
+
 pub returns-then-not-has_index-clause-none : goal.returns-then-not-has_index-clause-none
 returns-then-not-has_index-clause-none g c = λ n. other_zero _ c.args.bytes.now _ _ _ _ c.in_ok-flag.ensures.found c.in-2.is c.in_ok-memory-in-2.ensures.found (not_from_Decides _ c.has_index.ensures c.if-not-has_index.true)

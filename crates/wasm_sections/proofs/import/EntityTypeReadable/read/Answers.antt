@@ -40,3 +40,9 @@ returns-in_ok-ty-in-3-clause-found g c = entity_global c.args.bytes.now _ _ _ _ 
 
 pub returns-in_ok-ty-in-4-clause-found : goal.returns-in_ok-ty-in-4-clause-found
 returns-in_ok-ty-in-4-clause-found g c = entity_tag c.args.bytes.now _ _ _ _ c.in_ok-kind.ensures.found c.in-4.is c.in_ok-ty-in-4.ensures.found
+
+pub returns-in_ok-index-in-32-clause-found : goal.returns-in_ok-index-in-32-clause-found
+returns-in_ok-index-in-32-clause-found g c = search (entity_exact, c.in_ok-kind.ensures.found, c.in-32.is, c.in_ok-index-in-32.ensures.found)
+
+pub returns-in_ok-ty-in-2-clause-found : goal.returns-in_ok-ty-in-2-clause-found
+returns-in_ok-ty-in-2-clause-found g c = search (entity_memory, c.in_ok-kind.ensures.found, c.in-2.is, c.in_ok-ty-in-2.ensures.found)

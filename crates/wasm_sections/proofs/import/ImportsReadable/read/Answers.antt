@@ -18,6 +18,10 @@ pub returns-in_err-items-in-127-clause-none : goal.returns-in_err-items-in-127-c
 returns-in_err-items-in-127-clause-none g c = fault_stays c.from_residual-in_err-items-in-127.result _ c.from_residual-in_err-items-in-127.ensures.1 λ n.
     named_none c.args.bytes.now _ _ _ _ c.in_ok-module.ensures.found c.in-Some.ensures.0 c.in-127.is (c.in_err-items-in-127.ensures.none n)
 
+pub returns-in_err-ty-in-126-clause-none : goal.returns-in_err-ty-in-126-clause-none
+returns-in_err-ty-in-126-clause-none g c = fault_stays c.from_residual-in_err-ty-in-126.result _ c.from_residual-in_err-ty-in-126.ensures.1 λ n.
+    alike_no_type c.args.bytes.now _ _ _ _ c.in_ok-module.ensures.found c.in-Some.ensures.0 c.in-126.is (c.in_err-ty-in-126.ensures.none n)
+
 pub returns-in_err-names-in-126-clause-none : goal.returns-in_err-names-in-126-clause-none
 returns-in_err-names-in-126-clause-none g c = fault_stays c.from_residual-in_err-names-in-126.result _ c.from_residual-in_err-names-in-126.ensures.1 λ n.
     alike_no_names c.args.bytes.now _ _ _ _ _ _ c.in_ok-module.ensures.found c.in-Some.ensures.0 c.in-126.is c.in_ok-ty-in-126.ensures.found (c.in_err-names-in-126.ensures.none n)

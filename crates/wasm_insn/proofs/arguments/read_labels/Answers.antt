@@ -1,0 +1,6 @@
+use Rattle.wasm_insn.proofs.Common.{fault_stays}
+use Rattle.wasm_insn.proofs.DecodeArguments.{labels_none}
+use Rattle.wasm_insn.proofs.arguments.read_labels.Goals as goal
+
+pub returns-in_err-value-clause-none : goal.returns-in_err-value-clause-none
+returns-in_err-value-clause-none g c = fault_stays c.from_residual.result _ c.from_residual.ensures.1 λ n. labels_none c.args.bytes.now (c.in_err-value.ensures.none n)

@@ -1,0 +1,8 @@
+use Rattle.wasm_types.proofs.Common.{fault_stays, field_none, field_decodes}
+use Rattle.wasm_types.proofs.fields.FieldTypeReadable.read.Goals as goal
+
+pub returns-in_err-element_type-clause-none : goal.returns-in_err-element_type-clause-none
+returns-in_err-element_type-clause-none g c = fault_stays c.from_residual.result _ c.from_residual.ensures.1 λ n. field_none c.args.bytes.now (c.in_err-element_type.ensures.none n)
+
+pub returns-clause-found : goal.returns-clause-found
+returns-clause-found g c = search (field_decodes, c.in_ok-element_type.ensures.found)
