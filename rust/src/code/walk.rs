@@ -12,7 +12,7 @@ use crate::insn::{Op, Operands, read_instruction};
 ///
 /// # Errors
 ///
-/// Any error but `Memory` means that the bytes at the offset encode no instruction, and for
+/// Every error except `Memory` means that the bytes at the offset encode no instruction, and for
 /// `next_before_end` no expression.
 ///
 /// # Examples
