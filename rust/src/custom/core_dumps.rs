@@ -149,9 +149,6 @@ pub type CoreDumpModulesSection<A = Global> = CustomEntries<ModuleItems, A>;
 
 /// The kind of the items of a modules section: their names.
 ///
-/// It is the type argument of [`CustomEntries`](crate::fallible::CustomEntries) in
-/// [`CoreDumpModulesSection`](crate::fallible::CoreDumpModulesSection).
-///
 /// # Examples
 ///
 /// ```
@@ -267,9 +264,6 @@ impl<A: Allocator> CoreDumpModulesSection<A> {
 pub type CoreDumpInstancesSection<A = Global> = CustomEntries<InstanceItems, A>;
 
 /// The kind of the items of an instances section.
-///
-/// It is the type argument of [`CustomEntries`](crate::fallible::CustomEntries) in
-/// [`CoreDumpInstancesSection`](crate::fallible::CoreDumpInstancesSection).
 ///
 /// # Examples
 ///

@@ -45,9 +45,6 @@ pub type DylinkSection<A = Global> = CustomEntries<DylinkItems, A>;
 
 /// The kind of the items of a dynamic library's section: subsections.
 ///
-/// It is the type argument of [`CustomEntries`](crate::fallible::CustomEntries) in
-/// [`DylinkSection`](crate::fallible::DylinkSection).
-///
 /// # Examples
 ///
 /// ```

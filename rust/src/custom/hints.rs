@@ -32,9 +32,6 @@ pub type BranchHints<A = Global> = CustomEntries<HintItems, A>;
 
 /// The kind of a branch hint section's items: the hints of one function each.
 ///
-/// It is the type argument of [`CustomEntries`](crate::fallible::CustomEntries) in
-/// [`BranchHints`](crate::fallible::BranchHints).
-///
 /// # Examples
 ///
 /// ```

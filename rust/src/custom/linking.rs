@@ -35,9 +35,6 @@ pub type LinkingSection<A = Global> = CustomEntries<LinkingItems, A>;
 
 /// The kind of a linking section's items: subsections.
 ///
-/// It is the type argument of [`CustomEntries`](crate::fallible::CustomEntries) in
-/// [`LinkingSection`](crate::fallible::LinkingSection).
-///
 /// # Examples
 ///
 /// ```

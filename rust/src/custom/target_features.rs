@@ -33,9 +33,6 @@ pub type TargetFeaturesSection<A = Global> = CustomEntries<FeatureItems, A>;
 
 /// The kind of a target features section's items: features.
 ///
-/// It is the type argument of [`CustomEntries`](crate::fallible::CustomEntries) in
-/// [`TargetFeaturesSection`](crate::fallible::TargetFeaturesSection).
-///
 /// # Examples
 ///
 /// ```

@@ -28,9 +28,6 @@ pub type DataSection<A = Global> = CountedSection<DataItems, A>;
 
 /// The kind of a data section's items: segments of bytes.
 ///
-/// It is the type argument of [`CountedSection`](crate::fallible::CountedSection) in
-/// [`DataSection`](crate::fallible::DataSection).
-///
 /// # Examples
 ///
 /// ```
