@@ -141,7 +141,7 @@ impl<A: Allocator> CodeSection<A> {
         self.pieces.add_encoded(function)
     }
 
-    /// Adds a raw body, as `Function::into_raw_body` returns it.
+    /// Adds a raw body, as [`Function::into_raw_body`](crate::code::Function::into_raw_body) returns it.
     ///
     /// # Errors
     ///
