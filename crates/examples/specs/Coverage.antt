@@ -177,7 +177,7 @@ pub record IsCoverable (bytes : List ℕ) : Type 0 where
   pub has_items : HasItems others payloads items
   pub new_names : has_counter items.exports ≡ false
 
--- The new bytes are the same module but for the counters. Other sections have the same payloads.
+-- The new bytes are the same module except the counters. Other sections have the same payloads.
 pub record IsCovered (bytes new : List ℕ) : Type 0 where
   pub old : IsCoverable bytes
   pub payloads : Payloads

@@ -16,7 +16,7 @@ use wasm_reader::{ReadError, Section, Sections};
 ///
 /// # Errors
 ///
-/// An error but `Memory` means that the bytes are no module: the header, then sections of any
+/// Every error except `Memory` means that the bytes are no module: the header, then sections of any
 /// payload.
 pub fn without_custom<A: Allocator + Copy>(bytes: &[u8], alloc: A) -> Result<Vec<u8, A>, ReadError>
     ensures found { IfOk result (λ kept. IsStripped bytes.now kept.items) }

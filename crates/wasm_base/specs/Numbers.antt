@@ -44,7 +44,7 @@ IsOfBuilders minimal = Unit {0}
 IsOfBuilders padded = Unit {0}
 IsOfBuilders _ = ⊥
 
--- The bytes are LEB128 groups: bit 7 is set in every byte but the last.
+-- The bytes are LEB128 groups: bit 7 is set in every byte except the last.
 abbrev pub AreGroups : List ℕ → Type 0
 AreGroups [] = ⊥
 AreGroups (b ∷ []) = b < 0x80

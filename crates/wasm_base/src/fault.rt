@@ -9,7 +9,7 @@ use std::fmt;
 use std::marker::Model;
 use thiserror::Error;
 
-/// The cause of a failed decoding. Any cause but `Memory` means that the bytes encode no such
+/// The cause of a failed decoding. Every cause except `Memory` means that the bytes encode no such
 /// value. Tests show which of the other causes a call returns; no contract says that.
 #[derive(Clone, Copy, PartialEq, Eq, Debug, Error)]
 pub enum ReadFault {

@@ -52,7 +52,7 @@ impl<T: Encode> Encode for Optional<T> {
 ///
 /// # Errors
 ///
-/// Any error but `Memory` means that the flag is set, and no such value is at the front.
+/// Every error except `Memory` means that the flag is set, and no such value is at the front.
 #[tactic(auto, using(crate::proofs::Tags::optional_steps))]
 pub fn read_optional<'a, T: Readable<'a, A, G>, A: Allocator + Copy, G: Grammar>(
     flag: bool,

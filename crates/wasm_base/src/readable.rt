@@ -34,7 +34,7 @@ pub trait Readable<'a, A: Allocator + Copy, G: Grammar>: Layout + Drop {
     ///
     /// # Errors
     ///
-    /// Any error but `Memory` means that no such value is at the front.
+    /// Every error except `Memory` means that no such value is at the front.
     fn read(bytes: &'a [u8], alloc: A) -> Result<(Self, &'a [u8]), DecodeError>
         ensures found { IfOk result (λ x. Decodes Self.format (padded_of G.grammar) bytes.now (Self.view x.0) x.1.now) }
         ensures none { IfErr result (λ e. e.cause ≢ Memory → Rejects Self.format (padded_of G.grammar) bytes.now) }

@@ -25,7 +25,7 @@ pub trait Walk<G: Grammar>: Layout {
     ///
     /// # Errors
     ///
-    /// Any error but `Memory` means that no such value is at the front.
+    /// Every error except `Memory` means that no such value is at the front.
     fn walk<'a, A: Allocator + Copy, E: Effect>(
         bytes: &'a [u8],
         alloc: A,
@@ -55,7 +55,7 @@ pub trait Shared: Shorten {
 ///
 /// # Errors
 ///
-/// Any error but `Memory` means that no such value is at the front.
+/// Every error except `Memory` means that no such value is at the front.
 #[tactic(auto, using(crate::proofs::WalkLaws::keep_steps, crate::proofs::WalkLaws::value_walks))]
 #[inline]
 pub fn walk_value<
@@ -82,7 +82,7 @@ pub fn walk_value<
 ///
 /// # Errors
 ///
-/// Any error but `Memory` means that no such value is at the front.
+/// Every error except `Memory` means that no such value is at the front.
 #[tactic(auto, using(crate::proofs::WalkLaws::keep_steps, crate::proofs::WalkLaws::value_walks_in))]
 #[inline]
 pub fn walk_in<'a, T: Readable<'a, A, G> + EncodeIn<G>, A: Allocator + Copy, G: Grammar, E: Effect>(
@@ -107,7 +107,7 @@ pub fn walk_in<'a, T: Readable<'a, A, G> + EncodeIn<G>, A: Allocator + Copy, G: 
 ///
 /// # Errors
 ///
-/// Any error but `Memory` means that no such value is at the front.
+/// Every error except `Memory` means that no such value is at the front.
 #[tactic(auto, using(crate::proofs::WalkLaws::keep_steps, crate::proofs::WalkLaws::shared_walks))]
 pub fn walk_shared<'a, T: Readable<'a, A, G> + Shared, A: Allocator + Copy, G: Grammar, E: Effect>(
     bytes: &'a [u8],
@@ -130,7 +130,7 @@ pub fn walk_shared<'a, T: Readable<'a, A, G> + Shared, A: Allocator + Copy, G: G
 ///
 /// # Errors
 ///
-/// Any error but `Memory` means that no such vector is at the front.
+/// Every error except `Memory` means that no such vector is at the front.
 #[tactic(auto, using(crate::proofs::WalkLaws::keep_steps))]
 pub fn walk_many<'a, T: Walk<G>, A: Allocator + Copy, G: Grammar, E: Effect>(
     bytes: &'a [u8],
@@ -155,7 +155,7 @@ pub fn walk_many<'a, T: Walk<G>, A: Allocator + Copy, G: Grammar, E: Effect>(
 ///
 /// # Errors
 ///
-/// Any error but `Memory` means that the bytes as a whole encode no such value.
+/// Every error except `Memory` means that the bytes as a whole encode no such value.
 #[tactic(auto, using(crate::proofs::WalkLaws::keep_steps, crate::proofs::WalkLaws::whole_walks, crate::proofs::DecodeWhole::whole_steps))]
 pub fn walk_whole<'a, T: Walk<G>, A: Allocator + Copy, G: Grammar, E: Effect>(
     bytes: &'a [u8],
@@ -181,7 +181,7 @@ pub fn walk_whole<'a, T: Walk<G>, A: Allocator + Copy, G: Grammar, E: Effect>(
 ///
 /// # Errors
 ///
-/// Any error but `Memory` means that the bytes as a whole encode no such values.
+/// Every error except `Memory` means that the bytes as a whole encode no such values.
 #[tactic(auto, using(crate::proofs::WalkLaws::keep_steps))]
 pub fn walk_to_end<'a, T: Walk<G>, A: Allocator + Copy, G: Grammar, E: Effect>(
     bytes: &'a [u8],
@@ -276,8 +276,8 @@ pub fn check_to_end<'a, T: Walk<G>, A: Allocator + Copy, G: Grammar>(
 ///
 /// # Errors
 ///
-/// Any error but `Memory` means that no such vector is at the front. After an error, part of the
-/// encoding may follow the old bytes of the sink.
+/// Every error except `Memory` means that no such vector is at the front. After an error, part of
+/// the encoding may follow the old bytes of the sink.
 #[tactic(auto, using(crate::proofs::EffectLaws::appending))]
 pub fn minimize_many<'a, T: Walk<G>, A: Allocator + Copy, G: Grammar, B: Allocator>(
     bytes: &'a [u8],
@@ -296,8 +296,8 @@ pub fn minimize_many<'a, T: Walk<G>, A: Allocator + Copy, G: Grammar, B: Allocat
 ///
 /// # Errors
 ///
-/// Any error but `Memory` means that the bytes as a whole encode no such value. After an error,
-/// part of the encoding may follow the old bytes of the sink.
+/// Every error except `Memory` means that the bytes as a whole encode no such value. After an
+/// error, part of the encoding may follow the old bytes of the sink.
 #[tactic(auto, using(crate::proofs::EffectLaws::appending))]
 pub fn minimize_whole<'a, T: Walk<G>, A: Allocator + Copy, G: Grammar, B: Allocator>(
     bytes: &'a [u8],
@@ -316,8 +316,8 @@ pub fn minimize_whole<'a, T: Walk<G>, A: Allocator + Copy, G: Grammar, B: Alloca
 ///
 /// # Errors
 ///
-/// Any error but `Memory` means that the bytes as a whole encode no such values. After an error,
-/// part of the encoding may follow the old bytes of the sink.
+/// Every error except `Memory` means that the bytes as a whole encode no such values. After an
+/// error, part of the encoding may follow the old bytes of the sink.
 #[tactic(auto, using(crate::proofs::EffectLaws::appending))]
 pub fn minimize_to_end<'a, T: Walk<G>, A: Allocator + Copy, G: Grammar, B: Allocator>(
     bytes: &'a [u8],

@@ -16,7 +16,7 @@ use std::alloc::Allocator;
 ///
 /// # Errors
 ///
-/// Any error but `Memory` means that the bytes as a whole encode no such value.
+/// Every error except `Memory` means that the bytes as a whole encode no such value.
 #[tactic(auto, using(crate::proofs::DecodeWhole::whole_steps))]
 pub fn read_whole<'a, T: Readable<'a, A, G>, A: Allocator + Copy, G: Grammar>(
     bytes: &'a [u8],
@@ -40,7 +40,7 @@ pub fn read_whole<'a, T: Readable<'a, A, G>, A: Allocator + Copy, G: Grammar>(
 ///
 /// # Errors
 ///
-/// Any error but `Memory` means that the bytes as a whole encode no such value.
+/// Every error except `Memory` means that the bytes as a whole encode no such value.
 pub fn read_before<'a, T: Readable<'a, A, G>, A: Allocator + Copy, G: Grammar>(
     bytes: &'a [u8],
     rest: &[u8],
@@ -62,7 +62,7 @@ pub fn read_before<'a, T: Readable<'a, A, G>, A: Allocator + Copy, G: Grammar>(
 ///
 /// # Errors
 ///
-/// Any error but `Memory` means that the bytes as a whole encode no such values.
+/// Every error except `Memory` means that the bytes as a whole encode no such values.
 pub fn read_to_end<'a, T: Readable<'a, A, G>, A: Allocator + Copy, G: Grammar>(
     bytes: &'a [u8],
     alloc: A,

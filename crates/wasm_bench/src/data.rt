@@ -17,8 +17,8 @@ fn add(alloc: Global, section: &mut DataSection, start: i32, bytes: &[u8]) -> Re
     section.active(0, &offset, bytes.iter().copied())
 }
 
-/// Returns a section of segments of `segment` bytes each, but for the last one. All of them begin
-/// below 2 GiB.
+/// Returns a section of segments of `segment` bytes each. The last one may be shorter. All of them
+/// begin below 2 GiB.
 fn build(alloc: Global, bytes: &[u8], segment: usize) -> Result<DataSection, Fault>
     requires { 0 < segment }
     ensures { IfOk result (λ section. IsSplit (length bytes.now) segment (length section)) }

@@ -15,8 +15,8 @@ pub record GivesMember {T X : Type 0} (F : Format X) (view : T → X) (mode : Mo
   pub decodes : Decodes F mode old.rest (view member) new.rest
   pub left : old.left ≡ new.left + 1
 
--- The iterator returned this error, and has ended: no member is at the front, for any cause but
--- `Memory`. For `Memory`, decoding a member may request memory.
+-- The iterator returned this error, and has ended. For every cause except `Memory`, no member is at
+-- the front. For `Memory`, decoding a member may request memory.
 pub record EndsMembers {X : Type 0} (MayAllocate : Type 0) (F : Format X) (mode : Mode) (old : VisitingMembers) (e : Failure) (new : VisitingMembers) : Type 0 where
   pub some : old.left ≢ 0
   pub none : e.cause ≢ Memory → Rejects F mode old.rest

@@ -28,7 +28,7 @@ const BYTES_OF_ONE: usize = 2;
 ///
 /// # Errors
 ///
-/// Any error but `Memory` means that the bytes as a whole encode no instructions.
+/// Every error except `Memory` means that the bytes as a whole encode no instructions.
 pub fn read_code<'a, A: Allocator + Copy, G: Grammar>(
     bytes: &'a [u8],
     alloc: A,
@@ -77,7 +77,7 @@ pub struct Body<A: Allocator = Global> {
 ///
 /// # Errors
 ///
-/// Any error but `Memory` means that the bytes as a whole encode no body.
+/// Every error except `Memory` means that the bytes as a whole encode no body.
 #[tactic(auto, using(crate::proofs::DecodeLists::body_steps))]
 pub fn read_body<'a, A: Allocator + Copy, G: Grammar>(
     bytes: &'a [u8],
@@ -185,7 +185,7 @@ fn write_body<A: Allocator + Copy, B: Allocator>(
 ///
 /// # Errors
 ///
-/// Any error but `Memory` means that the bytes as a whole encode no body.
+/// Every error except `Memory` means that the bytes as a whole encode no body.
 pub fn shorten_body<A: Allocator + Copy, B: Allocator>(
     bytes: &[u8],
     alloc: A,

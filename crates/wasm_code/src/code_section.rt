@@ -92,7 +92,7 @@ impl<A: Allocator> CodeSection<A> {
         self.pieces.add_encoded(function)
     }
 
-    /// Adds a raw body, as `Function::into_raw_body` returns it.
+    /// Adds a raw body, as [`Function::into_raw_body`](crate::Function::into_raw_body) returns it.
     pub fn raw(&mut self, body: &[u8]) -> Result<()>
         ensures { Adds (size_prefixed_encoding body.now) (HasEncodableSize body.now) self.old self.new result }
     {

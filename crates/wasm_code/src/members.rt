@@ -26,7 +26,7 @@ use wasm_base::{DecodeError, Grammar, Readable, Standard};
 ///
 /// # Errors
 ///
-/// An error but `Memory` means that no such member is next. It is the last item.
+/// Every error except `Memory` means that no such member is next. It is the last item.
 #[derive(Debug, Drop)]
 pub struct Members<'a, T, A: Allocator = Global, G: Grammar = Standard> {
     left: u32,

@@ -28,7 +28,7 @@ use wasm_insn::{Op, Operands, read_instruction};
 ///
 /// # Errors
 ///
-/// Any error but `Memory` means that the bytes at the offset encode no instruction, and for
+/// Every error except `Memory` means that the bytes at the offset encode no instruction, and for
 /// `next_before_end` no expression.
 #[derive(Debug, Drop)]
 pub struct Instructions<'a, A: Allocator = Global, G: Grammar = Padded> {

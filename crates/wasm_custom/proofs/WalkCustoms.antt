@@ -1,4 +1,4 @@
--- This file proves that custom sections but for linking are walked over item by item.
+-- This file proves that custom sections except linking are walked over item by item.
 use Rattle.wasm_base.proofs.Words.{◌≡◌, ℕ, ◌<◌, List, [], ◌∷◌, ◌++◌, refl, sym, subst, Bool, Grammar, padded_of, Format, byte, u32, name, just, fixed, pair, prefixed, such, vec, Decodes, Rejects, byte_unambiguous, tagged_rejects, size_prefixed_encoding}
 use Rattle.wasm_base.specs.Walks.{TakesBytes, Walks, WalksWhole}
 use Rattle.wasm_base.proofs.GrammarLaws.{name_canonical}

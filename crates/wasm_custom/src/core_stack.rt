@@ -207,7 +207,7 @@ impl<'a, A: Allocator + Copy, G: Grammar> Readable<'a, A, G> for CoreFrame<A> {
 ///
 /// # Errors
 ///
-/// Any error but `Memory` means that the bytes are not such a payload.
+/// Every error except `Memory` means that the bytes are not such a payload.
 #[tactic(auto, using(crate::proofs::CoreStackLaws::stack_steps))]
 pub fn read_stack<'a, A: Allocator + Copy, G: Grammar>(
     bytes: &'a [u8],

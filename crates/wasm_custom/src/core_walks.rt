@@ -36,7 +36,7 @@ impl<'s, G: Grammar> Walk<G> for MarkedName<'s> {
 ///
 /// # Errors
 ///
-/// Any error but `Memory` means that the bytes are not such a payload.
+/// Every error except `Memory` means that the bytes are not such a payload.
 pub fn walk_process<'a, A: Allocator + Copy, G: Grammar, E: Effect>(
     bytes: &'a [u8],
     alloc: A,
@@ -54,7 +54,7 @@ pub fn walk_process<'a, A: Allocator + Copy, G: Grammar, E: Effect>(
 ///
 /// # Errors
 ///
-/// Any error but `Memory` means that the bytes are not such a payload.
+/// Every error except `Memory` means that the bytes are not such a payload.
 pub fn walk_modules<'a, A: Allocator + Copy, G: Grammar, E: Effect>(
     bytes: &'a [u8],
     alloc: A,
@@ -82,7 +82,7 @@ impl<G: Grammar, C: Allocator> Walk<G> for CoreInstance<C> {
 ///
 /// # Errors
 ///
-/// Any error but `Memory` means that the bytes are not such a payload.
+/// Every error except `Memory` means that the bytes are not such a payload.
 pub fn walk_instances<'a, A: Allocator + Copy, G: Grammar, E: Effect>(
     bytes: &'a [u8],
     alloc: A,
@@ -127,7 +127,7 @@ impl<G: Grammar, C: Allocator> Walk<G> for CoreFrame<C> {
 ///
 /// # Errors
 ///
-/// Any error but `Memory` means that the bytes are not such a payload.
+/// Every error except `Memory` means that the bytes are not such a payload.
 pub fn walk_stack<'a, A: Allocator + Copy, G: Grammar, E: Effect>(
     bytes: &'a [u8],
     alloc: A,

@@ -199,7 +199,7 @@ impl<'a, A: Allocator + Copy + 'a, G: Grammar> Readable<'a, A, G> for DylinkItem
 ///
 /// # Errors
 ///
-/// Any error but `Memory` means that the bytes are not such a payload.
+/// Every error except `Memory` means that the bytes are not such a payload.
 #[tactic(auto, using(crate::proofs::DylinkLaws::section_steps))]
 pub fn read_dylink<'a, A: Allocator + Copy + 'a, G: Grammar>(
     bytes: &'a [u8],

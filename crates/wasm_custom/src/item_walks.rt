@@ -42,7 +42,7 @@ pub(crate) fn walk_counted<'a, T: Walk<G>, A: Allocator + Copy, G: Grammar, E: E
 ///
 /// # Errors
 ///
-/// Any error but `Memory` means that the bytes are not such a payload.
+/// Every error except `Memory` means that the bytes are not such a payload.
 pub fn walk_producers<'a, A: Allocator + Copy, G: Grammar, E: Effect>(
     bytes: &'a [u8],
     alloc: A,
@@ -79,7 +79,7 @@ impl<G: Grammar> Walk<G> for FeaturePrefix {
 ///
 /// # Errors
 ///
-/// Any error but `Memory` means that the bytes are not such a payload.
+/// Every error except `Memory` means that the bytes are not such a payload.
 pub fn walk_features<'a, A: Allocator + Copy, G: Grammar, E: Effect>(
     bytes: &'a [u8],
     alloc: A,
@@ -122,7 +122,7 @@ impl<G: Grammar> Walk<G> for BranchHint {
 ///
 /// # Errors
 ///
-/// Any error but `Memory` means that the bytes are not such a payload.
+/// Every error except `Memory` means that the bytes are not such a payload.
 pub fn walk_hints<'a, A: Allocator + Copy, G: Grammar, E: Effect>(
     bytes: &'a [u8],
     alloc: A,
@@ -160,7 +160,7 @@ impl<G: Grammar> Walk<G> for Relocation {
 ///
 /// # Errors
 ///
-/// Any error but `Memory` means that the bytes are not such a payload.
+/// Every error except `Memory` means that the bytes are not such a payload.
 #[tactic(auto, using(crate::proofs::RelocationLaws::section_steps, wasm_base::proofs::WalkLaws::keep_steps))]
 pub fn walk_relocations<'a, A: Allocator + Copy, G: Grammar, E: Effect>(
     bytes: &'a [u8],

@@ -139,7 +139,7 @@ impl<'s, G: Grammar, C: Allocator> Walk<G> for LinkItem<'s, C> {
 ///
 /// # Errors
 ///
-/// Any error but `Memory` means that the bytes are not such a payload.
+/// Every error except `Memory` means that the bytes are not such a payload.
 #[tactic(auto, using(crate::proofs::LinkLaws::section_steps, wasm_base::proofs::WalkLaws::keep_steps))]
 pub fn walk_links<'a, A: Allocator + Copy, G: Grammar, E: Effect>(
     bytes: &'a [u8],

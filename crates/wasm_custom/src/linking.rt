@@ -209,7 +209,7 @@ pub(crate) fn after_version<'a, A: Allocator + Copy, G: Grammar>(
 ///
 /// # Errors
 ///
-/// Any error but `Memory` means that the bytes are not such a payload.
+/// Every error except `Memory` means that the bytes are not such a payload.
 #[tactic(auto, using(crate::proofs::LinkLaws::section_steps))]
 pub fn read_links<'a, A: Allocator + Copy + 'a, G: Grammar>(
     bytes: &'a [u8],

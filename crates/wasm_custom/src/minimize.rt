@@ -31,7 +31,7 @@ use wasm_base::{DecodeError, Grammar};
 ///
 /// # Errors
 ///
-/// Any error but `Memory` means that the bytes are not such a payload.
+/// Every error except `Memory` means that the bytes are not such a payload.
 #[tactic(auto, using(wasm_base::proofs::EffectLaws::minimized_whole, wasm_base::proofs::EffectLaws::front_kept))]
 pub fn minimize_names<'a, A: Allocator + Copy, G: Grammar, B: Allocator>(
     bytes: &'a [u8],
@@ -54,7 +54,7 @@ pub fn minimize_names<'a, A: Allocator + Copy, G: Grammar, B: Allocator>(
 ///
 /// # Errors
 ///
-/// Any error but `Memory` means that the bytes are not such a payload.
+/// Every error except `Memory` means that the bytes are not such a payload.
 #[tactic(auto, using(wasm_base::proofs::EffectLaws::minimized_whole, wasm_base::proofs::EffectLaws::front_kept))]
 pub fn minimize_links<'a, A: Allocator + Copy, G: Grammar, B: Allocator>(
     bytes: &'a [u8],
@@ -77,7 +77,7 @@ pub fn minimize_links<'a, A: Allocator + Copy, G: Grammar, B: Allocator>(
 ///
 /// # Errors
 ///
-/// Any error but `Memory` means that the bytes are not such a payload.
+/// Every error except `Memory` means that the bytes are not such a payload.
 #[tactic(auto, using(wasm_base::proofs::EffectLaws::minimized_whole, wasm_base::proofs::EffectLaws::front_kept))]
 pub fn minimize_dylink<'a, A: Allocator + Copy, G: Grammar, B: Allocator>(
     bytes: &'a [u8],
@@ -100,7 +100,7 @@ pub fn minimize_dylink<'a, A: Allocator + Copy, G: Grammar, B: Allocator>(
 ///
 /// # Errors
 ///
-/// Any error but `Memory` means that the bytes are not such a payload.
+/// Every error except `Memory` means that the bytes are not such a payload.
 #[tactic(auto, using(wasm_base::proofs::EffectLaws::minimized_whole, wasm_base::proofs::EffectLaws::front_kept))]
 pub fn minimize_producers<'a, A: Allocator + Copy, G: Grammar, B: Allocator>(
     bytes: &'a [u8],
@@ -123,7 +123,7 @@ pub fn minimize_producers<'a, A: Allocator + Copy, G: Grammar, B: Allocator>(
 ///
 /// # Errors
 ///
-/// Any error but `Memory` means that the bytes are not such a payload.
+/// Every error except `Memory` means that the bytes are not such a payload.
 #[tactic(auto, using(wasm_base::proofs::EffectLaws::minimized_whole, wasm_base::proofs::EffectLaws::front_kept))]
 pub fn minimize_features<'a, A: Allocator + Copy, G: Grammar, B: Allocator>(
     bytes: &'a [u8],
@@ -146,7 +146,7 @@ pub fn minimize_features<'a, A: Allocator + Copy, G: Grammar, B: Allocator>(
 ///
 /// # Errors
 ///
-/// Any error but `Memory` means that the bytes are not such a payload.
+/// Every error except `Memory` means that the bytes are not such a payload.
 #[tactic(auto, using(wasm_base::proofs::EffectLaws::minimized_whole, wasm_base::proofs::EffectLaws::front_kept))]
 pub fn minimize_hints<'a, A: Allocator + Copy, G: Grammar, B: Allocator>(
     bytes: &'a [u8],
@@ -170,7 +170,7 @@ pub fn minimize_hints<'a, A: Allocator + Copy, G: Grammar, B: Allocator>(
 ///
 /// # Errors
 ///
-/// Any error but `Memory` means that the bytes are not such a payload.
+/// Every error except `Memory` means that the bytes are not such a payload.
 #[tactic(auto, using(wasm_base::proofs::EffectLaws::minimized_whole, wasm_base::proofs::EffectLaws::front_kept))]
 pub fn minimize_relocations<'a, A: Allocator + Copy, G: Grammar, B: Allocator>(
     bytes: &'a [u8],
@@ -193,7 +193,7 @@ pub fn minimize_relocations<'a, A: Allocator + Copy, G: Grammar, B: Allocator>(
 ///
 /// # Errors
 ///
-/// Any error but `Memory` means that the bytes are not such a payload.
+/// Every error except `Memory` means that the bytes are not such a payload.
 #[tactic(auto, using(wasm_base::proofs::EffectLaws::minimized_whole, wasm_base::proofs::EffectLaws::front_kept))]
 pub fn minimize_modules<'a, A: Allocator + Copy, G: Grammar, B: Allocator>(
     bytes: &'a [u8],
@@ -216,7 +216,7 @@ pub fn minimize_modules<'a, A: Allocator + Copy, G: Grammar, B: Allocator>(
 ///
 /// # Errors
 ///
-/// Any error but `Memory` means that the bytes are not such a payload.
+/// Every error except `Memory` means that the bytes are not such a payload.
 #[tactic(auto, using(wasm_base::proofs::EffectLaws::minimized_whole, wasm_base::proofs::EffectLaws::front_kept))]
 pub fn minimize_instances<'a, A: Allocator + Copy, G: Grammar, B: Allocator>(
     bytes: &'a [u8],
@@ -239,7 +239,7 @@ pub fn minimize_instances<'a, A: Allocator + Copy, G: Grammar, B: Allocator>(
 ///
 /// # Errors
 ///
-/// Any error but `Memory` means that the bytes are not such a payload.
+/// Every error except `Memory` means that the bytes are not such a payload.
 #[tactic(auto, using(wasm_base::proofs::EffectLaws::minimized_whole, wasm_base::proofs::EffectLaws::front_kept))]
 pub fn minimize_stack<'a, A: Allocator + Copy, G: Grammar, B: Allocator>(
     bytes: &'a [u8],

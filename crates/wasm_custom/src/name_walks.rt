@@ -59,7 +59,7 @@ impl<'s, G: Grammar, C: Allocator> Walk<G> for NameItem<'s, C> {
 ///
 /// # Errors
 ///
-/// Any error but `Memory` means that the bytes are not such a payload.
+/// Every error except `Memory` means that the bytes are not such a payload.
 #[tactic(auto, using(wasm_base::proofs::WalkLaws::keep_steps))]
 pub fn walk_names<'a, A: Allocator + Copy, G: Grammar, E: Effect>(
     bytes: &'a [u8],

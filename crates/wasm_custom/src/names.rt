@@ -421,7 +421,7 @@ impl<'a, A: Allocator + Copy + 'a, G: Grammar> Readable<'a, A, G> for NameItem<'
 ///
 /// # Errors
 ///
-/// Any error but `Memory` means that the bytes are not such a payload.
+/// Every error except `Memory` means that the bytes are not such a payload.
 #[tactic(auto, using(crate::proofs::NameLaws::name_steps))]
 pub fn read_names<'a, A: Allocator + Copy + 'a, G: Grammar>(
     bytes: &'a [u8],

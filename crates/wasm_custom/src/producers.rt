@@ -147,7 +147,7 @@ impl<'a, A: Allocator + Copy + 'a, G: Grammar> DecodesItems<
 ///
 /// # Errors
 ///
-/// Any error but `Memory` means that the bytes are not such a payload.
+/// Every error except `Memory` means that the bytes are not such a payload.
 pub fn read_producers<'a, A: Allocator + Copy + 'a, G: Grammar>(
     bytes: &'a [u8],
     alloc: A,

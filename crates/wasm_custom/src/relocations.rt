@@ -452,7 +452,7 @@ impl Shorten for Relocation {
 ///
 /// # Errors
 ///
-/// Any error but `Memory` means that the bytes are not such a payload.
+/// Every error except `Memory` means that the bytes are not such a payload.
 #[tactic(auto, using(crate::proofs::RelocationLaws::section_steps))]
 pub fn read_relocations<'a, A: Allocator + Copy, G: Grammar>(
     bytes: &'a [u8],

@@ -169,7 +169,7 @@ impl<'a, A: Allocator + Copy, G: Grammar> DecodesItems<'a, (FeaturePrefix, &'a s
 ///
 /// # Errors
 ///
-/// Any error but `Memory` means that the bytes are not such a payload.
+/// Every error except `Memory` means that the bytes are not such a payload.
 pub fn read_features<'a, A: Allocator + Copy, G: Grammar>(
     bytes: &'a [u8],
     alloc: A,

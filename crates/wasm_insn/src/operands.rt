@@ -44,8 +44,8 @@ impl<'a> Operands<'a> {
     ///
     /// # Errors
     ///
-    /// Any error but `Memory` means that no decoded instruction has these operands: `Encoded` has
-    /// bytes that do not encode immediates of the shape, or bytes after them, or a shape with a
+    /// Every error except `Memory` means that no decoded instruction has these operands: `Encoded`
+    /// has bytes that do not encode immediates of the shape, or bytes after them, or a shape with a
     /// case of its own.
     #[inline(always)]
     pub fn to_args<A: Allocator + Copy>(self, alloc: A) -> Result<Vec<Arg<A>, A>, DecodeError>

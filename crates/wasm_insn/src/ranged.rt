@@ -87,7 +87,7 @@ impl Ranged for Handle {
     fn ranged(self) {}
 }
 
-/// All numbers but the alignment are in the range of their types.
+/// All numbers except the alignment are in the range of their types.
 impl Ranged for MemArg {
     ghost in_range = { λ m. m.align < 16 → IsWellFormedMemory m };
 

@@ -107,7 +107,7 @@ impl<'a, B: Buffer> InstructionSink<'a, B> {
         InstructionSink { sink }
     }
 
-    /// Appends one encoded instruction. All appending methods but `br_table` call it.
+    /// Appends one encoded instruction. All appending methods except `br_table` call it.
     fn emit<E: Encode>(&mut self, value: &E) -> Result<()>
         ensures same_reference { self.new.sink.ghost_name ≡ self.old.sink.ghost_name }
         ensures writes { Writes (E.encoding value.now) (E.encodable value.now) (B.has_spare_capacity self.old.sink.now (length (E.encoding value.now))) (B.written self.old.sink.now) (B.written self.new.sink.now) result }

@@ -32,7 +32,7 @@ pub decodes_padded : {kind : SectionKind} {bytes rest : List ℕ} {x y : Content
 decodes_padded {kind = kind} h r =
     ((section_unambiguous kind).unique padded h.decodes.front r.front _ _ _ _ h.decodes.encodes r.encodes (sym h.decodes.split ∙ r.split)).0
 
--- The reader returns no error but `Memory`.
+-- The reader returns no error except `Memory`.
 pub padded_not_rejected : (kind : SectionKind) {bytes rest : List ℕ} {x : Contents} → Rejects (section kind) padded bytes → Decodes (section kind) padded bytes x rest → ⊥
 padded_not_rejected kind {rest = rest} {x = x} n r = n.none x rest r
 
@@ -50,7 +50,7 @@ at_front kind {bytes = bytes} {x = x} s = record { front = bytes; split = sym (a
 pub decodes_written : {kind : SectionKind} {bytes : List ℕ} {x y : Contents} {n : ℕ} → Takes kind bytes y n → section kind minimal bytes x → y ≡ x
 decodes_written {kind = kind} h s = decodes_padded h (at_front kind s)
 
--- The reader returns no error but `Memory`.
+-- The reader returns no error except `Memory`.
 pub written_not_rejected : (kind : SectionKind) {bytes : List ℕ} {x : Contents} → Rejects (section kind) padded bytes → section kind minimal bytes x → ⊥
 written_not_rejected kind n s = padded_not_rejected kind n (at_front kind s)
 

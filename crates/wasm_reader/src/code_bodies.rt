@@ -34,8 +34,8 @@ use wasm_code::Instructions;
 ///
 /// # Errors
 ///
-/// An error but `Memory` means that no size-prefixed body is next, or that bytes remain after the
-/// last one. It is the last item.
+/// Every error except `Memory` means that no size-prefixed body is next, or that bytes remain after
+/// the last one. It is the last item.
 #[derive(Clone, Debug, Drop)]
 pub struct Bodies<'a, A: Allocator = Global> {
     alloc: A,
@@ -181,7 +181,7 @@ impl<'a, A: Allocator + Copy> CodeBody<'a, A> {
     ///
     /// # Errors
     ///
-    /// An error but `Memory` means that the bytes are no body.
+    /// Every error except `Memory` means that the bytes are no body.
     pub fn instructions(
         &self,
     ) -> Result<(Vec<(u32, ValType), A>, Instructions<'a, A, Standard>), ReadError>

@@ -1,5 +1,5 @@
 //! Decodes sections, exactly: `Ok` holds the items that the bytes encode, possibly as padded
-//! LEB128, and any error but [`ReadFault::Memory`] means that the bytes encode no such items.
+//! LEB128. Every error except [`ReadFault::Memory`] means that the bytes encode no such items.
 //!
 //! [`Sections`] iterates over the sections of a module, and [`Section::items`] decodes one, in the
 //! standard's grammar. [`read_section`] decodes a section of a [`SectionKind`], without its id,

@@ -62,7 +62,7 @@ fn minimize_section<'a, A: Allocator + Copy, G: Grammar, B: Allocator>(
 ///
 /// # Errors
 ///
-/// Any error but `Memory` means that the bytes do not begin with such a section.
+/// Every error except `Memory` means that the bytes do not begin with such a section.
 pub fn shorten<A: Allocator + Copy>(
     kind: SectionKind,
     bytes: &[u8],

@@ -66,9 +66,10 @@ fn line_of<'a, A: Allocator + Copy>(section: &Section<'a, A>) -> Result<Outlined
 ///
 /// # Errors
 ///
-/// Returns the error and a section number, counted from 1. For any error but `Memory`, this is the
-/// first section that is not an id and a size-prefixed payload. It is 0 if the bytes do not begin
-/// with the header: the cause is then `Ended` if they are fewer than 8, and `UnknownTag` otherwise.
+/// Returns the error and a section number, counted from 1. For every error except `Memory`, this is
+/// the first section that is not an id and a size-prefixed payload. It is 0 if the bytes do not
+/// begin with the header: the cause is then `Ended` if they are fewer than 8, and `UnknownTag`
+/// otherwise.
 pub fn outline<'a, A: Allocator + Copy>(
     alloc: A,
     bytes: &'a [u8],

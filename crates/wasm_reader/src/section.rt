@@ -20,7 +20,7 @@ use wasm_base::{Padded, ReadFault, Readable};
 ///
 /// # Errors
 ///
-/// Any error but `Memory` means that the bytes do not begin with such a section.
+/// Every error except `Memory` means that the bytes do not begin with such a section.
 #[tactic(auto, using(crate::proofs::DecodeSections::section_steps))]
 pub fn read_section<'a, A: Allocator + Copy + 'a>(
     alloc: A,

@@ -64,8 +64,8 @@ fn wrong_at(bytes: &[u8]) -> usize
 ///
 /// # Errors
 ///
-/// An error but `Memory` means that the bytes at the offset of the next section are not an id and a
-/// size-prefixed payload. It is the last item.
+/// Every error except `Memory` means that the bytes at the offset of the next section are not an id
+/// and a size-prefixed payload. It is the last item.
 #[derive(Clone, Debug, Drop)]
 pub struct Sections<'a, A: Allocator = Global> {
     alloc: A,
@@ -280,7 +280,7 @@ impl<'a, A: Allocator + Copy> Section<'a, A> {
     ///
     /// # Errors
     ///
-    /// An error but `Memory` means that the payload does not decode as the section's kind.
+    /// Every error except `Memory` means that the payload does not decode as the section's kind.
     pub fn items(&self) -> Result<Items<'a, A>, ReadError>
     where
         A: 'a,
@@ -312,7 +312,7 @@ impl<'a, A: Allocator + Copy> Section<'a, A> {
     ///
     /// # Errors
     ///
-    /// An error but `Memory` means that the payload does not decode as the section's kind.
+    /// Every error except `Memory` means that the payload does not decode as the section's kind.
     pub fn minimize<B: Allocator>(&self, sink: &mut Vec<u8, B>) -> Result<(), ReadError>
         ensures found { OnOk result (MinimizesWhole admitted (content (section_kind_of self.now.section)) self.now.section.payload sink.old.items sink.new.items) }
         ensures err { OnErr result (sink.new.items ≡ sink.old.items) }

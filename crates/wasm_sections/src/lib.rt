@@ -1,4 +1,4 @@
-//! The core sections of a WebAssembly module but for types and code, by the core specification,
+//! The core sections of a WebAssembly module except types and code, by the core specification,
 //! "Binary Format", "Modules".
 //!
 //! Each section has a builder. The crate also decodes their items (`Readable` of `wasm_base`), walks

@@ -7,7 +7,7 @@ use Rattle.std.proofs.KnownBytes.{Appends-nil, Appends-trans, Appends-kept}
 use Rattle.std.specs.Io.KnownBytes.{Appends, Keeps, WriteAppends}
 use Rattle.wasm_tool.specs.Program.{GainsFront}
 
--- The writer has gained these bytes but for the rest.
+-- The writer has gained these bytes except the rest.
 pub record HasWritten (a b : Option (List ℕ)) (bytes rest : List ℕ) : Type 0 where
   pub front : List ℕ
   pub split : bytes ≡ front ++ rest

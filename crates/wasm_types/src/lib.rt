@@ -1,8 +1,8 @@
 //! The type section of a module, by the core specification, "Binary Format", "Types" and "Type
 //! Section": its builder, its reader and the walk over its types.
 //!
-//! The reader is exact: `Ok` holds the items that the bytes encode in its grammar, and any error
-//! but `ReadFault::Memory` means that the bytes encode no such items.
+//! The reader is exact: `Ok` holds the items that the bytes encode in its grammar. Every error
+//! except `ReadFault::Memory` means that the bytes encode no such items.
 #![tactic(auto)]
 
 mod fields;

@@ -5,7 +5,7 @@ use crate::base::refused::Refused;
 use crate::alloc::{AllocError, AllocFailed};
 use core::fmt;
 
-/// The cause of a failed decoding. Any cause but `Memory` means that the bytes encode no such
+/// The cause of a failed decoding. Every cause except `Memory` means that the bytes encode no such
 /// value. Tests show which of the other causes a call returns; no contract says that.
 ///
 /// # Examples

@@ -4,8 +4,7 @@
 /// A kind of items, such as those of a counted section.
 ///
 /// [`ItemKind`](crate::fallible::ItemKind) is a kind of core sections, and
-/// [`CustomKind`](crate::fallible::CustomKind) one of custom sections. A kind has no value: it
-/// is a type argument of a builder.
+/// [`CustomKind`](crate::fallible::CustomKind) one of custom sections.
 ///
 /// # Examples
 ///

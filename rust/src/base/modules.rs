@@ -20,6 +20,9 @@ use crate::alloc::{Allocator, Global};
 /// # }
 /// # example().unwrap();
 /// ```
+///
+/// Where its calls return an error, those of the root's [`Module`](crate::Module) panic or
+/// abort.
 #[derive(Debug)]
 pub struct Module<A: Allocator = Global> {
     bytes: Vec<u8, A>,

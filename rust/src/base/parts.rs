@@ -89,7 +89,7 @@ impl<T: Encode> Encode for Optional<T> {
 ///
 /// # Errors
 ///
-/// Any error but `Memory` means that the flag is set, and no such value is at the front.
+/// Every error except `Memory` means that the flag is set, and no such value is at the front.
 ///
 /// # Examples
 ///

@@ -80,7 +80,7 @@ pub trait Readable<'a, A: Allocator + Copy, G: Grammar>: Layout + Sized {
     ///
     /// # Errors
     ///
-    /// Any error but `Memory` means that no such value is at the front.
+    /// Every error except `Memory` means that no such value is at the front.
     ///
     /// # Proved
     ///

@@ -17,8 +17,8 @@ use crate::alloc::Allocator;
 ///
 /// Core specification, Types, Heap Types.
 ///
-/// A case has the name of the type in the text format, and the byte of its encoding as its
-/// number. `Cont` and `NoCont` are of the stack switching proposal.
+/// The byte of the encoding is the number of the case. `Cont` and `NoCont` are of the stack
+/// switching proposal.
 ///
 /// # Examples
 ///
@@ -67,8 +67,8 @@ pub enum AbstractHeapType {
 ///
 /// Core specification, Types, Heap Types.
 ///
-/// `Abstract` is a type with a name: `shared`, of the shared-everything threads proposal, says
-/// whether threads share its values. `Exact` is of the custom descriptors proposal.
+/// `shared` is of the shared-everything threads proposal, and `Exact` of the custom descriptors
+/// proposal.
 ///
 /// # Examples
 ///
@@ -115,9 +115,6 @@ impl HeapType {
 ///
 /// Core specification, Types, Reference Types.
 ///
-/// `nullable` says whether null is a value of the type. `heap_type` is the type of the values
-/// that references refer to.
-///
 /// # Examples
 ///
 /// ```
@@ -157,10 +154,6 @@ impl RefType {
 /// [`CoreTypeEncoder::function`](crate::CoreTypeEncoder::function) and
 /// [`GlobalType`](crate::GlobalType) take it. Core specification, Types, Value Types.
 ///
-/// `I32` and `I64` are integers, `F32` and `F64` floats, `V128` vectors of 128 bits, and `Ref`
-/// is a reference type. Their encodings are 7F, 7E, 7D, 7C, 7B, and that of the
-/// [`RefType`](crate::RefType).
-///
 /// # Examples
 ///
 /// ```
@@ -183,7 +176,7 @@ pub enum ValType {
     F64,
     /// A vector of 128 bits: 7B.
     V128,
-    /// A reference.
+    /// A reference: the encoding of its [`RefType`](crate::RefType).
     Ref(RefType),
 }
 

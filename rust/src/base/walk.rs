@@ -38,7 +38,7 @@ pub trait Walk<G: Grammar>: Layout {
     ///
     /// # Errors
     ///
-    /// Any error but `Memory` means that no such value is at the front.
+    /// Every error except `Memory` means that no such value is at the front.
     ///
     /// # Proved
     ///
@@ -126,7 +126,7 @@ pub trait Shared: Shorten {
 ///
 /// # Errors
 ///
-/// Any error but `Memory` means that no such value is at the front.
+/// Every error except `Memory` means that no such value is at the front.
 ///
 /// # Asks
 ///
@@ -171,7 +171,7 @@ pub fn walk_value<
 ///
 /// # Errors
 ///
-/// Any error but `Memory` means that no such value is at the front.
+/// Every error except `Memory` means that no such value is at the front.
 ///
 /// # Asks
 ///
@@ -214,7 +214,7 @@ pub fn walk_in<'a, T: Readable<'a, A, G> + EncodeIn<G>, A: Allocator + Copy, G: 
 ///
 /// # Errors
 ///
-/// Any error but `Memory` means that no such value is at the front.
+/// Every error except `Memory` means that no such value is at the front.
 ///
 /// # Asks
 ///
@@ -255,7 +255,7 @@ pub fn walk_shared<'a, T: Readable<'a, A, G> + Shared, A: Allocator + Copy, G: G
 ///
 /// # Errors
 ///
-/// Any error but `Memory` means that no such vector is at the front.
+/// Every error except `Memory` means that no such vector is at the front.
 ///
 /// # Examples
 ///
@@ -309,7 +309,7 @@ pub fn walk_many<'a, T: Walk<G>, A: Allocator + Copy, G: Grammar, E: Effect>(
 ///
 /// # Errors
 ///
-/// Any error but `Memory` means that the bytes as a whole encode no such value.
+/// Every error except `Memory` means that the bytes as a whole encode no such value.
 ///
 /// # Proved
 ///
@@ -344,7 +344,7 @@ pub fn walk_whole<'a, T: Walk<G>, A: Allocator + Copy, G: Grammar, E: Effect>(
 ///
 /// # Errors
 ///
-/// Any error but `Memory` means that the bytes as a whole encode no such values.
+/// Every error except `Memory` means that the bytes as a whole encode no such values.
 ///
 /// # Asks
 ///
@@ -559,8 +559,8 @@ pub fn check_to_end<'a, T: Walk<G>, A: Allocator + Copy, G: Grammar>(
 ///
 /// # Errors
 ///
-/// Any error but `Memory` means that no such vector is at the front. After an error, part of the
-/// encoding may follow the old bytes of the sink.
+/// Every error except `Memory` means that no such vector is at the front. After an error, part of
+/// the encoding may follow the old bytes of the sink.
 ///
 /// # Examples
 ///
@@ -605,8 +605,8 @@ pub fn minimize_many<'a, T: Walk<G>, A: Allocator + Copy, G: Grammar, B: Sink>(
 ///
 /// # Errors
 ///
-/// Any error but `Memory` means that the bytes as a whole encode no such value. After an error,
-/// part of the encoding may follow the old bytes of the sink.
+/// Every error except `Memory` means that the bytes as a whole encode no such value. After an
+/// error, part of the encoding may follow the old bytes of the sink.
 ///
 /// # Examples
 ///
@@ -650,8 +650,8 @@ pub fn minimize_whole<'a, T: Walk<G>, A: Allocator + Copy, G: Grammar, B: Sink>(
 ///
 /// # Errors
 ///
-/// Any error but `Memory` means that the bytes as a whole encode no such values. After an error,
-/// part of the encoding may follow the old bytes of the sink.
+/// Every error except `Memory` means that the bytes as a whole encode no such values. After an
+/// error, part of the encoding may follow the old bytes of the sink.
 ///
 /// # Examples
 ///

@@ -11,7 +11,7 @@ use crate::alloc::Allocator;
 ///
 /// # Errors
 ///
-/// Any error but `Memory` means that the bytes as a whole encode no such value.
+/// Every error except `Memory` means that the bytes as a whole encode no such value.
 ///
 /// # Examples
 ///
@@ -55,7 +55,7 @@ pub fn read_whole<'a, T: Readable<'a, A, G>, A: Allocator + Copy, G: Grammar>(
 ///
 /// # Errors
 ///
-/// Any error but `Memory` means that the bytes as a whole encode no such value.
+/// Every error except `Memory` means that the bytes as a whole encode no such value.
 ///
 /// # Proved
 ///
@@ -86,7 +86,7 @@ pub fn read_before<'a, T: Readable<'a, A, G>, A: Allocator + Copy, G: Grammar>(
 ///
 /// # Errors
 ///
-/// Any error but `Memory` means that the bytes as a whole encode no such values.
+/// Every error except `Memory` means that the bytes as a whole encode no such values.
 ///
 /// # Examples
 ///

@@ -14,7 +14,7 @@ const BYTES_OF_ONE: usize = 2;
 ///
 /// # Errors
 ///
-/// Any error but `Memory` means that the bytes as a whole encode no instructions.
+/// Every error except `Memory` means that the bytes as a whole encode no instructions.
 ///
 /// # Examples
 ///
@@ -99,7 +99,7 @@ pub struct Body<A: Allocator = Global> {
 ///
 /// # Errors
 ///
-/// Any error but `Memory` means that the bytes as a whole encode no body.
+/// Every error except `Memory` means that the bytes as a whole encode no body.
 ///
 /// # Examples
 ///
@@ -213,7 +213,7 @@ fn write_body<A: Allocator + Copy, B: Sink>(
 ///
 /// # Errors
 ///
-/// Any error but `Memory` means that the bytes as a whole encode no body.
+/// Every error except `Memory` means that the bytes as a whole encode no body.
 ///
 /// # Examples
 ///

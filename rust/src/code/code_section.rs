@@ -23,7 +23,8 @@ use crate::base::{Counted, Encode, Pieces, Result, Section, SectionId, encode_si
 /// ```
 ///
 /// Add one body for each entry of the [`FunctionSection`](crate::fallible::FunctionSection), in
-/// the same order.
+/// the same order. Where its calls return an error, those of the root's
+/// [`CodeSection`](crate::CodeSection) panic or abort.
 ///
 /// # Errors
 ///
@@ -141,7 +142,7 @@ impl<A: Allocator> CodeSection<A> {
         self.pieces.add_encoded(function)
     }
 
-    /// Adds a raw body, as `Function::into_raw_body` returns it.
+    /// Adds a raw body, as [`Function::into_raw_body`](crate::code::Function::into_raw_body) returns it.
     ///
     /// # Errors
     ///

@@ -26,7 +26,8 @@ use crate::insn::{Buffer, Instruction, InstructionSink};
 /// ```
 ///
 /// Make it with the runs of its locals, append the instructions with their last `end`, and add
-/// it to a [`CodeSection`](crate::fallible::CodeSection).
+/// it to a [`CodeSection`](crate::fallible::CodeSection). Where its calls return an error,
+/// those of the root's [`Function`](crate::Function) panic or abort.
 ///
 /// # Errors
 ///

@@ -15,7 +15,7 @@ use crate::base::{DecodeError, Grammar, Readable, Standard};
 ///
 /// # Errors
 ///
-/// An error but `Memory` means that no such member is next. It is the last item.
+/// Every error except `Memory` means that no such member is next. It is the last item.
 ///
 /// # Examples
 ///

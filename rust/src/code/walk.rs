@@ -12,7 +12,7 @@ use crate::insn::{Op, Operands, read_instruction};
 ///
 /// # Errors
 ///
-/// Any error but `Memory` means that the bytes at the offset encode no instruction, and for
+/// Every error except `Memory` means that the bytes at the offset encode no instruction, and for
 /// `next_before_end` no expression.
 ///
 /// # Examples
@@ -97,7 +97,7 @@ impl<'a, A: Allocator + Copy> Instructions<'a, A> {
     ///
     /// # Errors
     ///
-    /// Any error except `Memory` means that the bytes as a whole encode no body.
+    /// Every error except `Memory` means that the bytes as a whole encode no body.
     ///
     /// # Proved
     ///
@@ -138,7 +138,7 @@ impl<'a, A: Allocator + Copy> Instructions<'a, A, Standard> {
     ///
     /// # Errors
     ///
-    /// Any error except `Memory` means that the bytes as a whole encode no body.
+    /// Every error except `Memory` means that the bytes as a whole encode no body.
     ///
     /// # Examples
     ///
@@ -217,7 +217,7 @@ impl<'a, A: Allocator + Copy, G: Grammar> Instructions<'a, A, G> {
     ///
     /// # Errors
     ///
-    /// Any error except `Memory` means that no instruction begins at the offset.
+    /// Every error except `Memory` means that no instruction begins at the offset.
     ///
     /// # Proved
     ///
@@ -242,7 +242,7 @@ impl<'a, A: Allocator + Copy, G: Grammar> Instructions<'a, A, G> {
     ///
     /// # Errors
     ///
-    /// Any error except `Memory` means that no instructions up to a final `end` begin at the
+    /// Every error except `Memory` means that no instructions up to a final `end` begin at the
     /// offset.
     ///
     /// # Examples

@@ -8,8 +8,7 @@ use crate::base::{DecodeError, Encode, Grammar, Layout, Lent, Readable, Result, 
 
 /// The members of a COMDAT group, in the order in which they are added.
 ///
-/// It is a [`CountedList`](crate::fallible::CountedList), which
-/// [`Comdats`](crate::fallible::Comdats) takes.
+/// [`Comdats`](crate::fallible::Comdats) takes it.
 ///
 /// # Examples
 ///
@@ -27,9 +26,6 @@ use crate::base::{DecodeError, Encode, Grammar, Layout, Lent, Readable, Result, 
 pub type ComdatSymbols<A = Global> = CountedList<ComdatSymbolMembers, A>;
 
 /// The kind of the members of a list of a group's members.
-///
-/// It is the type argument of [`CountedList`](crate::fallible::CountedList) in
-/// [`ComdatSymbols`](crate::fallible::ComdatSymbols).
 ///
 /// # Examples
 ///
@@ -101,9 +97,6 @@ impl<A: Allocator> ComdatSymbols<A> {
 pub type Comdats<A = Global> = CountedList<ComdatMembers, A>;
 
 /// The kind of the members of a list of groups.
-///
-/// It is the type argument of [`CountedList`](crate::fallible::CountedList) in
-/// [`Comdats`](crate::fallible::Comdats).
 ///
 /// # Examples
 ///

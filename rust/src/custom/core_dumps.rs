@@ -149,9 +149,6 @@ pub type CoreDumpModulesSection<A = Global> = CustomEntries<ModuleItems, A>;
 
 /// The kind of the items of a modules section: their names.
 ///
-/// It is the type argument of [`CustomEntries`](crate::fallible::CustomEntries) in
-/// [`CoreDumpModulesSection`](crate::fallible::CoreDumpModulesSection).
-///
 /// # Examples
 ///
 /// ```
@@ -267,9 +264,6 @@ impl<A: Allocator> CoreDumpModulesSection<A> {
 pub type CoreDumpInstancesSection<A = Global> = CustomEntries<InstanceItems, A>;
 
 /// The kind of the items of an instances section.
-///
-/// It is the type argument of [`CustomEntries`](crate::fallible::CustomEntries) in
-/// [`CoreDumpInstancesSection`](crate::fallible::CoreDumpInstancesSection).
 ///
 /// # Examples
 ///
@@ -478,7 +472,7 @@ impl<'a, A: Allocator + Copy, G: Grammar> DecodesItems<'a, &'a str, A, G> for Mo
 ///
 /// # Errors
 ///
-/// Any error but `Memory` means that the bytes are not such a payload.
+/// Every error except `Memory` means that the bytes are not such a payload.
 ///
 /// # Examples
 ///
@@ -584,7 +578,7 @@ impl<'a, A: Allocator + Copy, G: Grammar> DecodesItems<'a, (u32, Vec<u32, A>, Ve
 ///
 /// # Errors
 ///
-/// Any error but `Memory` means that the bytes are not such a payload.
+/// Every error except `Memory` means that the bytes are not such a payload.
 ///
 /// # Examples
 ///

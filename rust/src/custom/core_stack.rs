@@ -288,7 +288,7 @@ impl<'a, A: Allocator + Copy, G: Grammar> Readable<'a, A, G> for CoreFrame<A> {
 ///
 /// # Errors
 ///
-/// Any error but `Memory` means that the bytes are not such a payload.
+/// Every error except `Memory` means that the bytes are not such a payload.
 ///
 /// # Examples
 ///

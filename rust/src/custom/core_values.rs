@@ -12,9 +12,6 @@ use crate::immediates::{Ieee32, Ieee64};
 /// The tool conventions define it in
 /// [Coredump](https://github.com/WebAssembly/tool-conventions/blob/main/Coredump.md).
 ///
-/// The cases are integers and floats of 32 and 64 bits, and `Missing` for a value that is not
-/// known.
-///
 /// # Examples
 ///
 /// ```

@@ -40,7 +40,7 @@ impl<'s, G: Grammar> Walk<G> for MarkedName<'s> {
 ///
 /// # Errors
 ///
-/// Any error but `Memory` means that the bytes are not such a payload.
+/// Every error except `Memory` means that the bytes are not such a payload.
 ///
 /// # Proved
 ///
@@ -69,7 +69,7 @@ pub fn walk_process<'a, A: Allocator + Copy, G: Grammar, E: Effect>(
 ///
 /// # Errors
 ///
-/// Any error but `Memory` means that the bytes are not such a payload.
+/// Every error except `Memory` means that the bytes are not such a payload.
 ///
 /// # Proved
 ///
@@ -108,7 +108,7 @@ impl<G: Grammar, C: Allocator> Walk<G> for CoreInstance<C> {
 ///
 /// # Errors
 ///
-/// Any error but `Memory` means that the bytes are not such a payload.
+/// Every error except `Memory` means that the bytes are not such a payload.
 ///
 /// # Proved
 ///
@@ -162,7 +162,7 @@ impl<G: Grammar, C: Allocator> Walk<G> for CoreFrame<C> {
 ///
 /// # Errors
 ///
-/// Any error but `Memory` means that the bytes are not such a payload.
+/// Every error except `Memory` means that the bytes are not such a payload.
 ///
 /// # Proved
 ///

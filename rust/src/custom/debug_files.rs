@@ -118,7 +118,7 @@ pub fn read_source_map<'a, A: Allocator + Copy, G: Grammar>(
 ///
 /// # Errors
 ///
-/// Any error but `Memory` means that the bytes are not such a payload.
+/// Every error except `Memory` means that the bytes are not such a payload.
 ///
 /// # Proved
 ///
@@ -293,7 +293,7 @@ pub fn read_debug_file<'a, A: Allocator + Copy, G: Grammar>(
 ///
 /// # Errors
 ///
-/// Any error but `Memory` means that the bytes are not such a payload.
+/// Every error except `Memory` means that the bytes are not such a payload.
 ///
 /// # Proved
 ///
@@ -473,7 +473,7 @@ pub fn read_build_id<'a, A: Allocator + Copy, G: Grammar>(
 ///
 /// # Errors
 ///
-/// Any error but `Memory` means that the bytes are not such a payload.
+/// Every error except `Memory` means that the bytes are not such a payload.
 ///
 /// # Proved
 ///

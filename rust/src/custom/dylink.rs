@@ -45,9 +45,6 @@ pub type DylinkSection<A = Global> = CustomEntries<DylinkItems, A>;
 
 /// The kind of the items of a dynamic library's section: subsections.
 ///
-/// It is the type argument of [`CustomEntries`](crate::fallible::CustomEntries) in
-/// [`DylinkSection`](crate::fallible::DylinkSection).
-///
 /// # Examples
 ///
 /// ```
@@ -374,7 +371,7 @@ impl<'a, A: Allocator + Copy + 'a, G: Grammar> Readable<'a, A, G> for DylinkItem
 ///
 /// # Errors
 ///
-/// Any error but `Memory` means that the bytes are not such a payload.
+/// Every error except `Memory` means that the bytes are not such a payload.
 ///
 /// # Examples
 ///

@@ -123,8 +123,7 @@ impl Shorten for DylinkMemory {
 /// The libraries that a dynamic library needs, in the order in which they are added. They are
 /// encoded as subsection 2.
 ///
-/// It is a [`CountedList`](crate::fallible::CountedList), which
-/// [`DylinkSection::needed`](crate::fallible::DylinkSection::needed) takes.
+/// [`DylinkSection::needed`](crate::fallible::DylinkSection::needed) takes it.
 ///
 /// # Examples
 ///
@@ -142,9 +141,6 @@ impl Shorten for DylinkMemory {
 pub type DylinkNeeded<A = Global> = CountedList<NeededMembers, A>;
 
 /// The kind of the members of a list of libraries: their names.
-///
-/// It is the type argument of [`CountedList`](crate::fallible::CountedList) in
-/// [`DylinkNeeded`](crate::fallible::DylinkNeeded).
 ///
 /// # Examples
 ///
@@ -201,8 +197,7 @@ impl<A: Allocator> DylinkNeeded<A> {
 /// The folders in which the loader searches for libraries, in the order in which they are added.
 /// They are encoded as subsection 5.
 ///
-/// It is a [`CountedList`](crate::fallible::CountedList), which
-/// [`DylinkSection::runtime_path`](crate::fallible::DylinkSection::runtime_path) takes.
+/// [`DylinkSection::runtime_path`](crate::fallible::DylinkSection::runtime_path) takes it.
 ///
 /// # Examples
 ///
@@ -220,9 +215,6 @@ impl<A: Allocator> DylinkNeeded<A> {
 pub type DylinkPath<A = Global> = CountedList<PathMembers, A>;
 
 /// The kind of the members of a list of folders: their paths.
-///
-/// It is the type argument of [`CountedList`](crate::fallible::CountedList) in
-/// [`DylinkPath`](crate::fallible::DylinkPath).
 ///
 /// # Examples
 ///
@@ -279,8 +271,7 @@ impl<A: Allocator> DylinkPath<A> {
 /// Flags of exported symbols, in the order in which they are added. They are encoded as subsection
 /// 3.
 ///
-/// It is a [`CountedList`](crate::fallible::CountedList), which
-/// [`DylinkSection::exports`](crate::fallible::DylinkSection::exports) takes.
+/// [`DylinkSection::exports`](crate::fallible::DylinkSection::exports) takes it.
 ///
 /// # Examples
 ///
@@ -298,9 +289,6 @@ impl<A: Allocator> DylinkPath<A> {
 pub type DylinkExports<A = Global> = CountedList<ExportFlagMembers, A>;
 
 /// The kind of the members of a list of flags of exported symbols.
-///
-/// It is the type argument of [`CountedList`](crate::fallible::CountedList) in
-/// [`DylinkExports`](crate::fallible::DylinkExports).
 ///
 /// # Examples
 ///
@@ -432,8 +420,7 @@ impl<'a> Shorten for DylinkExport<'a> {
 /// Flags of imported symbols, in the order in which they are added. They are encoded as subsection
 /// 4.
 ///
-/// It is a [`CountedList`](crate::fallible::CountedList), which
-/// [`DylinkSection::imports`](crate::fallible::DylinkSection::imports) takes.
+/// [`DylinkSection::imports`](crate::fallible::DylinkSection::imports) takes it.
 ///
 /// # Examples
 ///
@@ -451,9 +438,6 @@ impl<'a> Shorten for DylinkExport<'a> {
 pub type DylinkImports<A = Global> = CountedList<ImportFlagMembers, A>;
 
 /// The kind of the members of a list of flags of imported symbols.
-///
-/// It is the type argument of [`CountedList`](crate::fallible::CountedList) in
-/// [`DylinkImports`](crate::fallible::DylinkImports).
 ///
 /// # Examples
 ///

@@ -10,8 +10,7 @@ use crate::base::{CowSlice, CowStr, Encode, EncodeOnce, Kind, Pieces, Result, Se
 /// A kind of custom section: its items, its name, the bytes before its entries, and whether the
 /// entries are counted.
 ///
-/// A kind has no value: it is the type argument of
-/// [`CustomEntries`](crate::fallible::CustomEntries).
+/// [`CustomEntries`](crate::fallible::CustomEntries) takes it as a type argument.
 ///
 /// # Examples
 ///

@@ -32,9 +32,6 @@ pub type BranchHints<A = Global> = CustomEntries<HintItems, A>;
 
 /// The kind of a branch hint section's items: the hints of one function each.
 ///
-/// It is the type argument of [`CustomEntries`](crate::fallible::CustomEntries) in
-/// [`BranchHints`](crate::fallible::BranchHints).
-///
 /// # Examples
 ///
 /// ```
@@ -276,7 +273,7 @@ impl<'a, A: Allocator + Copy, G: Grammar> DecodesItems<'a, (u32, Vec<BranchHint,
 ///
 /// # Errors
 ///
-/// Any error but `Memory` means that the bytes are not such a payload.
+/// Every error except `Memory` means that the bytes are not such a payload.
 ///
 /// # Examples
 ///

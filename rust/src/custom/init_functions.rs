@@ -24,9 +24,6 @@ pub type InitFunctions<A = Global> = CountedList<InitMembers, A>;
 
 /// The kind of the members of a list of init functions.
 ///
-/// It is the type argument of [`CountedList`](crate::fallible::CountedList) in
-/// [`InitFunctions`](crate::fallible::InitFunctions).
-///
 /// # Examples
 ///
 /// ```

@@ -26,7 +26,7 @@ pub(crate) fn walk_counted<'a, T: Walk<G>, A: Allocator + Copy, G: Grammar, E: E
 ///
 /// # Errors
 ///
-/// Any error but `Memory` means that the bytes are not such a payload.
+/// Every error except `Memory` means that the bytes are not such a payload.
 ///
 /// # Proved
 ///
@@ -74,7 +74,7 @@ impl<G: Grammar> Walk<G> for FeaturePrefix {
 ///
 /// # Errors
 ///
-/// Any error but `Memory` means that the bytes are not such a payload.
+/// Every error except `Memory` means that the bytes are not such a payload.
 ///
 /// # Proved
 ///
@@ -126,7 +126,7 @@ impl<G: Grammar> Walk<G> for BranchHint {
 ///
 /// # Errors
 ///
-/// Any error but `Memory` means that the bytes are not such a payload.
+/// Every error except `Memory` means that the bytes are not such a payload.
 ///
 /// # Proved
 ///
@@ -175,7 +175,7 @@ impl<G: Grammar> Walk<G> for Relocation {
 ///
 /// # Errors
 ///
-/// Any error but `Memory` means that the bytes are not such a payload.
+/// Every error except `Memory` means that the bytes are not such a payload.
 ///
 /// # Proved
 ///

@@ -168,7 +168,7 @@ impl<'s, G: Grammar, C: Allocator> Walk<G> for LinkItem<'s, C> {
 ///
 /// # Errors
 ///
-/// Any error but `Memory` means that the bytes are not such a payload.
+/// Every error except `Memory` means that the bytes are not such a payload.
 ///
 /// # Proved
 ///

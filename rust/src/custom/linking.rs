@@ -35,9 +35,6 @@ pub type LinkingSection<A = Global> = CustomEntries<LinkingItems, A>;
 
 /// The kind of a linking section's items: subsections.
 ///
-/// It is the type argument of [`CustomEntries`](crate::fallible::CustomEntries) in
-/// [`LinkingSection`](crate::fallible::LinkingSection).
-///
 /// # Examples
 ///
 /// ```
@@ -276,7 +273,7 @@ pub(crate) fn after_version<'a, A: Allocator + Copy, G: Grammar>(
 ///
 /// # Errors
 ///
-/// Any error but `Memory` means that the bytes are not such a payload.
+/// Every error except `Memory` means that the bytes are not such a payload.
 ///
 /// # Examples
 ///

@@ -9,8 +9,7 @@ use crate::base::{Encode, Pieces, Result, encoding_size};
 
 /// A kind of members of a list, and their encoding.
 ///
-/// A kind has no value: it is the type argument of
-/// [`CountedList`](crate::fallible::CountedList).
+/// [`CountedList`](crate::fallible::CountedList) takes it as a type argument.
 ///
 /// # Examples
 ///

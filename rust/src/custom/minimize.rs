@@ -15,7 +15,7 @@ use crate::base::{DecodeError, Grammar};
 ///
 /// # Errors
 ///
-/// Any error but `Memory` means that the bytes are not such a payload.
+/// Every error except `Memory` means that the bytes are not such a payload.
 ///
 /// # Examples
 ///
@@ -60,7 +60,7 @@ pub fn minimize_names<'a, A: Allocator + Copy, G: Grammar, B: Sink>(
 ///
 /// # Errors
 ///
-/// Any error but `Memory` means that the bytes are not such a payload.
+/// Every error except `Memory` means that the bytes are not such a payload.
 ///
 /// # Examples
 ///
@@ -105,7 +105,7 @@ pub fn minimize_links<'a, A: Allocator + Copy, G: Grammar, B: Sink>(
 ///
 /// # Errors
 ///
-/// Any error but `Memory` means that the bytes are not such a payload.
+/// Every error except `Memory` means that the bytes are not such a payload.
 ///
 /// # Examples
 ///
@@ -150,7 +150,7 @@ pub fn minimize_dylink<'a, A: Allocator + Copy, G: Grammar, B: Sink>(
 ///
 /// # Errors
 ///
-/// Any error but `Memory` means that the bytes are not such a payload.
+/// Every error except `Memory` means that the bytes are not such a payload.
 ///
 /// # Examples
 ///
@@ -196,7 +196,7 @@ pub fn minimize_producers<'a, A: Allocator + Copy, G: Grammar, B: Sink>(
 ///
 /// # Errors
 ///
-/// Any error but `Memory` means that the bytes are not such a payload.
+/// Every error except `Memory` means that the bytes are not such a payload.
 ///
 /// # Examples
 ///
@@ -242,7 +242,7 @@ pub fn minimize_features<'a, A: Allocator + Copy, G: Grammar, B: Sink>(
 ///
 /// # Errors
 ///
-/// Any error but `Memory` means that the bytes are not such a payload.
+/// Every error except `Memory` means that the bytes are not such a payload.
 ///
 /// # Examples
 ///
@@ -288,7 +288,7 @@ pub fn minimize_hints<'a, A: Allocator + Copy, G: Grammar, B: Sink>(
 ///
 /// # Errors
 ///
-/// Any error but `Memory` means that the bytes are not such a payload.
+/// Every error except `Memory` means that the bytes are not such a payload.
 ///
 /// # Examples
 ///
@@ -334,7 +334,7 @@ pub fn minimize_relocations<'a, A: Allocator + Copy, G: Grammar, B: Sink>(
 ///
 /// # Errors
 ///
-/// Any error but `Memory` means that the bytes are not such a payload.
+/// Every error except `Memory` means that the bytes are not such a payload.
 ///
 /// # Examples
 ///
@@ -379,7 +379,7 @@ pub fn minimize_modules<'a, A: Allocator + Copy, G: Grammar, B: Sink>(
 ///
 /// # Errors
 ///
-/// Any error but `Memory` means that the bytes are not such a payload.
+/// Every error except `Memory` means that the bytes are not such a payload.
 ///
 /// # Examples
 ///
@@ -425,7 +425,7 @@ pub fn minimize_instances<'a, A: Allocator + Copy, G: Grammar, B: Sink>(
 ///
 /// # Errors
 ///
-/// Any error but `Memory` means that the bytes are not such a payload.
+/// Every error except `Memory` means that the bytes are not such a payload.
 ///
 /// # Examples
 ///

@@ -4,8 +4,8 @@
 //!
 //! The crate builds these sections, decodes them, and writes decoded ones in their minimal
 //! encoding. A call that decodes receives the payload of a section: its name and its items, up to
-//! the last byte. `Ok` holds the items that the bytes encode in the grammar of the call, and any
-//! error but [`ReadFault::Memory`] means that the bytes encode no such items.
+//! the last byte. `Ok` holds the items that the bytes encode in the grammar of the call. Every
+//! error except [`ReadFault::Memory`] means that the bytes encode no such items.
 //!
 //! The name section is that of the WebAssembly core specification, "Custom Sections", with further
 //! subsections. Branch hints are those of their proposal, and all others those of the tool

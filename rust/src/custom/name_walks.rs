@@ -58,7 +58,7 @@ impl<'s, G: Grammar, C: Allocator> Walk<G> for NameItem<'s, C> {
 ///
 /// # Errors
 ///
-/// Any error but `Memory` means that the bytes are not such a payload.
+/// Every error except `Memory` means that the bytes are not such a payload.
 ///
 /// # Proved
 ///

@@ -13,8 +13,7 @@ use crate::base::{CowSlice, CowStr, DecodeError, Encode, Grammar, Kind, Layout, 
 /// A name map: indices and their names. The calls check neither their order nor whether an index is
 /// repeated.
 ///
-/// It is a [`CountedList`](crate::fallible::CountedList), which
-/// [`NameSection`](crate::fallible::NameSection) takes.
+/// [`NameSection`](crate::fallible::NameSection) takes it.
 ///
 /// # Examples
 ///
@@ -31,9 +30,6 @@ use crate::base::{CowSlice, CowStr, DecodeError, Encode, Grammar, Kind, Layout, 
 pub type NameMap<A = Global> = CountedList<NameMembers, A>;
 
 /// The kind of a name map's members: an index, and its name.
-///
-/// It is the type argument of [`CountedList`](crate::fallible::CountedList) in
-/// [`NameMap`](crate::fallible::NameMap).
 ///
 /// # Examples
 ///
@@ -122,8 +118,7 @@ impl Encode for IndexedName<'_> {
 /// An indirect name map: indices, each with a name map for the items in it, such as the locals of
 /// functions. The calls check neither their order nor whether an index is repeated.
 ///
-/// It is a [`CountedList`](crate::fallible::CountedList), which
-/// [`NameSection`](crate::fallible::NameSection) takes.
+/// [`NameSection`](crate::fallible::NameSection) takes it.
 ///
 /// # Examples
 ///
@@ -143,9 +138,6 @@ impl Encode for IndexedName<'_> {
 pub type IndirectNameMap<A = Global> = CountedList<IndirectMembers, A>;
 
 /// The kind of an indirect name map's members: an index, and the names of the items in it.
-///
-/// It is the type argument of [`CountedList`](crate::fallible::CountedList) in
-/// [`IndirectNameMap`](crate::fallible::IndirectNameMap).
 ///
 /// # Examples
 ///
@@ -221,9 +213,6 @@ impl<A: Allocator> IndirectNameMap<A> {
 pub type NameSection<A = Global> = CustomEntries<NameItems, A>;
 
 /// The kind of a name section's items: subsections.
-///
-/// It is the type argument of [`CustomEntries`](crate::fallible::CustomEntries) in
-/// [`NameSection`](crate::fallible::NameSection).
 ///
 /// # Examples
 ///
@@ -837,7 +826,7 @@ impl<'a, A: Allocator + Copy + 'a, G: Grammar> Readable<'a, A, G> for NameItem<'
 ///
 /// # Errors
 ///
-/// Any error but `Memory` means that the bytes are not such a payload.
+/// Every error except `Memory` means that the bytes are not such a payload.
 ///
 /// # Examples
 ///

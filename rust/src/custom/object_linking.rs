@@ -41,9 +41,6 @@ pub type ObjectLinking<A = Global> = CustomEntries<ObjectLinkingItems, A>;
 
 /// The kind of the items of an object file's linking section: subsections.
 ///
-/// It is the type argument of [`CustomEntries`](crate::fallible::CustomEntries) in
-/// [`ObjectLinking`](crate::fallible::ObjectLinking).
-///
 /// # Examples
 ///
 /// ```

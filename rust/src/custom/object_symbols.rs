@@ -26,9 +26,6 @@ pub type ObjectSymbols<A = Global> = CountedList<ObjectSymbolMembers, A>;
 
 /// The kind of the members of an object file's symbol table.
 ///
-/// It is the type argument of [`CountedList`](crate::fallible::CountedList) in
-/// [`ObjectSymbols`](crate::fallible::ObjectSymbols).
-///
 /// # Examples
 ///
 /// ```

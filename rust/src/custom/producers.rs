@@ -10,8 +10,7 @@ use crate::base::{DecodeError, Grammar, Kind, Lent, Readable, Result, Shorten};
 
 /// The values of a producers field: the tools that produced the module, and their versions.
 ///
-/// It is a [`CountedList`](crate::fallible::CountedList), which
-/// [`ProducersSection`](crate::fallible::ProducersSection) takes.
+/// [`ProducersSection`](crate::fallible::ProducersSection) takes it.
 ///
 /// # Examples
 ///
@@ -29,9 +28,6 @@ use crate::base::{DecodeError, Grammar, Kind, Lent, Readable, Result, Shorten};
 pub type ProducersField<A = Global> = CountedList<ValueMembers, A>;
 
 /// The kind of a field's members: a name, and its version.
-///
-/// It is the type argument of [`CountedList`](crate::fallible::CountedList) in
-/// [`ProducersField`](crate::fallible::ProducersField).
 ///
 /// # Examples
 ///
@@ -106,9 +102,6 @@ impl<A: Allocator> ProducersField<A> {
 pub type ProducersSection<A = Global> = CustomEntries<ProducerItems, A>;
 
 /// The kind of a producers section's items: fields.
-///
-/// It is the type argument of [`CustomEntries`](crate::fallible::CustomEntries) in
-/// [`ProducersSection`](crate::fallible::ProducersSection).
 ///
 /// # Examples
 ///
@@ -233,7 +226,7 @@ impl<'a, A: Allocator + Copy + 'a, G: Grammar> DecodesItems<
 ///
 /// # Errors
 ///
-/// Any error but `Memory` means that the bytes are not such a payload.
+/// Every error except `Memory` means that the bytes are not such a payload.
 ///
 /// # Examples
 ///

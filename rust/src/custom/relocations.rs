@@ -177,8 +177,7 @@ impl Encode for Addend64Relocation {
 /// name.
 ///
 /// [`RelocationSection::relocation`](crate::fallible::RelocationSection::relocation) takes it,
-/// and [`Items::Relocations`](crate::reader::Items::Relocations) has them. The cases are the
-/// kinds without an addend, and those with an addend of 32 or 64 bits.
+/// and [`Items::Relocations`](crate::reader::Items::Relocations) has them.
 ///
 /// # Examples
 ///
@@ -642,7 +641,7 @@ impl Shorten for Relocation {
 ///
 /// # Errors
 ///
-/// Any error but `Memory` means that the bytes are not such a payload.
+/// Every error except `Memory` means that the bytes are not such a payload.
 ///
 /// # Examples
 ///

@@ -24,9 +24,6 @@ pub type SegmentInfos<A = Global> = CountedList<SegmentMembers, A>;
 
 /// The kind of the members of a list of segments.
 ///
-/// It is the type argument of [`CountedList`](crate::fallible::CountedList) in
-/// [`SegmentInfos`](crate::fallible::SegmentInfos).
-///
 /// # Examples
 ///
 /// ```

@@ -26,9 +26,6 @@ pub type SymbolTable<A = Global> = CountedList<SymbolMembers, A>;
 
 /// The kind of a symbol table's members.
 ///
-/// It is the type argument of [`CountedList`](crate::fallible::CountedList) in
-/// [`SymbolTable`](crate::fallible::SymbolTable).
-///
 /// # Examples
 ///
 /// ```

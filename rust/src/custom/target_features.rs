@@ -33,9 +33,6 @@ pub type TargetFeaturesSection<A = Global> = CustomEntries<FeatureItems, A>;
 
 /// The kind of a target features section's items: features.
 ///
-/// It is the type argument of [`CustomEntries`](crate::fallible::CustomEntries) in
-/// [`TargetFeaturesSection`](crate::fallible::TargetFeaturesSection).
-///
 /// # Examples
 ///
 /// ```
@@ -260,7 +257,7 @@ impl<'a, A: Allocator + Copy, G: Grammar> DecodesItems<'a, (FeaturePrefix, &'a s
 ///
 /// # Errors
 ///
-/// Any error but `Memory` means that the bytes are not such a payload.
+/// Every error except `Memory` means that the bytes are not such a payload.
 ///
 /// # Examples
 ///

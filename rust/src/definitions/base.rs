@@ -1579,7 +1579,7 @@ pub trait numbers {
     ///
     /// Definitions: [`Mode`](numbers::Mode), [`minimal`](numbers::Mode), [`padded`](numbers::Mode).
     type IsOfBuilders;
-    /// The bytes are LEB128 groups: bit 7 is set in every byte but the last.
+    /// The bytes are LEB128 groups: bit 7 is set in every byte except the last.
     ///
     /// ```text
     /// abbrev pub AreGroups : List ℕ → Type 0

@@ -888,7 +888,7 @@ pub trait members {
     ///
     /// Definitions: [`Format`](super::base::formats::Format), [`Mode`](super::base::numbers::Mode), [`VisitingMembers`](members::VisitingMembers), [`Decodes`](super::base::decoding::Decodes).
     type GivesMember;
-    /// The iterator returned this error, and has ended: no member is at the front, for any cause but `Memory`. For `Memory`, decoding a member may request memory.
+    /// The iterator returned this error, and has ended. For every cause except `Memory`, no member is at the front. For `Memory`, decoding a member may request memory.
     ///
     /// ```text
     /// pub record EndsMembers {X : Type 0} (MayAllocate : Type 0) (F : Format X) (mode : Mode)

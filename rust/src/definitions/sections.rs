@@ -1,5 +1,5 @@
 // Written by tools/to-rust from crates/wasm_sections/specs: change that.
-//! The core sections but types and code.
+//! The core sections except types and code.
 //!
 //! The contracts of [`wasm_sections`](https://github.com/dolzhytik/dolzhytik/blob/main/crates/wasm_sections/README.md) name these definitions.
 

@@ -46,7 +46,7 @@ impl Module {
     ///
     /// A valid module has each section at most once, in the order type, import, function, table,
     /// memory, tag, global, export, start, element, data count, code, data. Custom sections may be
-    /// anywhere. The call does not check it.
+    /// anywhere. The call checks neither.
     ///
     /// # Panics
     ///

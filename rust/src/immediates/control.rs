@@ -10,9 +10,6 @@ use crate::base::{Canonical, DecodeError, Effect, Encode, Grammar, Layout, ReadF
 ///
 /// Core specification, Instructions, Control Instructions.
 ///
-/// `One` and `OneRef` catch exceptions of a tag, `All` and `AllRef` all of them. Those with
-/// `Ref` also pass a reference to the exception to the label.
-///
 /// # Examples
 ///
 /// ```
@@ -52,9 +49,6 @@ pub enum Catch {
 /// [`Instruction::Resume`](crate::Instruction::Resume).
 ///
 /// The stack switching proposal defines it.
-///
-/// `OnLabel` branches to a label when code suspends with the tag, and `OnSwitch` admits
-/// switches with the tag.
 ///
 /// # Examples
 ///

@@ -82,9 +82,6 @@ pub enum MemArgTarget {
 ///
 /// The shared-everything threads proposal defines it.
 ///
-/// `Op` is the ordering of a load or a store, and `Rmw` that of a read-modify-write
-/// instruction.
-///
 /// # Examples
 ///
 /// ```
@@ -107,8 +104,7 @@ pub enum MemArgOrdering {
 /// The ordering of an atomic instruction, which calls such as
 /// [`InstructionSink::atomic_fence`](crate::InstructionSink::atomic_fence) take.
 ///
-/// It is not [`core::cmp::Ordering`]. The shared-everything threads proposal defines it:
-/// `SeqCst` is sequential consistency, byte 00, and `AcqRel` acquire and release, byte 01.
+/// It is not [`core::cmp::Ordering`]. The shared-everything threads proposal defines it.
 ///
 /// # Examples
 ///

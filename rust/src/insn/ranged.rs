@@ -142,7 +142,7 @@ impl Ranged for Handle {
     fn ranged(self) {}
 }
 
-/// All numbers but the alignment are in the range of their types.
+/// All numbers except the alignment are in the range of their types.
 ///
 /// # Defined
 ///

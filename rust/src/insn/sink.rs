@@ -184,7 +184,7 @@ impl<'a, B: Buffer> InstructionSink<'a, B> {
         InstructionSink { sink }
     }
 
-    /// Appends one encoded instruction. All appending methods but `br_table` call it.
+    /// Appends one encoded instruction. All appending methods except `br_table` call it.
     fn emit<E: Encode>(&mut self, value: &E) -> Result<()> {
         self.sink.append(value)
     }

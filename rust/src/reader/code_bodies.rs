@@ -14,8 +14,8 @@ use crate::code::Instructions;
 ///
 /// # Errors
 ///
-/// An error but `Memory` means that no size-prefixed body is next, or that bytes remain after the
-/// last one. It is the last item.
+/// Every error except `Memory` means that no size-prefixed body is next, or that bytes remain after
+/// the last one. It is the last item.
 ///
 /// # Examples
 ///
@@ -236,7 +236,7 @@ impl<'a, A: Allocator + Copy> CodeBody<'a, A> {
     ///
     /// # Errors
     ///
-    /// An error but `Memory` means that the bytes are no body.
+    /// Every error except `Memory` means that the bytes are no body.
     ///
     /// # Proved
     ///

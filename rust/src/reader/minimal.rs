@@ -40,7 +40,7 @@ fn minimize_section<'a, A: Allocator + Copy, G: Grammar, B: Sink>(
 ///
 /// # Errors
 ///
-/// Any error but `Memory` means that the bytes do not begin with such a section.
+/// Every error except `Memory` means that the bytes do not begin with such a section.
 ///
 /// # Examples
 ///

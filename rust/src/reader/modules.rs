@@ -68,9 +68,9 @@ fn line_of<A: Allocator + Copy>(section: &Section<'_, A>) -> Result<Listed, Read
 ///
 /// # Errors
 ///
-/// Returns the error and a section number, counted from 1. For any error but `Memory`, this is the
-/// section at which the bytes stop being a module. It is 0 if they do not begin with the header.
-/// For `Memory` it is the section that was being decoded, which no contract states.
+/// Returns the error and a section number, counted from 1. For every error except `Memory`, this is
+/// the section at which the bytes stop being a module. It is 0 if they do not begin with the
+/// header. For `Memory` it is the section that was being decoded, which no contract states.
 ///
 /// # Examples
 ///

@@ -10,7 +10,7 @@ use crate::base::{Padded, ReadFault, Readable};
 ///
 /// # Errors
 ///
-/// Any error but `Memory` means that the bytes do not begin with such a section.
+/// Every error except `Memory` means that the bytes do not begin with such a section.
 ///
 /// # Examples
 ///

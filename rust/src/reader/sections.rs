@@ -38,8 +38,8 @@ fn wrong_at(bytes: &[u8]) -> usize {
 ///
 /// # Errors
 ///
-/// An error but `Memory` means that the bytes at the offset of the next section are not an id and a
-/// size-prefixed payload. It is the last item.
+/// Every error except `Memory` means that the bytes at the offset of the next section are not an id
+/// and a size-prefixed payload. It is the last item.
 ///
 /// # Examples
 ///
@@ -401,7 +401,7 @@ impl<'a, A: Allocator + Copy> Section<'a, A> {
     ///
     /// # Errors
     ///
-    /// An error but `Memory` means that the payload does not decode as the section's kind.
+    /// Every error except `Memory` means that the payload does not decode as the section's kind.
     ///
     /// # Proved
     ///
@@ -441,7 +441,7 @@ impl<'a, A: Allocator + Copy> Section<'a, A> {
     ///
     /// # Errors
     ///
-    /// An error but `Memory` means that the payload does not decode as the section's kind.
+    /// Every error except `Memory` means that the payload does not decode as the section's kind.
     ///
     /// # Examples
     ///

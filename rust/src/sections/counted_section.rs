@@ -8,8 +8,7 @@ use crate::base::{Counted, Encode, EncodeOnce, Kind, Pieces, Result, Section};
 
 /// A kind of items that a section counts.
 ///
-/// A kind has no value: it is the type argument of
-/// [`CountedSection`](crate::fallible::CountedSection).
+/// [`CountedSection`](crate::fallible::CountedSection) takes it as a type argument.
 ///
 /// # Examples
 ///

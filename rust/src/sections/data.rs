@@ -28,9 +28,6 @@ pub type DataSection<A = Global> = CountedSection<DataItems, A>;
 
 /// The kind of a data section's items: segments of bytes.
 ///
-/// It is the type argument of [`CountedSection`](crate::fallible::CountedSection) in
-/// [`DataSection`](crate::fallible::DataSection).
-///
 /// # Examples
 ///
 /// ```
@@ -547,7 +544,7 @@ impl<'a, A: Allocator + Copy, G: Grammar> Readable<'a, A, G> for Segment<'a, A> 
 ///
 /// # Errors
 ///
-/// Any error but `Memory` means that the bytes are not such a payload.
+/// Every error except `Memory` means that the bytes are not such a payload.
 ///
 /// # Examples
 ///

@@ -29,9 +29,6 @@ pub type ElementSection<A = Global> = CountedSection<ElementItems, A>;
 
 /// The kind of an element section's items: segments of references.
 ///
-/// It is the type argument of [`CountedSection`](crate::fallible::CountedSection) in
-/// [`ElementSection`](crate::fallible::ElementSection).
-///
 /// # Examples
 ///
 /// ```

@@ -25,9 +25,6 @@ pub type ExportSection<A = Global> = CountedSection<ExportItems, A>;
 
 /// The kind of an export section's items: exports.
 ///
-/// It is the type argument of [`CountedSection`](crate::fallible::CountedSection) in
-/// [`ExportSection`](crate::fallible::ExportSection).
-///
 /// # Examples
 ///
 /// ```

@@ -26,9 +26,6 @@ pub type FunctionSection<A = Global> = CountedSection<FunctionItems, A>;
 
 /// The kind of a function section's items: the index of a type for each function.
 ///
-/// It is the type argument of [`CountedSection`](crate::fallible::CountedSection) in
-/// [`FunctionSection`](crate::fallible::FunctionSection).
-///
 /// # Examples
 ///
 /// ```

@@ -30,9 +30,6 @@ pub type GlobalSection<A = Global> = CountedSection<GlobalItems, A>;
 
 /// The kind of a global section's items: types of globals, each with an initializer expression.
 ///
-/// It is the type argument of [`CountedSection`](crate::fallible::CountedSection) in
-/// [`GlobalSection`](crate::fallible::GlobalSection).
-///
 /// # Examples
 ///
 /// ```
@@ -49,7 +46,7 @@ pub struct GlobalItems;
 ///
 /// Core specification, Types, Global Types.
 ///
-/// `val_type` is the type of its value. `shared` is of the shared-everything threads proposal.
+/// `shared` is of the shared-everything threads proposal.
 ///
 /// # Examples
 ///

@@ -30,9 +30,6 @@ pub type ImportSection<A = Global> = CountedSection<ImportItems, A>;
 /// The kind of an import section's items: imports and groups of imports, each of which is one
 /// entry.
 ///
-/// It is the type argument of [`CountedSection`](crate::fallible::CountedSection) in
-/// [`ImportSection`](crate::fallible::ImportSection).
-///
 /// # Examples
 ///
 /// ```
@@ -590,7 +587,7 @@ impl<'a, A: Allocator + Copy, G: Grammar> Readable<'a, A, G> for Imports<'a, A> 
 ///
 /// # Errors
 ///
-/// Any error but `Memory` means that the bytes are not such a payload.
+/// Every error except `Memory` means that the bytes are not such a payload.
 ///
 /// # Examples
 ///

@@ -32,9 +32,6 @@ pub type MemorySection<A = Global> = CountedSection<MemoryItems, A>;
 
 /// The kind of a memory section's items: memory types.
 ///
-/// It is the type argument of [`CountedSection`](crate::fallible::CountedSection) in
-/// [`MemorySection`](crate::fallible::MemorySection).
-///
 /// # Examples
 ///
 /// ```
@@ -51,9 +48,7 @@ pub struct MemoryItems;
 ///
 /// Core specification, Types, Memory Types.
 ///
-/// `minimum` and `maximum` are its size in pages: the initial one, and the limit for
-/// `memory.grow`. `shared` is of the threads proposal, and `page_size_log2` of the custom page
-/// sizes proposal.
+/// `shared` is of the threads proposal, and `page_size_log2` of the custom page sizes proposal.
 ///
 /// # Examples
 ///

@@ -1,5 +1,5 @@
 // Written by tools/to-rust from crates/wasm_sections/src/lib.rt: change that.
-//! The core sections of a WebAssembly module but for types and code, by the core specification,
+//! The core sections of a WebAssembly module except types and code, by the core specification,
 //! "Binary Format", "Modules".
 //!
 //! Each section has a builder. The crate also decodes their items (`Readable` of `wasm_base`), walks

@@ -8,8 +8,6 @@ use crate::base::{Encode, Result, Section, SectionId, begin_size_prefixed, encod
 ///
 /// Core specification, Modules, Start Section.
 ///
-/// `function_index` is the index of the function that instantiation calls.
-///
 /// # Examples
 ///
 /// ```
@@ -22,14 +20,14 @@ use crate::base::{Encode, Result, Section, SectionId, begin_size_prefixed, encod
 /// ```
 #[derive(Clone, Copy, Debug)]
 pub struct StartSection {
-    /// The index of the function.
+    /// The index of the function that instantiation calls.
     pub function_index: u32,
 }
 
 /// The data count section, which [`Module::section`](crate::Module::section) takes before the
 /// code section.
 ///
-/// `count` is the number of data segments. Core specification, Modules, Data Count Section.
+/// Core specification, Modules, Data Count Section.
 ///
 /// # Examples
 ///

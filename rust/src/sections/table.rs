@@ -38,9 +38,6 @@ pub type TableSection<A = Global> = CountedSection<TableItems, A>;
 
 /// The kind of a table section's items: table types, some with an initializer expression.
 ///
-/// It is the type argument of [`CountedSection`](crate::fallible::CountedSection) in
-/// [`TableSection`](crate::fallible::TableSection).
-///
 /// # Examples
 ///
 /// ```
@@ -57,8 +54,7 @@ pub struct TableItems;
 ///
 /// Core specification, Types, Table Types.
 ///
-/// `minimum` and `maximum` are its size in elements: the initial one, and the limit for
-/// `table.grow`. `shared` is of the shared-everything threads proposal.
+/// `shared` is of the shared-everything threads proposal.
 ///
 /// # Examples
 ///

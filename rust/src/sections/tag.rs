@@ -25,9 +25,6 @@ pub type TagSection<A = Global> = CountedSection<TagItems, A>;
 
 /// The kind of a tag section's items: tag types.
 ///
-/// It is the type argument of [`CountedSection`](crate::fallible::CountedSection) in
-/// [`TagSection`](crate::fallible::TagSection).
-///
 /// # Examples
 ///
 /// ```

@@ -558,7 +558,7 @@ pub(crate) const REC: u8 = 0x4E;
 ///
 /// # Errors
 ///
-/// Any error but `Memory` means that the bytes are not such a payload.
+/// Every error except `Memory` means that the bytes are not such a payload.
 ///
 /// # Examples
 ///

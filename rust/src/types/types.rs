@@ -11,8 +11,7 @@ use crate::base::{Encode, Lent, Result, ValType};
 ///
 /// Core specification, Types, Composite Types.
 ///
-/// `I8` and `I16` are packed integers, and `Val` is a value type. A [`ValType`](crate::ValType)
-/// converts to it.
+/// A [`ValType`](crate::ValType) converts to it.
 ///
 /// # Examples
 ///
@@ -39,8 +38,6 @@ pub enum StorageType {
 /// takes.
 ///
 /// Core specification, Types, Composite Types.
-///
-/// `element_type` is the type of its content, and `mutable` says whether it can be set.
 ///
 /// # Examples
 ///

@@ -12,7 +12,7 @@ use dolzhytik::reader::{ReadError, Section, Sections};
 ///
 /// # Errors
 ///
-/// An error but `Memory` means that the bytes are no module: the header, then sections of any
+/// Every error except `Memory` means that the bytes are no module: the header, then sections of any
 /// payload.
 ///
 /// # Proved

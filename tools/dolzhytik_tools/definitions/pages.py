@@ -24,7 +24,7 @@ TOPICS = {
     'wasm_types': 'The type section',
     'wasm_insn': 'Instructions, their opcodes and immediates',
     'wasm_code': 'Constant expressions, function bodies and the code section',
-    'wasm_sections': 'The core sections but types and code',
+    'wasm_sections': 'The core sections except types and code',
     'wasm_custom': 'Custom sections',
     'wasm_reader': 'Modules and their sections, decoded and minimized',
     'wasm_tool': 'Recipes of modules',

@@ -232,8 +232,8 @@ impl<'a, A: Allocator> TryFrom<(Op, &'a [Arg<A>])> for Instruction<'a> {
 ///
 /// # Errors
 ///
-/// Returns [`ReadFault::Memory`] if an allocation fails, but for that of a list, which aborts. Any
-/// other error means that the bytes of the operands were not decoded as this instruction.
+/// Returns [`ReadFault::Memory`] if an allocation fails. That of a list aborts instead. Every other
+/// error means that the bytes of the operands were not decoded as this instruction.
 ///
 /// ```
 /// use dolzhytik::Instruction;

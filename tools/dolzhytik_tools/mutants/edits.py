@@ -104,7 +104,7 @@ def edits_of(crate: str, top: str, folders: Sequence[str] = FOLDERS) -> dict[str
     return found
 
 
-# The ledger's checksums cover this code but for comments and docstrings: see judging.py.
+# The ledger's checksums cover this code except comments and docstrings: see judging.py.
 def read_edit(crate, name, text, at=""):
     """Reads a mutant, whose pairs apply in turn, and finds its changes of each file."""
     edit, path, old, behind, were, texts = Edit(f"{crate}/{name}", text, at), None, None, "", {}, {}

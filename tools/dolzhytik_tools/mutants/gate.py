@@ -43,7 +43,7 @@ class Gate:
         return sum(map(os.path.getsize, checksums.files_below(f"crates/{name}/src")))
 
     def record(self, name: str, tried: list[Edit]) -> None:
-        """Records verdicts, but for those of files that changed while the prover ran."""
+        """Records verdicts, except those of files that changed while the prover ran."""
         checksums.forget()
         after = sums_of(self.repository, name, tried)
         labels = {it.label for edits in self.found[name].values() for it in edits}

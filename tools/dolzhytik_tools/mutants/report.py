@@ -10,7 +10,7 @@ MISSING_NAME = re.compile(r"has no field|is not in scope|has no `|was not admitt
 ELSEWHERE = re.compile(r"it calls|it passes|a call of|it waits for|depends on")
 
 
-# The ledger's checksums cover this code but for comments and docstrings: see judging.py.
+# The ledger's checksums cover this code except comments and docstrings: see judging.py.
 @dataclass
 class Failure:
     symbol: str

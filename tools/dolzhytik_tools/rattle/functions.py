@@ -1,6 +1,6 @@
 """The functions of a source, and their names in the prover.
 
-The ledger covers the code of this module but for comments and docstrings (mutants/judging.py): any
+The ledger covers the code of this module except comments and docstrings (mutants/judging.py): any
 other change of it makes every checksum of tools/mutants.ledger differ.
 """
 from __future__ import annotations

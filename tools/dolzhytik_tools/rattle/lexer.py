@@ -13,7 +13,7 @@ SPACE, COMMENT, LITERAL, LIFETIME, NUMBER, WORD, MARK = "space", "comment", "lit
 
 # The marks that tell types and paths apart.
 RATTLE_MARKS = ("::", "->", "=>", "..=", "..")
-# The operators of Rust that have several characters, but `>>`, which also closes two angles.
+# The operators of Rust that have several characters, except `>>`, which also closes two angles.
 RUST_MARKS = (
     "+=", "-=", "*=", "<<=", "<<", "->", "=>", "==", "!=", "<=", ">=", "&&", "||", "::", "..=", "..",
 )

@@ -145,7 +145,7 @@ def writes_a_page() -> None:
 
 
 def escapes_markdown() -> None:
-    """A sentence is text in Markdown, but for what is in backticks."""
+    """A sentence is text in Markdown, except the text in backticks."""
     assert prose('a_b [c] <d> `e_f` `g`', {'g': 'h::g'}) == 'a\\_b \\[c\\] \\<d\\> `e_f` [`g`](h::g)'
 
 

@@ -1,6 +1,6 @@
 """Tests of tools/to-rust, of all sources and of small ones.
 
-The tokens of a source are those of its Rust but for edits, each of a form that its reason
+The tokens of a source are those of its Rust except edits, each of a form that its reason
 allows. Bad inputs stop the tool at their line. Generated files that are changed, missing or left
 over are reported.
 """
@@ -141,7 +141,7 @@ def is_shown(text: str) -> bool:
 
 
 def clause_trouble() -> str | None:
-    """Each clause of a source is in its Rust, word for word, but for private functions of
+    """Each clause of a source is in its Rust, word for word, except private functions of
     libraries."""
     for file in sources():
         written = written_of(file)

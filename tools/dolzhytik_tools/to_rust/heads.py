@@ -31,7 +31,7 @@ DECLARED = re.compile(r'^pub (?:struct|enum|trait|type|fn|const) (\w+)', re.MULT
 
 @functools.lru_cache(maxsize=None)
 def public_names() -> dict[str, str]:
-    """Returns the module of each public name of the package but for the root."""
+    """Returns the module of each public name of the package except the root."""
     found = {name: 'fallible' for name in BY_HAND_NAMES}
     for it in sources():
         if it.crate.name in LIBRARIES:

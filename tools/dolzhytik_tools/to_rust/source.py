@@ -98,7 +98,7 @@ class Source:
             self.stop(place, str(unclosed))
 
     def after(self, place: int, *words: str) -> int | None:
-        """Returns the token after these, which begin at `place` but for spaces and comments, or
+        """Returns the token after these, which begin at `place` except spaces and comments, or
         None."""
         for word in words:
             place = self.skip(place)

@@ -25,7 +25,7 @@ class Feature:
     feature: str
 
 # The libraries, and the module of the package that each becomes. A module within another is
-# declared there. All but `reader` are private in the package.
+# declared there. All except `reader` are private in the package.
 LIBRARIES = {
     'wasm_base': 'base',
     'wasm_immediates': 'immediates',

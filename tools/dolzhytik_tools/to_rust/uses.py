@@ -36,7 +36,7 @@ def use_places(source: Source) -> Iterator[int]:
 
 
 def names_used(source: Source) -> set[str]:
-    """Returns the names in the tokens that stay, but for those of `use`s."""
+    """Returns the names in the tokens that stay, except those of `use`s."""
     names = set()
     skipped = set()
     for place in use_places(source):
