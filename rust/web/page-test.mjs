@@ -955,6 +955,19 @@ const large = {
     await page.resize(1600, 1000);
   },
 
+  async 'a list is asked for at once, and comes in messages in their order'(page) {
+    const answers = await page.run(async () => {
+      const { received } = await import('/page/engine.js');
+      const asked = [];
+      const call = (at) => new Promise((answer) => asked.push({ at, answer }));
+      const list = received(4500, call, (item) => -item);
+      const starts = asked.map(({ at }) => at);
+      asked.forEach(({ at, answer }) => answer(at ? [at] : [1, 2]));
+      return { starts, items: await list };
+    });
+    assert.deepEqual(answers, { starts: [0, 2000, 4000], items: [-1, -2, -2000, -4000] });
+  },
+
   async 'nothing moves while it is minimized'(page) {
     await page.resize(400, 900);
     await page.choose(path.join(room, 'large.wasm'));
