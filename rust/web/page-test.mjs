@@ -16,10 +16,10 @@ import { fileURLToPath } from 'node:url';
 import { faultyControls, leastContrast } from './access.mjs';
 import { Browser, findChromium } from './chromium.mjs';
 import {
-  CALLS, EXPORT, FUNCTION, HEADER, OBJECT, PADDED, TYPES, WITH_OFFSETS, custom, groupedModule, largeModule, leb, moduleOf,
-  namedModule, section,
+  CALLS, EXPORT, FUNCTION, HEADER, OBJECT, PADDED, TYPES, WITH_OFFSETS, custom, groupedModule, largeModule, moduleOf,
+  namedModule, section, segmentsModule,
 } from './modules.mjs';
-import { CTRL, Page, scrollList, serve, sleep } from './tab.mjs';
+import { CTRL, Page, scrollList, serve } from './tab.mjs';
 
 const HERE = path.dirname(fileURLToPath(import.meta.url));
 const only = process.env.PAGE_TESTS;
@@ -503,6 +503,8 @@ const keyboard = {
   async 'every control by Tab, and the download by Enter'(page, library) {
     await page.choose(fileOf('tabs.wasm', WITH_OFFSETS));
     await page.until(hasAnswer);
+    // The treemap is drawn again when the functions are known, which takes the focus from it.
+    await page.until(hasParts);
     await blur(page);
     const order = [
       '#file', '#example', '#write', '#compare', '#bar *', '#map .cell', '#sections button', '#sections tr', '#search',
@@ -821,11 +823,22 @@ function overflow() {
 function watchShifts() {
   window.shifts = [];
   const textOf = ({ value, sources }) => `${value}: ${sources.map(({ node }) => node?.id || node?.className)}`;
-  const keep = (list) => {
-    const moved = list.getEntries().filter(({ hadRecentInput }) => !hadRecentInput);
+  window.keepShifts = (entries) => {
+    const moved = entries.filter(({ hadRecentInput }) => !hadRecentInput);
     window.shifts.push(...moved.map(textOf));
   };
-  new PerformanceObserver(keep).observe({ type: 'layout-shift' });
+  window.shiftObserver = new PerformanceObserver((list) => window.keepShifts(list.getEntries()));
+  window.shiftObserver.observe({ type: 'layout-shift' });
+}
+
+/** The layout shifts up to now, with those of which the observer was not called yet. */
+async function shiftsOf(page) {
+  await page.painted();
+  return page.run(() => {
+    window.keepShifts(window.shiftObserver.takeRecords());
+    window.shiftObserver.disconnect();
+    return window.shifts;
+  });
 }
 
 /** Checks the contrast, and returns the background. */
@@ -867,7 +880,7 @@ const looks = {
       if (files.length > 1) await page.until(() => !document.getElementById('comparison').hidden);
       for (const [width, height] of [[1280, 800], [390, 844]]) {
         await page.resize(width, height);
-        await sleep(100);
+        await page.painted();
         assert.deepEqual(await page.run(faultyControls), [], `${its} at ${width}`);
         const over = await page.run(() => document.scrollingElement.scrollWidth - innerWidth);
         assert.ok(over <= 0, `${its} at ${width}`);
@@ -904,8 +917,7 @@ const looks = {
     await page.choose(fileOf(path.basename(modules[0]), fs.readFileSync(modules[0])));
     await page.until(hasAnswer);
     await page.until(hasItems);
-    await sleep(200);
-    assert.deepEqual(await page.run(() => window.shifts), []);
+    assert.deepEqual(await shiftsOf(page), []);
   },
 };
 
@@ -915,7 +927,7 @@ const large = {
     const file = fileOf('large.wasm', bytes);
     const start = performance.now();
     await page.choose(file);
-    await page.run(() => new Promise((done) => requestAnimationFrame(() => setTimeout(done))));
+    await page.painted();
     const ms = performance.now() - start;
     console.log(`${number(bytes.length)} bytes: the table is painted after ${ms.toFixed()} ms`);
     assert.deepEqual(await rows(page), library.outline(bytes).map(rowOf));
@@ -939,8 +951,7 @@ const large = {
 
   async 'of 80,000 parts and rows, few are elements'(page) {
     await page.resize(1280, 800);
-    const segments = section(11, leb(80_000), Buffer.alloc(4 * 80_000, Buffer.from([0x01, 0x02, 0xaa, 0xbb])));
-    for (const [name, bytes] of [['segments', moduleOf(segments)], ['functions', groupedModule(80_000, 4_000_000)]]) {
+    for (const [name, bytes] of [['segments', segmentsModule(80_000)], ['functions', groupedModule(80_000, 4_000_000)]]) {
       await page.choose(fileOf(`${name}.wasm`, bytes));
       await page.until(hasParts);
       const parts = await page.count('#map .part');
@@ -974,8 +985,7 @@ const large = {
     await showSavings(page);
     await page.run(watchShifts);
     await page.until(hasAnswer);
-    await sleep(200);
-    assert.deepEqual(await page.run(() => window.shifts), []);
+    assert.deepEqual(await shiftsOf(page), []);
     await page.resize(1600, 1000);
   },
 
