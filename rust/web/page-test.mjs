@@ -557,6 +557,8 @@ const treemap = {
     const functions = [['a::x', 40], ['a::y', 30], ['b::z', 20], ['main', 8]];
     await page.choose(fileOf('groups.wasm', namedModule(functions)));
     await page.until(hasParts);
+    const colors = () => [...document.querySelectorAll('#map .part')].map((it) => getComputedStyle(it).backgroundColor);
+    assert.equal(new Set(await page.run(colors)).size, 3);
     await blur(page);
     await tabTo(page, '#map .cell');
     assert.ok((await cellsOf(page))[0].label.startsWith('code, '));
@@ -678,8 +680,13 @@ const functions = {
     await titleIs(page, 'two');
     await page.run(() => (location.hash = '#offset=0x9'));
     await page.until(() => document.querySelector('#bytes .spot')?.dataset.offset === '9');
-    await page.run(() => (location.hash = '#function=7'));
+    // The items of the section with the byte come after the text about the function.
+    await page.run(() => (location.hash = '#function=1'));
+    await titleIs(page, 'two');
+    await page.run(() => ['#offset=0x9', '#function=7'].forEach((hash) => (location.hash = hash)));
     await page.untilText('picked', 'The module has no function 7.');
+    await page.until(hasItems);
+    assert.equal(await page.text('picked'), 'The module has no function 7.');
   },
 
   async 'the address of a page is shown when a file opens'(page) {
@@ -736,11 +743,11 @@ const comparing = {
       const found = [...document.querySelectorAll('#changes tr')];
       return found.map(({ cells }) => [...cells].map((it) => it.textContent));
     });
-    const ofKind = (kind) => table.filter(([its]) => its === kind).map((row) => row.slice(1, 5));
+    const ofKind = (kind) => table.filter(([its]) => its === kind).map((row) => row.slice(1));
     // A body has its size prefix, the number of locals and `end` beside its instructions.
     assert.deepEqual(ofKind('function'), [
-      ['gone', '23', '–', '−23'], ['grows', '13', '28', '+15'], ['new', '–', '10', '+10'],
-      ['1 other', '7', '7', '0'],
+      ['gone', '23', '–', '−23', '−100%'], ['grows', '13', '28', '+15', '+115%'], ['new', '–', '10', '+10', '–'],
+      ['1 other', '7', '7', '0', '0%'],
     ]);
     const change = (found) => found.reduce((sum, row) => sum + Number(row[3].replace('−', '-').replace('+', '')), 0);
     assert.equal(change(ofKind('section')), now.length - old.length);
@@ -748,6 +755,15 @@ const comparing = {
     const cells = await cellsOf(page, 'changes-map');
     const labels = cells.slice(0, 3).map(({ label }) => label);
     assert.deepEqual(labels, ['gone −23, 23 bytes', 'grows +15, 15 bytes', 'new +10, 10 bytes']);
+    const legend = await page.text('changes-head');
+    assert.deepEqual(legend.trim().split(/\s{2,}/), ['Changes', 'grown or added', 'shrunk or removed']);
+    const colors = await page.run(() => {
+      const colorOf = (it) => getComputedStyle(it).backgroundColor;
+      const swatches = [...document.querySelectorAll('#changes-head .swatch')].map(colorOf);
+      return [swatches, [...document.getElementById('changes-map').children].map(colorOf)];
+    });
+    const [[grown, shrunk], [gone, grows, added]] = colors;
+    assert.deepEqual([gone, grows, added], [shrunk, grown, grown]);
     // Functions of the open file are links, in the table and in the treemap.
     assert.deepEqual(await textsOf(page, '#changes a'), ['grows', 'new']);
     await page.click('#changes a');
@@ -766,7 +782,8 @@ const comparing = {
       await page.send('Input.dispatchDragEvent', { type, x: 800, y: 500, data });
     }
     await page.untilText('comparison-title', 'a.wasm → b.wasm');
-    assert.equal(await page.run(() => document.getElementById('no-changes').hidden), false);
+    const hidden = () => ['no-changes', 'changes-head', 'changes-map'].map((id) => document.getElementById(id).hidden);
+    assert.deepEqual(await page.run(hidden), [false, true, true]);
     await page.click('#comparison-close');
     assert.equal(await page.run(() => document.getElementById('comparison').hidden), true);
   },
@@ -956,6 +973,8 @@ const large = {
       await page.until(hasParts);
       const parts = await page.count('#map .part');
       assert.ok(parts < 2000, `${parts} parts of ${name}`);
+      // The data section has no groups: segments that are not shown one by one are in others.
+      if (name === 'segments') assert.match((await textsOf(page, '#map .part')).join(), /\d others of at most 4 bytes/);
     }
     await page.until(hasAnswer);
     await page.click('#sections tbody tr[data-index="2"]');

@@ -236,6 +236,9 @@ function signature({ type, locals }) {
 function noteMissing(index) {
   const name = state.parts.imported[index];
   const text = name ? `Function ${index} is imported: ${escaped(name)}` : `The module has no function ${index}.`;
+  // No byte is chosen any more: items that come later would replace the text by that of the byte.
+  byteView.spot = -1;
+  byteView.rows.draw();
   byId('items-note').textContent = text;
   byId('picked').textContent = text;
 }
