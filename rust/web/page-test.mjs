@@ -689,6 +689,16 @@ const functions = {
     assert.equal(await page.text('picked'), 'The module has no function 7.');
   },
 
+  async 'the way back from a function of an address is to that function'(page) {
+    const names = Array.from({ length: 300 }, (_, index) => [`f${index}`, 1]);
+    await page.choose(fileOf('many-functions.wasm', namedModule(names)));
+    await page.run(() => (location.hash = '#function=250'));
+    await titleIs(page, 'f250');
+    await page.click('#back');
+    await page.until(isInView);
+    assert.equal(await page.run(() => document.querySelector('#items [aria-selected=true]').id), 'item-250');
+  },
+
   async 'the address of a page is shown when a file opens'(page) {
     const other = new Page(page.browser, room, null);
     await other.start(page.origin, '/#function=1');

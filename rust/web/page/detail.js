@@ -113,6 +113,8 @@ function showItems({ section, items, isCut, error }) {
   byId('items-facts').textContent = isFull ? `the first ${count}` : cut;
   itemList.show(items, whyNoItems(section, error));
   if (byteView.spot >= 0) markItemAt(byteView.spot);
+  // The function that an address or the treemap has opened, for the way back to the list.
+  else if (shown) itemList.mark(items.indexOf(shown));
 }
 
 // Items and bytes.
