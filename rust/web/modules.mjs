@@ -99,6 +99,11 @@ export function groupedModule(count, size, groups = 40) {
   return namedModule(Array.from({ length: count }, (_, index) => [`group${index % groups}::f${index}`, sizeOf(index)]));
 }
 
+/** A module of this many passive data segments, of two bytes each. */
+export function segmentsModule(count) {
+  return moduleOf(section(11, leb(count), Buffer.alloc(4 * count, Buffer.from([0x01, 0x02, 0xaa, 0xbb]))));
+}
+
 /**
  * An object file. Its function `main` calls `env.printf`, takes the address of `far` less 2, and
  * that of itself. Linking section and relocations are those of the tool conventions.

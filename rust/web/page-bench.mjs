@@ -1,7 +1,8 @@
 #!/usr/bin/env node
 // Measures the page in chromium: how long a module of 50 MB takes to open, a treemap of 20,000
 // functions to draw, and a step of scrolling 80,000 functions. Times that are not processor time
-// depend on what else the machine does.
+// depend on what else the machine does. The longest task, of the thread of the page, is that of
+// scrolling, and that of opening 80,000 data segments or functions until they are in the treemap.
 //
 //     rust/web/page-bench.mjs
 //
@@ -11,12 +12,12 @@ import fs from 'node:fs';
 import os from 'node:os';
 import path from 'node:path';
 import { Browser, findChromium } from './chromium.mjs';
-import { groupedModule } from './modules.mjs';
+import { groupedModule, segmentsModule } from './modules.mjs';
 import { Page, scrollList, serve } from './tab.mjs';
 
 const room = fs.mkdtempSync(path.join(os.tmpdir(), 'dolzhytik-bench-'));
+const isMinimized = () => document.getElementById('saving').textContent !== 'Minimizing';
 const hasParts = () => document.querySelectorAll('#map .part').length > 0;
-const isPainted = () => new Promise((done) => requestAnimationFrame(() => setTimeout(() => done(true))));
 
 function fileOf(name, bytes) {
   const file = path.join(room, name);
@@ -29,11 +30,18 @@ const said = (ms, what) => console.log(`${ms.toFixed().padStart(6)} ms  ${what}`
 async function open(page, file, what) {
   const start = performance.now();
   await page.choose(file);
-  await page.run(isPainted);
+  await page.painted();
   said(performance.now() - start, `${what}: the table is painted`);
   await page.until(hasParts);
-  await page.run(isPainted);
-  said(performance.now() - start, `${what}: the functions are in the treemap`);
+  await page.painted();
+  said(performance.now() - start, `${what}: all are in the treemap`);
+}
+
+/** Opens a file, and measures the tasks meanwhile too. */
+async function openTraced(page, file, what) {
+  const { longest } = await page.traced(() => open(page, file, what));
+  said(longest, `${what}: the longest task, in processor time`);
+  await page.until(isMinimized);
 }
 
 /** Goes into the code section of the treemap. Runs in the page. */
@@ -59,12 +67,12 @@ async function measure(page) {
   await page.resize(1280, 800);
   await measureTreemap(page, 40);
   await measureTreemap(page, 1);
+  await openTraced(page, fileOf('segments.wasm', segmentsModule(80_000)), '0.3 MB, 80,000 data segments');
   const file = fileOf('large.wasm', groupedModule(80_000, 50_000_000));
-  await open(page, file, `${(fs.statSync(file).size / 1e6).toFixed(1)} MB, 80,000 functions`);
-  await page.until(() => document.getElementById('saving').textContent !== 'Minimizing');
+  await openTraced(page, file, `${(fs.statSync(file).size / 1e6).toFixed(1)} MB, 80,000 functions`);
   await page.run(() => document.querySelector('#sections tbody tr[data-index="2"]').click());
   await page.until(() => document.getElementById('items-facts').textContent === '80,000');
-  await page.run(isPainted);
+  await page.painted();
   for (let round = 1; round <= 3; round += 1) {
     const { value: { times, rows }, longest } = await page.traced(() => page.run(scrollList));
     const what = `scrolling ${rows.toLocaleString('en-US')} rows, round ${round}`;

@@ -16,10 +16,10 @@ import { fileURLToPath } from 'node:url';
 import { faultyControls, leastContrast } from './access.mjs';
 import { Browser, findChromium } from './chromium.mjs';
 import {
-  CALLS, EXPORT, FUNCTION, HEADER, OBJECT, PADDED, TYPES, WITH_OFFSETS, custom, groupedModule, largeModule, leb, moduleOf,
-  namedModule, section,
+  CALLS, EXPORT, FUNCTION, HEADER, OBJECT, PADDED, TYPES, WITH_OFFSETS, custom, groupedModule, largeModule, moduleOf,
+  namedModule, section, segmentsModule,
 } from './modules.mjs';
-import { CTRL, Page, scrollList, serve, sleep } from './tab.mjs';
+import { CTRL, Page, scrollList, serve } from './tab.mjs';
 
 const HERE = path.dirname(fileURLToPath(import.meta.url));
 const only = process.env.PAGE_TESTS;
@@ -503,6 +503,8 @@ const keyboard = {
   async 'every control by Tab, and the download by Enter'(page, library) {
     await page.choose(fileOf('tabs.wasm', WITH_OFFSETS));
     await page.until(hasAnswer);
+    // The treemap is drawn again when the functions are known, which takes the focus from it.
+    await page.until(hasParts);
     await blur(page);
     const order = [
       '#file', '#example', '#write', '#compare', '#bar *', '#map .cell', '#sections button', '#sections tr', '#search',
@@ -555,6 +557,8 @@ const treemap = {
     const functions = [['a::x', 40], ['a::y', 30], ['b::z', 20], ['main', 8]];
     await page.choose(fileOf('groups.wasm', namedModule(functions)));
     await page.until(hasParts);
+    const colors = () => [...document.querySelectorAll('#map .part')].map((it) => getComputedStyle(it).backgroundColor);
+    assert.equal(new Set(await page.run(colors)).size, 3);
     await blur(page);
     await tabTo(page, '#map .cell');
     assert.ok((await cellsOf(page))[0].label.startsWith('code, '));
@@ -676,8 +680,23 @@ const functions = {
     await titleIs(page, 'two');
     await page.run(() => (location.hash = '#offset=0x9'));
     await page.until(() => document.querySelector('#bytes .spot')?.dataset.offset === '9');
-    await page.run(() => (location.hash = '#function=7'));
+    // The items of the section with the byte come after the text about the function.
+    await page.run(() => (location.hash = '#function=1'));
+    await titleIs(page, 'two');
+    await page.run(() => ['#offset=0x9', '#function=7'].forEach((hash) => (location.hash = hash)));
     await page.untilText('picked', 'The module has no function 7.');
+    await page.until(hasItems);
+    assert.equal(await page.text('picked'), 'The module has no function 7.');
+  },
+
+  async 'the way back from a function of an address is to that function'(page) {
+    const names = Array.from({ length: 300 }, (_, index) => [`f${index}`, 1]);
+    await page.choose(fileOf('many-functions.wasm', namedModule(names)));
+    await page.run(() => (location.hash = '#function=250'));
+    await titleIs(page, 'f250');
+    await page.click('#back');
+    await page.until(isInView);
+    assert.equal(await page.run(() => document.querySelector('#items [aria-selected=true]').id), 'item-250');
   },
 
   async 'the address of a page is shown when a file opens'(page) {
@@ -734,11 +753,11 @@ const comparing = {
       const found = [...document.querySelectorAll('#changes tr')];
       return found.map(({ cells }) => [...cells].map((it) => it.textContent));
     });
-    const ofKind = (kind) => table.filter(([its]) => its === kind).map((row) => row.slice(1, 5));
+    const ofKind = (kind) => table.filter(([its]) => its === kind).map((row) => row.slice(1));
     // A body has its size prefix, the number of locals and `end` beside its instructions.
     assert.deepEqual(ofKind('function'), [
-      ['gone', '23', '–', '−23'], ['grows', '13', '28', '+15'], ['new', '–', '10', '+10'],
-      ['1 other', '7', '7', '0'],
+      ['gone', '23', '–', '−23', '−100%'], ['grows', '13', '28', '+15', '+115%'], ['new', '–', '10', '+10', '–'],
+      ['1 other', '7', '7', '0', '0%'],
     ]);
     const change = (found) => found.reduce((sum, row) => sum + Number(row[3].replace('−', '-').replace('+', '')), 0);
     assert.equal(change(ofKind('section')), now.length - old.length);
@@ -746,6 +765,15 @@ const comparing = {
     const cells = await cellsOf(page, 'changes-map');
     const labels = cells.slice(0, 3).map(({ label }) => label);
     assert.deepEqual(labels, ['gone −23, 23 bytes', 'grows +15, 15 bytes', 'new +10, 10 bytes']);
+    const legend = await page.text('changes-head');
+    assert.deepEqual(legend.trim().split(/\s{2,}/), ['Changes', 'grown or added', 'shrunk or removed']);
+    const colors = await page.run(() => {
+      const colorOf = (it) => getComputedStyle(it).backgroundColor;
+      const swatches = [...document.querySelectorAll('#changes-head .swatch')].map(colorOf);
+      return [swatches, [...document.getElementById('changes-map').children].map(colorOf)];
+    });
+    const [[grown, shrunk], [gone, grows, added]] = colors;
+    assert.deepEqual([gone, grows, added], [shrunk, grown, grown]);
     // Functions of the open file are links, in the table and in the treemap.
     assert.deepEqual(await textsOf(page, '#changes a'), ['grows', 'new']);
     await page.click('#changes a');
@@ -764,7 +792,8 @@ const comparing = {
       await page.send('Input.dispatchDragEvent', { type, x: 800, y: 500, data });
     }
     await page.untilText('comparison-title', 'a.wasm → b.wasm');
-    assert.equal(await page.run(() => document.getElementById('no-changes').hidden), false);
+    const hidden = () => ['no-changes', 'changes-head', 'changes-map'].map((id) => document.getElementById(id).hidden);
+    assert.deepEqual(await page.run(hidden), [false, true, true]);
     await page.click('#comparison-close');
     assert.equal(await page.run(() => document.getElementById('comparison').hidden), true);
   },
@@ -821,11 +850,22 @@ function overflow() {
 function watchShifts() {
   window.shifts = [];
   const textOf = ({ value, sources }) => `${value}: ${sources.map(({ node }) => node?.id || node?.className)}`;
-  const keep = (list) => {
-    const moved = list.getEntries().filter(({ hadRecentInput }) => !hadRecentInput);
+  window.keepShifts = (entries) => {
+    const moved = entries.filter(({ hadRecentInput }) => !hadRecentInput);
     window.shifts.push(...moved.map(textOf));
   };
-  new PerformanceObserver(keep).observe({ type: 'layout-shift' });
+  window.shiftObserver = new PerformanceObserver((list) => window.keepShifts(list.getEntries()));
+  window.shiftObserver.observe({ type: 'layout-shift' });
+}
+
+/** The layout shifts up to now, with those of which the observer was not called yet. */
+async function shiftsOf(page) {
+  await page.painted();
+  return page.run(() => {
+    window.keepShifts(window.shiftObserver.takeRecords());
+    window.shiftObserver.disconnect();
+    return window.shifts;
+  });
 }
 
 /** Checks the contrast, and returns the background. */
@@ -867,7 +907,7 @@ const looks = {
       if (files.length > 1) await page.until(() => !document.getElementById('comparison').hidden);
       for (const [width, height] of [[1280, 800], [390, 844]]) {
         await page.resize(width, height);
-        await sleep(100);
+        await page.painted();
         assert.deepEqual(await page.run(faultyControls), [], `${its} at ${width}`);
         const over = await page.run(() => document.scrollingElement.scrollWidth - innerWidth);
         assert.ok(over <= 0, `${its} at ${width}`);
@@ -904,8 +944,7 @@ const looks = {
     await page.choose(fileOf(path.basename(modules[0]), fs.readFileSync(modules[0])));
     await page.until(hasAnswer);
     await page.until(hasItems);
-    await sleep(200);
-    assert.deepEqual(await page.run(() => window.shifts), []);
+    assert.deepEqual(await shiftsOf(page), []);
   },
 };
 
@@ -915,7 +954,7 @@ const large = {
     const file = fileOf('large.wasm', bytes);
     const start = performance.now();
     await page.choose(file);
-    await page.run(() => new Promise((done) => requestAnimationFrame(() => setTimeout(done))));
+    await page.painted();
     const ms = performance.now() - start;
     console.log(`${number(bytes.length)} bytes: the table is painted after ${ms.toFixed()} ms`);
     assert.deepEqual(await rows(page), library.outline(bytes).map(rowOf));
@@ -939,12 +978,13 @@ const large = {
 
   async 'of 80,000 parts and rows, few are elements'(page) {
     await page.resize(1280, 800);
-    const segments = section(11, leb(80_000), Buffer.alloc(4 * 80_000, Buffer.from([0x01, 0x02, 0xaa, 0xbb])));
-    for (const [name, bytes] of [['segments', moduleOf(segments)], ['functions', groupedModule(80_000, 4_000_000)]]) {
+    for (const [name, bytes] of [['segments', segmentsModule(80_000)], ['functions', groupedModule(80_000, 4_000_000)]]) {
       await page.choose(fileOf(`${name}.wasm`, bytes));
       await page.until(hasParts);
       const parts = await page.count('#map .part');
       assert.ok(parts < 2000, `${parts} parts of ${name}`);
+      // The data section has no groups: segments that are not shown one by one are in others.
+      if (name === 'segments') assert.match((await textsOf(page, '#map .part')).join(), /\d others of at most 4 bytes/);
     }
     await page.until(hasAnswer);
     await page.click('#sections tbody tr[data-index="2"]');
@@ -955,14 +995,26 @@ const large = {
     await page.resize(1600, 1000);
   },
 
+  async 'a list is asked for at once, and comes in messages in their order'(page) {
+    const answers = await page.run(async () => {
+      const { received } = await import('/page/engine.js');
+      const asked = [];
+      const call = (at) => new Promise((answer) => asked.push({ at, answer }));
+      const list = received(4500, call, (item) => -item);
+      const starts = asked.map(({ at }) => at);
+      asked.forEach(({ at, answer }) => answer(at ? [at] : [1, 2]));
+      return { starts, items: await list };
+    });
+    assert.deepEqual(answers, { starts: [0, 2000, 4000], items: [-1, -2, -2000, -4000] });
+  },
+
   async 'nothing moves while it is minimized'(page) {
     await page.resize(400, 900);
     await page.choose(path.join(room, 'large.wasm'));
     await showSavings(page);
     await page.run(watchShifts);
     await page.until(hasAnswer);
-    await sleep(200);
-    assert.deepEqual(await page.run(() => window.shifts), []);
+    assert.deepEqual(await shiftsOf(page), []);
     await page.resize(1600, 1000);
   },
 

@@ -5,7 +5,24 @@ import path from 'node:path';
 import { fileURLToPath } from 'node:url';
 
 const HERE = path.dirname(fileURLToPath(import.meta.url));
-export const sleep = (ms) => new Promise((resolve) => setTimeout(resolve, ms));
+/** After these milliseconds a condition that is waited for is an error. No test depends on them. */
+const LONGEST_WAIT = 120_000;
+const sleep = (ms) => new Promise((resolve) => setTimeout(resolve, ms));
+
+/** Waits until a function returns true, and throws what `late` returns if it does not. */
+async function waited(isTrue, late) {
+  const end = Date.now() + LONGEST_WAIT;
+  while (!(await isTrue())) {
+    if (Date.now() > end) throw new Error(`not in ${LONGEST_WAIT / 1000} s: ${late()}`);
+    await sleep(10);
+  }
+}
+
+/** Waits until two frames are painted, in which observers of sizes have taken the new ones. */
+function painted() {
+  const frame = () => new Promise((done) => requestAnimationFrame(() => setTimeout(done)));
+  return frame().then(frame);
+}
 
 // ---- The server.
 
@@ -154,12 +171,13 @@ export class Page {
   }
 
   /** Waits until a function in the page returns true. */
-  async until(call, ...values) {
-    const end = Date.now() + 20_000;
-    while (!(await this.run(call, ...values))) {
-      if (Date.now() > end) throw new Error(`not in 20 s: ${call} ${values}`);
-      await sleep(10);
-    }
+  until(call, ...values) {
+    return waited(() => this.run(call, ...values), () => `${call} ${values}`);
+  }
+
+  /** Waits until the page is painted as it is now. */
+  painted() {
+    return this.run(`async () => { ${painted}; await painted(); return true; }`);
   }
 
   text(id) {
@@ -178,8 +196,10 @@ export class Page {
     return this.run((it) => document.querySelectorAll(it).length, selector);
   }
 
-  resize(width, height) {
-    return this.send('Emulation.setDeviceMetricsOverride', { width, height, deviceScaleFactor: 1, mobile: false });
+  async resize(width, height) {
+    const metrics = { width, height, deviceScaleFactor: 1, mobile: false };
+    await this.send('Emulation.setDeviceMetricsOverride', metrics);
+    await this.until((x, y) => innerWidth === x && innerHeight === y, width, height);
   }
 
   dark(isDark) {
@@ -225,7 +245,7 @@ export class Page {
 
   async downloaded(name) {
     this.#read += 1;
-    for (let turn = 0; turn < 1000 && this.downloads < this.#read; turn += 1) await sleep(10);
+    await waited(() => this.downloads >= this.#read, () => `the download of ${name}`);
     return new Uint8Array(fs.readFileSync(path.join(this.room, name)));
   }
 
@@ -233,7 +253,7 @@ export class Page {
   async shot(name, isTop = true) {
     if (!this.shots) return;
     if (isTop) await this.run(() => scrollTo(0, 0));
-    await sleep(150);
+    await this.painted();
     const { data } = await this.send('Page.captureScreenshot', { format: 'png' });
     fs.mkdirSync(this.shots, { recursive: true });
     fs.writeFileSync(path.join(this.shots, `${name}.png`), Buffer.from(data, 'base64'));

@@ -135,6 +135,10 @@ fn sections_that_the_module_lacks() {
     };
     check("--section=data", "\"data\"");
     check("--section=na\nmes", "\"na\\nmes\"");
+    check("--section=cod", "\"cod\"; did you mean \"code\"?");
+    let fault = folder.call(&["dump", "-", "--section=nmae"], &module(&[SHORT_NAME]));
+    let why = "standard input: no section \"nmae\"; did you mean \"name\"?";
+    assert_eq!(fault, Answer::fault(why));
     check("--section=+3", "\"+3\"");
     // The code section has number 4 and id 10.
     check("--section=10", "10: the module has 4; --id selects by id");

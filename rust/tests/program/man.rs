@@ -1,6 +1,7 @@
 //! `dolzhytik help --man`.
 use crate::program::{COMMANDS, Folder, answer_of};
 use std::process::Command;
+use std::{env, fs, iter};
 
 fn page() -> String {
     let answer = Folder::new("man").call(&["help", "--man"], b"");
@@ -99,4 +100,34 @@ fn the_page_has_no_warning() {
     let text = String::from_utf8(answer.out).unwrap();
     assert!(text.contains("\n   completions\n"), "{text}");
     assert!(text.contains("\n       -o FILE, --output FILE\n"), "{text}");
+}
+
+/// Whether `man` is that of man-db.
+fn is_man_db() -> bool {
+    let answer = Command::new("man").arg("--version").output();
+    answer.is_ok_and(|it| it.stdout.starts_with(b"man 2."))
+}
+
+/// `man` finds the page where PROGRAMS.md installs it: beside the folder `bin` with the program.
+/// Where man-db is missing, the test prints so, and passes.
+#[test]
+fn man_finds_the_page() {
+    if !is_man_db() {
+        eprintln!("there is no man-db");
+        return;
+    }
+    let folder = Folder::new("man_installed");
+    let (bin, pages) = (folder.path("bin"), folder.path("share/man/man1"));
+    let installed = pages.join("dolzhytik.1");
+    fs::create_dir_all(&bin).unwrap();
+    fs::create_dir_all(&pages).unwrap();
+    fs::write(&installed, page()).unwrap();
+    let path = env::var_os("PATH").unwrap_or_default();
+    let folders = iter::once(bin).chain(env::split_paths(&path));
+    let mut man = Command::new("man");
+    man.args(["-w", "dolzhytik"]).env_remove("MANPATH");
+    man.env("PATH", env::join_paths(folders).unwrap());
+    let answer = answer_of(&mut man, b"");
+    let found = String::from_utf8(answer.out).unwrap();
+    assert_eq!(found.trim_end(), installed.to_str().unwrap());
 }

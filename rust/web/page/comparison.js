@@ -14,17 +14,18 @@ const labels = {
   data: ({ index, name }) => (name === null ? `data ${index}` : escaped(name)),
 };
 
+const signedShare = (change, before) => signed(change / before, percent.format);
+
 /** The address of a function that the open file has, or null. */
 const addressOf = ({ index, after }) => (after === null ? null : `#function=${index}`);
 
 function row(group, label, { before, after, change }, href = null) {
-  const share = before ? percent.format(change / before) : '–';
   const text = make('bdi', { textContent: label });
   const name = make('th', { scope: 'row', className: 'name', title: label }, href ? make('a', { href }, text) : text);
   const element = make('tr', { className: sign(change) });
   const size = (value) => numberCell(value === null ? '–' : number(value));
   element.append(make('td', { textContent: group }), name, size(before), size(after));
-  element.append(numberCell(signed(change)), numberCell(change === 0 ? '0%' : share.replace(/^-/, '−')));
+  element.append(numberCell(signed(change)), numberCell(before ? signedShare(change, before) : '–'));
   return element;
 }
 
@@ -68,7 +69,7 @@ function showTable(found) {
 /** Shows the changes from the file of one name to that of another. */
 export function showComparison(before, after, found) {
   const change = found.after - found.before;
-  const share = found.before ? ` (${change < 0 ? '−' : '+'}${percent.format(Math.abs(change) / found.before)})` : '';
+  const share = found.before ? ` (${signedShare(change, found.before)})` : '';
   byId('comparison').hidden = false;
   byId('comparison-title').textContent = `${before} → ${after}`;
   byId('comparison-facts').textContent =
@@ -78,6 +79,7 @@ export function showComparison(before, after, found) {
   map ??= new Treemap(byId('changes-map'), byId('changes-path'), describe);
   const nodes = nodesOf(found);
   const hasChanges = nodes.some(({ size }) => size > 0);
+  byId('changes-head').hidden = !hasChanges;
   byId('changes-map').hidden = !hasChanges;
   byId('no-changes').hidden = hasChanges;
   if (hasChanges) map.show({ label: 'Changes', size: 1, kind: '', children: () => nodes });

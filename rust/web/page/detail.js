@@ -113,6 +113,8 @@ function showItems({ section, items, isCut, error }) {
   byId('items-facts').textContent = isFull ? `the first ${count}` : cut;
   itemList.show(items, whyNoItems(section, error));
   if (byteView.spot >= 0) markItemAt(byteView.spot);
+  // The function that an address or the treemap has opened, for the way back to the list.
+  else if (shown) itemList.mark(items.indexOf(shown));
 }
 
 // Items and bytes.
@@ -236,6 +238,9 @@ function signature({ type, locals }) {
 function noteMissing(index) {
   const name = state.parts.imported[index];
   const text = name ? `Function ${index} is imported: ${escaped(name)}` : `The module has no function ${index}.`;
+  // No byte is chosen any more: items that come later would replace the text by that of the byte.
+  byteView.spot = -1;
+  byteView.rows.draw();
   byId('items-note').textContent = text;
   byId('picked').textContent = text;
 }

@@ -8,8 +8,11 @@ export const counted = (count, noun) => `${number(count)} ${noun}${count === 1 ?
 export const range = (from, to) => (to - from > 1 ? `${hex(from)} to ${hex(to - 1)}` : hex(from));
 export const byId = (id) => document.getElementById(id);
 
-/** The change of a number, with its sign. */
-export const signed = (value) => (value > 0 ? `+${number(value)}` : value < 0 ? `−${number(-value)}` : '0');
+/** The change of a number, with its sign. `format` writes numbers. */
+export const signed = (value, format = number) => {
+  if (value === 0) return format(0);
+  return `${value > 0 ? '+' : '−'}${format(Math.abs(value))}`;
+};
 
 /**
  * An element with properties (those with a dash are attributes) and children. Strings become text

@@ -1,4 +1,5 @@
 // The worker that makes all calls of the package, so that the page stays responsive.
+import { MESSAGE_ITEMS } from './limits.js';
 
 /** A worker, and its calls that have not returned. */
 export class Engine {
@@ -42,13 +43,17 @@ export class Engine {
 
 /**
  * A list of this length, which comes in messages of some items each. `call` returns those from a
- * position on.
+ * position on. All are asked for at once, so that the worker does not wait for the page, and each is
+ * a task of the page.
  */
 export async function received(count, call, each = (item) => item) {
   const items = [];
-  while (items.length < count) {
-    for (const item of await call(items.length)) items.push(each(item));
-  }
+  const take = (message) => {
+    for (const item of message) items.push(each(item));
+  };
+  const messages = [];
+  for (let at = 0; at < count; at += MESSAGE_ITEMS) messages.push(call(at).then(take));
+  await Promise.all(messages);
   return items;
 }
 

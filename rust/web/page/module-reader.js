@@ -6,9 +6,10 @@ import { sized } from '../sizes.js';
 import { HEADER_SIZE, MESSAGE_ITEMS, MOST_ITEMS } from './limits.js';
 import { Relocations } from './relocations.js';
 
-/** Sections that name and type functions and other entries, and those whose items have sizes. */
-const isNaming = ({ id, name }) => [1, 2, 3, 7].includes(id) || (id === 0 && (name === 'name' || name === 'linking'));
+/** Sections that name functions and other entries, those whose items have sizes, and those of types. */
+const isNaming = ({ id, name }) => id === 2 || id === 7 || (id === 0 && (name === 'name' || name === 'linking'));
 const isSized = ({ id }) => id === 10 || id === 11;
+const isTyping = ({ id }) => id >= 1 && id <= 3;
 
 /** The types of functions, by the index of the function. */
 function typesOf(sections) {
@@ -74,6 +75,8 @@ export class ModuleReader {
   #items = [];
   /** What the page does not keep of functions, by their indices. */
   #bodies = new Map();
+  /** The types of functions, when one was asked for. */
+  #types = null;
 
   constructor(bytes, posted) {
     this.#bytes = bytes;
@@ -127,26 +130,30 @@ export class ModuleReader {
     return { entries: entries.map(inFile), isCut: true, id };
   }
 
-  /** How many functions and data segments there are, and the names of imported functions. */
-  parts() {
+  /** The sections with their entries, where these are wanted, and the one that a damaged module ends in. */
+  #decoded(isWanted) {
     const indices = new Indices();
     const all = this.#sections.map((section, index) => {
-      const isWanted = isNaming(section) || isSized(section);
-      return { ...section, entries: isWanted ? this.#entries(index, indices).entries : [] };
+      return { ...section, entries: isWanted(section) ? this.#entries(index, indices).entries : [] };
     });
     if (this.#error) all.push({ id: null, name: null, ...this.#entries(this.#sections.length, indices) });
+    return all;
+  }
+
+  /** How many functions and data segments there are, and the names of imported functions. */
+  parts() {
+    const all = this.#decoded((section) => isNaming(section) || isSized(section));
     this.#named = all;
     this.#names = new Names(all);
+    const entries = (of) => all.filter(({ id }) => id === of).flatMap((section) => section.entries);
     const functions = sized(all, this.#names, 10);
-    const bodies = all.filter(({ id }) => id === 10).flatMap(({ entries }) => entries);
-    const types = typesOf(all);
-    functions.forEach((it, at) => {
-      const { body, locals, instruction_count: count } = bodies[at];
-      this.#bodies.set(it.index, { offset: it.offset, body, locals, type: types.get(it.index) });
-      it.count = count;
+    entries(10).forEach(({ body, locals, instruction_count: count }, at) => {
+      const { index, offset } = functions[at];
+      this.#bodies.set(index, { offset, body, locals });
+      functions[at].count = count;
     });
-    const names = {};
-    for (let index = 0; index < indices.imported('func'); index += 1) names[index] = this.#names.of('function', index);
+    const imported = entries(2).filter(({ kind }) => kind === 'func');
+    const names = Object.fromEntries(imported.map(({ index }) => [index, this.#names.of('function', index)]));
     this.#parts = { functions, data: sized(all, this.#names, 11) };
     const counts = { functions: functions.length, data: this.#parts.data.length };
     return { counts, imported: names };
@@ -177,7 +184,9 @@ export class ModuleReader {
    * and locals.
    */
   instructions(index) {
-    const { offset, body, locals, type } = this.#bodies.get(index);
+    const { offset, body, locals } = this.#bodies.get(index);
+    this.#types ??= typesOf(this.#decoded(isTyping));
+    const type = this.#types.get(index);
     const { instructions: found, error } = instructionsOf(this.#bytes, body, MOST_ITEMS);
     const entriesAt = (section, limit) => this.#entries(section, new Indices(), limit).entries;
     this.#relocations ??= new Relocations(this.#named, entriesAt);

@@ -21,8 +21,8 @@ export async function readParts() {
     if (!prefixes.has(prefix)) prefixes.set(prefix, prefix);
     return Object.assign(it, { prefix: prefixes.get(prefix), text: it.name ?? `function ${it.index}` });
   };
-  const functions = await received(counts.functions, (at) => reader.call('partsFrom', 'functions', at), asItem);
-  const data = await received(counts.data, (at) => reader.call('partsFrom', 'data', at));
+  const all = (which, each) => received(counts[which], (at) => reader.call('partsFrom', which, at), each);
+  const [functions, data] = await Promise.all([all('functions', asItem), all('data')]);
   return { functions, data, imported };
 }
 

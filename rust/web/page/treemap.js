@@ -56,7 +56,7 @@ function chunksOf(nodes) {
   return Array.from({ length: count }, (_, index) => {
     const its = nodes.slice(index * length, (index + 1) * length);
     const size = its.reduce((sum, it) => sum + it.size, 0);
-    const label = `${number(its.length)} of at most ${number(its[0]?.size ?? 0)} bytes`;
+    const label = `${number(its.length)} others of at most ${number(its[0]?.size ?? 0)} bytes`;
     return { label, size, kind: its[0]?.kind, children: () => its };
   }).filter(({ size }) => size > 0);
 }
@@ -143,7 +143,7 @@ export class Treemap {
     const inner = { x: 2, y: HEAD, width: width - 5, height: height - HEAD - 3 };
     if (inner.width < 20 || inner.height < 12) return [];
     return placed(node.children(), inner, MOST_NESTED).map(({ node: child, box }) => {
-      const part = make('div', { className: 'part', 'aria-hidden': true });
+      const part = make('div', { className: `part ${child.kind}`, 'aria-hidden': true });
       setBox(part, box);
       if (box.width > 44 && box.height > 17) part.append(labelOf(child));
       return part;

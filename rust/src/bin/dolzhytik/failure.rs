@@ -43,12 +43,7 @@ pub enum Failure {
     /// A section has no id or size, or does not decode.
     Section(BadSection),
     /// No section of the module is selected.
-    NoSection {
-        input: Input,
-        selector: Selector,
-        /// How many sections the module has.
-        count: usize,
-    },
+    NoSection(NoSection),
     /// The selected function is an import.
     NoBody {
         input: Input,
@@ -125,6 +120,30 @@ impl fmt::Display for BadSection {
             write!(f, " at offset {offset:#x}")?;
         }
         write!(f, ": {cause}")
+    }
+}
+
+/// A section that the module does not have.
+#[derive(Debug)]
+pub struct NoSection {
+    pub input: Input,
+    pub selector: Selector,
+    /// How many sections the module has.
+    pub count: usize,
+    /// The name that was probably meant.
+    pub meant: Option<String>,
+}
+
+impl fmt::Display for NoSection {
+    fn fmt(&self, f: &mut fmt::Formatter<'_>) -> fmt::Result {
+        write!(f, "{}: no section {}", self.input, self.selector)?;
+        match (&self.selector, &self.meant) {
+            (Selector::Number(_), _) => {
+                write!(f, ": the module has {}; --id selects by id", self.count)
+            }
+            (_, Some(meant)) => write!(f, "; did you mean {meant:?}?"),
+            _ => Ok(()),
+        }
     }
 }
 
@@ -293,17 +312,7 @@ impl fmt::Display for Failure {
             Failure::Strip(obstacle) => write!(f, "{obstacle}"),
             Failure::Hint(hint) => write!(f, "{hint}"),
             Failure::Section(section) => write!(f, "{section}"),
-            Failure::NoSection {
-                input,
-                selector,
-                count,
-            } => {
-                write!(f, "{input}: no section {selector}")?;
-                if let Selector::Number(_) = selector {
-                    write!(f, ": the module has {count}; --id selects by id")?;
-                }
-                Ok(())
-            }
+            Failure::NoSection(section) => write!(f, "{section}"),
             Failure::NoBody { input, function } => write!(
                 f,
                 "{input}: function {function} is an import, and has no body"

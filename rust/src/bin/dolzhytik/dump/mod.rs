@@ -11,7 +11,7 @@ mod text;
 mod values;
 
 use crate::context::{Context, Space};
-use crate::failure::{self, Failure, NoFunction};
+use crate::failure::{self, Failure, NoFunction, NoSection};
 use crate::files::{Input, Output};
 use crate::misuse::nearest;
 use crate::sections::{Section, sections_of};
@@ -88,6 +88,16 @@ impl Selector {
             Selector::Name(name) => name == section.kind_name() || section.name() == Some(name),
             Selector::Id(id) => section.id() == *id,
         }
+    }
+
+    /// The name of a section that was probably meant.
+    fn meant(&self, sections: &[Section<'_>]) -> Option<String> {
+        let Selector::Name(name) = self else {
+            return None;
+        };
+        let names = sections.iter().filter_map(|it| it.name());
+        let kind = nearest(name, sections.iter().map(Section::kind_name));
+        kind.or_else(|| nearest(name, names)).map(String::from)
     }
 }
 
@@ -179,11 +189,12 @@ pub fn dump(input: &Input, module: &[u8], choice: &Choice) -> Result<(), Failure
     let sections = sections_of(input, module)?;
     let lacks = |selector: &&Selector| !sections.iter().any(|section| selector.selects(section));
     if let Some(selector) = choice.sections.iter().find(lacks) {
-        return Err(Failure::NoSection {
+        return Err(Failure::NoSection(NoSection {
             input: input.clone(),
             selector: selector.clone(),
             count: sections.len(),
-        });
+            meant: selector.meant(&sections),
+        }));
     }
     let context = Context::of(&sections);
     let functions = functions_of(input, &sections, choice, &context)?;
