@@ -1,5 +1,5 @@
-//! Compares `shorten_module`, `outline`, `Sections` and `encode_items` with a plain reader, on
-//! random modules of random and changed sections. See README.md.
+//! Compares `shorten_module`, `outline`, `Sections`, `encode_items` and `encode_items_in` with a
+//! plain reader, on random modules of random and changed sections. See README.md.
 
 use crate::grammar::{Grammar, KINDS};
 use crate::maker::{Maker, Random, input};
@@ -11,7 +11,7 @@ use crate::whole::{
 use dolzhytik::fallible::{self, Global};
 use dolzhytik::reader::{
     self, Items, ModuleFault, Offsets, Outlined, ReadError, ReadFault, SectionKind, Sections,
-    encode_items, outline, shorten_module,
+    Standard, encode_items, encode_items_in, outline, shorten_module,
 };
 use std::time::Instant;
 
@@ -242,23 +242,28 @@ fn is_outlined(bytes: &[u8]) -> bool {
     }
 }
 
-/// Whether items decode exactly if the plain reader decodes them. Their number and their encoding
-/// must be the same, and an error must be at an offset in the payload.
+/// Whether the encoding is a size prefix and then the payload.
+fn has_payload(encoding: &[u8], payload: &[u8]) -> bool {
+    encoding
+        .strip_suffix(payload)
+        .is_some_and(|size| (1..=5).contains(&size.len()))
+}
+
+/// Whether items decode exactly if the plain reader decodes them. Their number and their encodings
+/// in both grammars must be the same, and an error must be at an offset in the payload.
 fn has_items(given: &reader::Section<'_>, expected: &Section<'_>) -> bool {
     match (given.items(), given.count()) {
         (Ok(items), Ok(count)) => {
-            let mut payload = fallible::Vec::new(Global);
+            let [mut payload, mut shortest] = [(); 2].map(|()| fallible::Vec::new(Global));
             count == expected.items()
-                && expected
-                    .shortest(Grammar::Standard, Grammar::Standard)
-                    .is_some()
                 && encode_items(&items, &mut payload).is_ok()
                 && expected
                     .shortest(Grammar::Builders, Grammar::Builders)
-                    .is_none_or(|encoding| {
-                        let size = encoding.len() - payload.len();
-                        encoding[size..] == *payload && size <= 5
-                    })
+                    .is_none_or(|encoding| has_payload(&encoding, &payload))
+                && encode_items_in::<Standard, _, _, _>(Global, &items, &mut shortest).is_ok()
+                && expected
+                    .shortest(Grammar::Standard, Grammar::Standard)
+                    .is_some_and(|encoding| has_payload(&encoding, &shortest))
         }
         (Err(error), Err(same)) => {
             let range = given.range();

@@ -10,11 +10,14 @@ ghost use Rattle.wasm_code.specs.Bodies.{Body, body as body_format};
 ghost use Rattle.wasm_reader.specs.Kinds.{contents_of, number_in};
 ghost use Rattle.wasm_reader.specs.Outlines.{bytes_of};
 ghost use Rattle.wasm_reader.specs.Iterating.{ahead, known_kind_of};
-ghost use Rattle.read_back.specs.Iterated.{BeginsWithPayload, IsEncodedAgain, IsFirstBody};
+ghost use Rattle.read_back.specs.Iterated.{BeginsWithPayload, IsEncodedAgain, IsFirstBody, IsShortestPayload};
 
 use std::alloc::Allocator;
-use wasm_base::ReadFault;
-use wasm_reader::{CodeBody, Items, ReadError, Section, SectionKind, Sections, encode_items};
+use wasm_base::{ReadFault, Standard};
+use wasm_reader::{
+    CodeBody, Items, ReadError, Section, SectionKind, Sections, encode_items, encode_items_in,
+    read_section,
+};
 
 /// Returns the payload of the first section of a module: the bytes of its range.
 pub fn first_payload<A: Allocator + Copy>(
@@ -101,6 +104,21 @@ pub fn encode_again<A: Allocator + Copy>(
             offset: section.offset(),
         }),
     }
+}
+
+/// Decodes the section at the front as builders encode it, and returns the shortest payload with
+/// its items that the standard admits.
+pub fn shortest_payload<A: Allocator + Copy>(
+    alloc: A,
+    kind: SectionKind,
+    bytes: &[u8],
+) -> Result<Vec<u8, A>, ReadFault>
+    ensures { IfOk result (λ payload. IsShortestPayload kind bytes.now payload.items) }
+{
+    let (items, _taken) = read_section(alloc, kind, bytes)?;
+    let mut payload = Vec::new(alloc);
+    encode_items_in::<Standard, A, A, A>(alloc, &items, &mut payload)?;
+    Ok(payload)
 }
 
 /// Returns the first body of a code section, or `None` if it has none.

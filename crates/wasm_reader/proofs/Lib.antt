@@ -14,6 +14,7 @@ pub mod IteratingLaws
 pub mod MinimalAgain
 pub mod MinimalModules
 pub mod WalkSections
+pub mod ContentIn
 pub mod MinimalSections
 pub mod OpcodesOfShapes
 pub mod ByOpcode

@@ -1,7 +1,9 @@
 -- This file defines sections of each kind, and the promises of their reader and their minimizer.
 use Rattle.std.specs.Prelude.{◌≡◌, ◌↔◌, ℕ, ◌≤◌, List, ◌++◌, length, drop}
 use Rattle.wasm_base.specs.Words.{Grammar, builders, minimal_of, padded_of, Format, size_prefixed, Decodes}
-use Rattle.wasm_reader.specs.Kinds.{Contents, content}
+use Rattle.wasm_base.specs.Numbers.{admitted}
+use Rattle.wasm_base.specs.Minimal.{Includes}
+use Rattle.wasm_reader.specs.Kinds.{Contents, content, grammars_of, kind_in}
 use Rattle.wasm_reader.specs.declared.kinds.SectionKind.{SectionKind}
 
 -- A section of this kind without its id: its size-prefixed content.
@@ -31,6 +33,28 @@ pub record ShortensIn (w : Grammar) (kind : SectionKind) (bytes : List ℕ) (n :
 -- The same in the builders' grammar.
 abbrev pub Shortens : SectionKind → List ℕ → ℕ → List ℕ → List ℕ → Type 0
 Shortens kind bytes n old new = ShortensIn builders kind bytes n old new
+
+-- The first grammar has all encodings of the second.
+abbrev pub Extends : Grammar → Grammar → Type 0
+Extends admitted v = Unit {0}
+Extends builders builders = Unit {0}
+Extends builders admitted = ⊥
+
+-- Some bytes decode to this content in a grammar that the grammar `w` extends. For the kinds of
+-- `grammars_of` that have the builders' alone, it is the builders' grammar.
+pub record HasContentIn (w : Grammar) (x : Contents) : Type 0 where
+  pub grammar : Grammar
+  pub included : Includes (grammars_of (kind_in x)) grammar
+  pub extended : Extends w grammar
+  pub bytes : List ℕ
+  pub decoded : content (kind_in x) (padded_of grammar) bytes x
+
+-- The buffer gains the minimal encoding of this content in the grammar `w`, if some bytes decode to
+-- it.
+pub record AppendsContentIn (w : Grammar) (x : Contents) (old new : List ℕ) : Type 0 where
+  pub encoding : List ℕ
+  pub appended : new ≡ old ++ encoding
+  pub encodes : HasContentIn w x → content (kind_in x) (minimal_of w) encoding x
 
 -- Two sections of a kind have the same minimal encoding in a grammar exactly if they decode to the
 -- same items.

@@ -179,6 +179,45 @@ pub enum Items<'a, A: Allocator = Global> {
     },
 }
 
+impl<'a, A: Allocator> Items<'a, A> {
+    /// Returns the kind of section that has these items.
+    pub fn kind(&self) -> SectionKind
+        ensures { result ≡ kind_in (contents_of self.now) }
+    {
+        match self {
+            Items::Bodies(_) => SectionKind::Bodies,
+            Items::Segments(_) => SectionKind::Segments,
+            Items::DataCount(_) => SectionKind::DataCount,
+            Items::Elements(_) => SectionKind::Elements,
+            Items::Exports(_) => SectionKind::Exports,
+            Items::Functions(_) => SectionKind::Functions,
+            Items::Globals(_) => SectionKind::Globals,
+            Items::Imports(_) => SectionKind::Imports,
+            Items::Memories(_) => SectionKind::Memories,
+            Items::Start(_) => SectionKind::Start,
+            Items::Tables(_) => SectionKind::Tables,
+            Items::Tags(_) => SectionKind::Tags,
+            Items::Names(_) => SectionKind::Names,
+            Items::Linking(_) => SectionKind::Linking,
+            Items::Producers(_) => SectionKind::Producers,
+            Items::Hints(_) => SectionKind::Hints,
+            Items::Core(_) => SectionKind::Core,
+            Items::CoreModules(_) => SectionKind::CoreModules,
+            Items::CoreInstances(_) => SectionKind::CoreInstances,
+            Items::CoreStack { .. } => SectionKind::CoreStack,
+            Items::Custom { .. } => SectionKind::Custom,
+            Items::Raw(_) => SectionKind::Raw,
+            Items::Types(_) => SectionKind::Types,
+            Items::TargetFeatures(_) => SectionKind::TargetFeatures,
+            Items::SourceMappingUrl(_) => SectionKind::SourceMappingUrl,
+            Items::ExternalDebugInfo(_) => SectionKind::ExternalDebugInfo,
+            Items::BuildId(_) => SectionKind::BuildId,
+            Items::Dylink(_) => SectionKind::Dylink,
+            Items::Relocations { .. } => SectionKind::Relocations,
+        }
+    }
+}
+
 /// Returns the kind of a section of this id.
 #[tactic(auto, using(crate::proofs::KindLaws::kind_steps))]
 pub(crate) fn kind_of_id(id: u8) -> SectionKind

@@ -26,7 +26,7 @@ mod whole;
 pub use code_bodies::{Bodies, CodeBody};
 pub use convert::instruction_of;
 pub use kinds::{Items, SectionKind, encode_items};
-pub use minimal::shorten;
+pub use minimal::{encode_items_in, shorten};
 pub use modules::{Listed, list_module};
 pub use outlines::{Outlined, outline};
 pub use read_error::ReadError;

@@ -1,17 +1,21 @@
 // Minimizes sections.
-ghost use Rattle.std.specs.Prelude.{◌≡◌, ◌≢◌, IfOk, IfErr, OnOk, OnErr};
+ghost use Rattle.std.specs.Prelude.{◌≡◌, ◌≢◌, Err, IfOk, IfErr, OnOk, OnErr};
 ghost use Rattle.wasm_base.specs.Continuing.{RejectsWhole};
 ghost use Rattle.wasm_base.specs.Numbers.{padded, padded_of};
 ghost use Rattle.wasm_base.specs.Decoding.{Rejects};
 ghost use Rattle.wasm_base.specs.Minimal.{Minimizes, MinimizesWhole, IsFrontOf};
 ghost use Rattle.wasm_base.specs.declared.fault.ReadFault.TheVariants.{Memory};
-ghost use Rattle.wasm_reader.specs.Kinds.{content};
-ghost use Rattle.wasm_reader.specs.Sections.{section, Shortens, ShortensIn};
+ghost use Rattle.wasm_base.specs.declared.refused.Refused.TheVariants.{TooLong};
+ghost use Rattle.wasm_reader.specs.Kinds.{content, contents_of};
+ghost use Rattle.wasm_reader.specs.Sections.{section, AppendsContentIn, HasContentIn, Shortens, ShortensIn};
 
-use crate::kinds::SectionKind;
+use crate::kinds::{Items, SectionKind, encode_items};
 use crate::walk::walk_content;
 use std::alloc::Allocator;
-use wasm_base::{DecodeError, Grammar, Padded, ReadFault, Readable, prefix_size_since};
+use wasm_base::{
+    DecodeError, Grammar, Padded, ReadFault, Readable, Refused, Result as Written,
+    prefix_size_since,
+};
 
 /// Minimizes the payload of a section of this kind. No list of items is kept.
 #[tactic(auto, using(wasm_base::proofs::EffectLaws::appending))]
@@ -93,5 +97,56 @@ pub(crate) fn shorten_in<A: Allocator + Copy, G: Grammar, B: Allocator>(
             sink.truncate(start);
             Err(error.cause())
         }
+    }
+}
+
+/// Appends the minimal encoding, in the grammar `G`, of a section's payload with these items. On an
+/// error, the sink is unchanged.
+///
+/// In the standard's grammar no encoding of the items is shorter. [`encode_items`] writes types,
+/// instructions and flags as builders do, and all else alike.
+///
+/// The call promises this for items to which bytes decode in the builders' grammar. For items of
+/// other sections than types, code, imports, tables, globals, elements and data, bytes of `G` do.
+///
+/// ```text
+/// // A table of `anyref`: 6E, where `encode_items` writes 63 6E
+/// encode_items_in::<Standard, _, _, _>(alloc, &Items::Tables(tables), &mut payload)?;
+/// ```
+///
+/// # Errors
+///
+/// Returns `TooLong` only for items of which the call promises nothing. Returns `Memory` if an
+/// allocation fails.
+#[tactic(auto, using(wasm_base::proofs::MinimalEncodings::cut_off))]
+pub fn encode_items_in<G: Grammar, A: Allocator, B: Allocator, C: Allocator + Copy>(
+    alloc: C,
+    items: &Items<'_, A>,
+    sink: &mut Vec<u8, B>,
+) -> Written<()>
+    ensures ok { OnOk result (AppendsContentIn G.grammar (contents_of items.now) sink.old.items sink.new.items) }
+    ensures err { OnErr result (sink.new.items ≡ sink.old.items) }
+    ensures too_long { HasContentIn G.grammar (contents_of items.now) → result ≢ Err TooLong }
+{
+    let mut written = Vec::new(alloc);
+    encode_items(items, &mut written)?;
+    let start = sink.len();
+    match minimize_content::<C, G, _>(items.kind(), &written, alloc, sink) {
+        Ok(()) => Ok(()),
+        Err(error) => {
+            sink.truncate(start);
+            Err(refusal_of(error.cause()))
+        }
+    }
+}
+
+/// Returns why items are not encoded whose encoding by builders does not decode.
+fn refusal_of(cause: ReadFault) -> Refused
+    ensures { result ≡ TooLong → cause ≢ Memory }
+{
+    if cause == ReadFault::Memory {
+        Refused::Memory
+    } else {
+        Refused::TooLong
     }
 }

@@ -851,6 +851,42 @@ pub trait sections {
     ///
     /// Definitions: [`ShortensIn`](sections::ShortensIn), [`builders`](super::base::numbers::Grammar).
     type Shortens;
+    /// The first grammar has all encodings of the second.
+    ///
+    /// ```text
+    /// abbrev pub Extends : Grammar → Grammar → Type 0
+    /// Extends admitted v = Unit {0}
+    /// Extends builders builders = Unit {0}
+    /// Extends builders admitted = ⊥
+    /// ```
+    ///
+    /// Definitions: [`Grammar`](super::base::numbers::Grammar), [`admitted`](super::base::numbers::Grammar), [`builders`](super::base::numbers::Grammar).
+    type Extends;
+    /// Some bytes decode to this content in a grammar that the grammar `w` extends. For the kinds of [`grammars_of`](kinds::grammars_of) that have the builders' alone, it is the builders' grammar.
+    ///
+    /// ```text
+    /// pub record HasContentIn (w : Grammar) (x : Contents) : Type 0 where
+    ///   pub grammar : Grammar
+    ///   pub included : Includes (grammars_of (kind_in x)) grammar
+    ///   pub extended : Extends w grammar
+    ///   pub bytes : List ℕ
+    ///   pub decoded : content (kind_in x) (padded_of grammar) bytes x
+    /// ```
+    ///
+    /// Definitions: [`Grammar`](super::base::numbers::Grammar), [`Contents`](kinds::Contents), [`Includes`](super::base::minimal::Includes), [`grammars_of`](kinds::grammars_of), [`kind_in`](kinds::kind_in), [`Extends`](sections::Extends), [`content`](kinds::content), [`padded_of`](super::base::numbers::padded_of).
+    type HasContentIn;
+    /// The buffer gains the minimal encoding of this content in the grammar `w`, if some bytes decode to it.
+    ///
+    /// ```text
+    /// pub record AppendsContentIn (w : Grammar) (x : Contents) (old new : List ℕ)
+    ///     : Type 0 where
+    ///   pub encoding : List ℕ
+    ///   pub appended : new ≡ old ++ encoding
+    ///   pub encodes : HasContentIn w x → content (kind_in x) (minimal_of w) encoding x
+    /// ```
+    ///
+    /// Definitions: [`Grammar`](super::base::numbers::Grammar), [`Contents`](kinds::Contents), [`HasContentIn`](sections::HasContentIn), [`content`](kinds::content), [`kind_in`](kinds::kind_in), [`minimal_of`](super::base::numbers::minimal_of).
+    type AppendsContentIn;
     /// Two sections of a kind have the same minimal encoding in a grammar exactly if they decode to the same items.
     ///
     /// ```text

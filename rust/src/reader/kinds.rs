@@ -242,6 +242,51 @@ pub enum Items<'a, A: Allocator = Global> {
     },
 }
 
+impl<'a, A: Allocator> Items<'a, A> {
+    /// Returns the kind of section that has these items.
+    ///
+    /// # Proved
+    ///
+    /// ```text
+    /// ensures { result ≡ kind_in (contents_of self.now) }
+    /// ```
+    ///
+    /// Definitions: [`kind_in`](crate::definitions::reader::kinds::kind_in), [`contents_of`](crate::definitions::reader::kinds::contents_of). [How to read clauses](crate::definitions).
+    pub fn kind(&self) -> SectionKind {
+        match self {
+            Items::Bodies(_) => SectionKind::Bodies,
+            Items::Segments(_) => SectionKind::Segments,
+            Items::DataCount(_) => SectionKind::DataCount,
+            Items::Elements(_) => SectionKind::Elements,
+            Items::Exports(_) => SectionKind::Exports,
+            Items::Functions(_) => SectionKind::Functions,
+            Items::Globals(_) => SectionKind::Globals,
+            Items::Imports(_) => SectionKind::Imports,
+            Items::Memories(_) => SectionKind::Memories,
+            Items::Start(_) => SectionKind::Start,
+            Items::Tables(_) => SectionKind::Tables,
+            Items::Tags(_) => SectionKind::Tags,
+            Items::Names(_) => SectionKind::Names,
+            Items::Linking(_) => SectionKind::Linking,
+            Items::Producers(_) => SectionKind::Producers,
+            Items::Hints(_) => SectionKind::Hints,
+            Items::Core(_) => SectionKind::Core,
+            Items::CoreModules(_) => SectionKind::CoreModules,
+            Items::CoreInstances(_) => SectionKind::CoreInstances,
+            Items::CoreStack { .. } => SectionKind::CoreStack,
+            Items::Custom { .. } => SectionKind::Custom,
+            Items::Raw(_) => SectionKind::Raw,
+            Items::Types(_) => SectionKind::Types,
+            Items::TargetFeatures(_) => SectionKind::TargetFeatures,
+            Items::SourceMappingUrl(_) => SectionKind::SourceMappingUrl,
+            Items::ExternalDebugInfo(_) => SectionKind::ExternalDebugInfo,
+            Items::BuildId(_) => SectionKind::BuildId,
+            Items::Dylink(_) => SectionKind::Dylink,
+            Items::Relocations { .. } => SectionKind::Relocations,
+        }
+    }
+}
+
 /// Returns the kind of a section of this id.
 pub(crate) fn kind_of_id(id: u8) -> SectionKind {
     match id {
@@ -396,7 +441,7 @@ fn append_custom<B: Sink>(name: &str, bytes: &[u8], sink: &mut B) -> Result<()> 
 ///
 /// The encoding is minimal in the grammar of the builders. It can be longer than the bytes that
 /// [`Section::items`](crate::reader::Section::items) decoded: `anyref` in one byte, 6E, becomes
-/// 63 6E.
+/// 63 6E. [`encode_items_in`](crate::reader::encode_items_in) keeps the one byte.
 ///
 /// # Errors
 ///

@@ -2,10 +2,10 @@
 // Minimizes sections.
 
 use crate::vec::{Sink, Vec};
-use crate::reader::kinds::SectionKind;
+use crate::reader::kinds::{Items, SectionKind, encode_items};
 use crate::reader::walk::walk_content;
 use crate::alloc::Allocator;
-use crate::base::{DecodeError, Grammar, Padded, ReadFault, Readable, prefix_size_since};
+use crate::base::{DecodeError, Grammar, Padded, ReadFault, Readable, Refused, Result as Written, prefix_size_since};
 
 /// Minimizes the payload of a section of this kind. No list of items is kept.
 pub(crate) fn minimize_content<A: Allocator + Copy, G: Grammar, B: Sink>(
@@ -93,5 +93,79 @@ pub(crate) fn shorten_in<A: Allocator + Copy, G: Grammar, B: Sink>(
             sink.truncate(start);
             Err(error.cause())
         }
+    }
+}
+
+/// Appends the minimal encoding, in the grammar `G`, of a section's payload with these items. On an
+/// error, the sink is unchanged.
+///
+/// In the standard's grammar no encoding of the items is shorter. [`encode_items`] writes types,
+/// instructions and flags as builders do, and all else alike.
+///
+/// The call promises this for items to which bytes decode in the builders' grammar. For items of
+/// other sections than types, code, imports, tables, globals, elements and data, bytes of `G` do.
+///
+/// # Errors
+///
+/// Returns `TooLong` only for items of which the call promises nothing. Returns `Memory` if an
+/// allocation fails.
+///
+/// # Examples
+///
+/// ```
+/// use dolzhytik::fallible::Global;
+/// use dolzhytik::reader::{Padded, Sections, Standard, encode_items_in};
+///
+/// // A table section with one table of `anyref`, in one byte: 6E.
+/// let module = b"\0asm\x01\0\0\0\x04\x04\x01\x6E\0\x07";
+/// let section = Sections::new(Global, module)?.next().unwrap()?;
+/// let items = section.items()?;
+///
+/// let mut payload = vec![];
+/// encode_items_in::<Standard, _, _, _>(Global, &items, &mut payload).unwrap();
+/// assert_eq!(payload, [0x01, 0x6E, 0x00, 0x07]);
+///
+/// payload.clear();
+/// encode_items_in::<Padded, _, _, _>(Global, &items, &mut payload).unwrap();
+/// assert_eq!(payload, [0x01, 0x63, 0x6E, 0x00, 0x07]);
+/// # Ok::<(), dolzhytik::reader::ReadError>(())
+/// ```
+///
+/// # Proved
+///
+/// After `Ok`: `ok`, the sink gains the minimal encoding of the items in the grammar, if bytes decode to them. After an error: `err`, the bytes of the sink are unchanged. In any case: `too_long`, items to which bytes decode never give `TooLong`.
+///
+/// ```text
+/// ensures ok { OnOk result
+///     (AppendsContentIn G.grammar (contents_of items.now) sink.old.items sink.new.items) }
+/// ensures err { OnErr result (sink.new.items ≡ sink.old.items) }
+/// ensures too_long { HasContentIn G.grammar (contents_of items.now)
+///     → result ≢ Err TooLong }
+/// ```
+///
+/// Definitions: [`AppendsContentIn`](crate::definitions::reader::sections::AppendsContentIn), [`contents_of`](crate::definitions::reader::kinds::contents_of), [`HasContentIn`](crate::definitions::reader::sections::HasContentIn). [How to read clauses](crate::definitions).
+pub fn encode_items_in<G: Grammar, A: Allocator, B: Sink, C: Allocator + Copy>(
+    alloc: C,
+    items: &Items<'_, A>,
+    sink: &mut B,
+) -> Written<()> {
+    let mut written = Vec::new(alloc);
+    encode_items(items, &mut written)?;
+    let start = sink.len();
+    match minimize_content::<C, G, _>(items.kind(), &written, alloc, sink) {
+        Ok(()) => Ok(()),
+        Err(error) => {
+            sink.truncate(start);
+            Err(refusal_of(error.cause()))
+        }
+    }
+}
+
+/// Returns why items are not encoded whose encoding by builders does not decode.
+fn refusal_of(cause: ReadFault) -> Refused {
+    if cause == ReadFault::Memory {
+        Refused::Memory
+    } else {
+        Refused::TooLong
     }
 }

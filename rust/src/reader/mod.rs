@@ -31,6 +31,10 @@ pub use kinds::{Items, SectionKind};
 #[doc(alias = "insert")]
 #[doc(alias = "rewrite")]
 pub use kinds::encode_items;
+#[doc(alias = "edit")]
+#[doc(alias = "insert")]
+#[doc(alias = "rewrite")]
+pub use minimal::encode_items_in;
 #[doc(alias = "minimize")]
 #[doc(alias = "leb128")]
 #[doc(alias = "wasm-opt")]

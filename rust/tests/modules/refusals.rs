@@ -3,8 +3,8 @@ use crate::samples::{PADDED, PADDED_NAME, SHORT, SHORT_NAME, UNREAD, bytes_of, m
 use crate::sections::first_section;
 use dolzhytik::fallible::{AllocError, Allocator, Refused, Vec};
 use dolzhytik::reader::{
-    ModuleFault, Offsets, ReadError, ReadFault, Section, Sections, encode_items, outline,
-    shorten_module,
+    ModuleFault, Offsets, Padded, ReadError, ReadFault, Section, Sections, Standard, encode_items,
+    encode_items_in, outline, shorten_module,
 };
 use std::cell::Cell;
 
@@ -141,15 +141,51 @@ fn of_encoded_items() {
         let items = section.items().unwrap();
         first_granted(|alloc| {
             let mut sink = Vec::new(alloc);
-            match encode_items(&items, &mut sink) {
-                Ok(()) => assert_eq!(*sink, *bytes_of(payload)),
-                Err(refused) => {
-                    assert_eq!(refused, Refused::Memory);
-                    assert!(sink.is_empty());
-                    return None;
-                }
-            }
-            Some(())
+            let encoded = encode_items(&items, &mut sink);
+            check_encoded(encoded, &sink, payload)
+        });
+    }
+}
+
+/// Checks the bytes of a call, or that it changes nothing without memory.
+fn check_encoded(encoded: Result<(), Refused>, sink: &[u8], payload: &str) -> Option<()> {
+    match encoded {
+        Ok(()) => assert_eq!(*sink, *bytes_of(payload)),
+        Err(refused) => {
+            assert_eq!(refused, Refused::Memory);
+            assert!(sink.is_empty());
+            return None;
+        }
+    }
+    Some(())
+}
+
+/// A table of `anyref`, a body that tests for it, and a section of an unknown id: the bytes of the
+/// standard's grammar, and then of the builders'.
+#[test]
+fn every_request_of_items_in_a_grammar() {
+    let sections = [
+        ("04 04 01 6e 00 07", "01 6e 00 07", "01 63 6e 00 07"),
+        (
+            "0a 08 01 06 01 01 63 70 0b 0b",
+            "01 05 01 01 70 0b 0b",
+            "01 05 01 01 70 0b 0b",
+        ),
+        ("0e 01 aa", "aa", "aa"),
+    ];
+    for (section, standard, builders) in sections {
+        let bytes = module(&[section]);
+        let items = first_section(&bytes).items().unwrap();
+        let (requests, ()) = first_granted(|alloc| {
+            let mut sink = Vec::new(alloc);
+            let encoded = encode_items_in::<Standard, _, _, _>(alloc, &items, &mut sink);
+            check_encoded(encoded, &sink, standard)
+        });
+        assert!(requests >= 2);
+        first_granted(|alloc| {
+            let mut sink = Vec::new(alloc);
+            let encoded = encode_items_in::<Padded, _, _, _>(alloc, &items, &mut sink);
+            check_encoded(encoded, &sink, builders)
         });
     }
 }

@@ -72,6 +72,8 @@ SAID = (
     (r'OnOk result \(AppendsMinimal builders_alone .*\)', "the sink gains the encoding that is minimal in the builders' grammar"),
     (r'OnOk result \(AppendsMinimal (?:T|Self)\.grammars .*\)', 'the sink gains the encoding that is minimal in the `grammars` of the type'),
     (r'OnOk result \(AppendsMinimal \(grammars_of .*\)', 'the sink gains the encoding that is minimal in the grammars of the kind'),
+    (r'OnOk result \(AppendsContentIn .*\)', 'the sink gains the minimal encoding of the items in the grammar, if bytes decode to them'),
+    (r'HasContentIn .* → result ≢ Err TooLong', 'items to which bytes decode never give `TooLong`'),
     (r'HasEncoding .* → result ≢ Err TooLong', 'a value that has an encoding never gives `TooLong`'),
     (r'longest < .* → result ≡ Err (?:Refused\.)?TooLong', 'more than 4294967295 give `TooLong`'),
     (r'\(\(it : V\.IntoIter\) → V\.into_iter_gives \w+ it → longest < .*\) → result ≡ Err TooLong', 'more than 4294967295 items give `TooLong`'),
