@@ -121,6 +121,18 @@ pub fn shortest_payload<A: Allocator + Copy>(
     Ok(payload)
 }
 
+/// Decodes the section at the front, and returns the kind of its items.
+pub fn kind_of_items<A: Allocator + Copy>(
+    alloc: A,
+    kind: SectionKind,
+    bytes: &[u8],
+) -> Result<SectionKind, ReadFault>
+    ensures { IfOk result (λ found. found ≡ kind) }
+{
+    let (items, _taken) = read_section(alloc, kind, bytes)?;
+    Ok(items.kind())
+}
+
 /// Returns the first body of a code section, or `None` if it has none.
 pub fn first_body<'a, A: Allocator + Copy>(
     section: &Section<'a, A>,

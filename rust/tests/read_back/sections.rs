@@ -4,8 +4,8 @@
 
 use dolzhytik::fallible::Vec;
 use dolzhytik::fallible::Allocator;
-use dolzhytik::reader::ReadFault;
-use dolzhytik::reader::{CodeBody, Items, ReadError, Section, SectionKind, Sections, encode_items};
+use dolzhytik::reader::{ReadFault, Standard};
+use dolzhytik::reader::{CodeBody, Items, ReadError, Section, SectionKind, Sections, encode_items, encode_items_in, read_section};
 
 /// Returns the payload of the first section of a module: the bytes of its range.
 ///
@@ -120,6 +120,41 @@ pub fn encode_again<A: Allocator + Copy>(
             offset: section.offset(),
         }),
     }
+}
+
+/// Decodes the section at the front as builders encode it, and returns the shortest payload with
+/// its items that the standard admits.
+///
+/// # Proved
+///
+/// ```text
+/// ensures { IfOk result (λ payload. IsShortestPayload kind bytes.now payload.items) }
+/// ```
+pub fn shortest_payload<A: Allocator + Copy>(
+    alloc: A,
+    kind: SectionKind,
+    bytes: &[u8],
+) -> Result<Vec<u8, A>, ReadFault> {
+    let (items, _taken) = read_section(alloc, kind, bytes)?;
+    let mut payload = Vec::new(alloc);
+    encode_items_in::<Standard, A, A, A>(alloc, &items, &mut payload)?;
+    Ok(payload)
+}
+
+/// Decodes the section at the front, and returns the kind of its items.
+///
+/// # Proved
+///
+/// ```text
+/// ensures { IfOk result (λ found. found ≡ kind) }
+/// ```
+pub fn kind_of_items<A: Allocator + Copy>(
+    alloc: A,
+    kind: SectionKind,
+    bytes: &[u8],
+) -> Result<SectionKind, ReadFault> {
+    let (items, _taken) = read_section(alloc, kind, bytes)?;
+    Ok(items.kind())
 }
 
 /// Returns the first body of a code section, or `None` if it has none.

@@ -6,10 +6,11 @@ use dolzhytik::fallible::Vec;
 use dolzhytik::fallible::Global;
 use crate::host::Abort;
 use crate::test_support::{MOST, Refusing};
-use dolzhytik::reader::{Padded, ReadFault, Shorten, SizePrefixed, append_all};
+use dolzhytik::reader::{Padded, ReadFault, Shorten, SizePrefixed, Standard, append_all};
 use dolzhytik::fallible::{Refused, Result};
 use dolzhytik::reader::shorten_body;
 use dolzhytik::fallible::{append_build_id, append_debug_file, append_dylink, append_features, append_hints, append_instances, append_links, append_modules, append_names, append_process, append_producers, append_relocations, append_source_map, append_stack, read_dylink, read_features, read_hints, read_instances, read_links, read_modules, read_names, read_process, read_producers, read_relocations, read_stack};
+use dolzhytik::reader::{Items, SectionKind, encode_items_in, read_section};
 use dolzhytik::fallible::{append_imports, read_imports};
 use dolzhytik::fallible::{append_types, read_types};
 
@@ -237,5 +238,21 @@ fn values() {
     let text = b"\x3C\x02\x1Cthe_first_name_which_is_long\x1Cthe_other_name_which_is_long\x07";
     check(&rt, &heap, text, |sink: &mut Vec<u8, _>| {
         framed.append_minimal(sink)
+    });
+}
+
+/// A table of `anyref`: 6E in the standard's grammar, 63 6E in the builders'.
+#[test]
+fn items_in_a_grammar() {
+    let rt = crate::host::HostRuntime;
+    let heap = Refusing::new(rt.alloc());
+    let section = b"\x05\x01\x63\x6E\0\x07";
+    let (items, _size): (Items<'_, _>, usize) =
+        read_section(rt.alloc(), SectionKind::Tables, section).expect("a table");
+    check(&rt, &heap, b"\x01\x6E\0\x07", |sink: &mut Vec<u8, _>| {
+        encode_items_in::<Standard, _, _, _>(&heap, &items, sink)
+    });
+    check(&rt, &heap, b"\x01\x63\x6E\0\x07", |sink: &mut Vec<u8, _>| {
+        encode_items_in::<Padded, _, _, _>(&heap, &items, sink)
     });
 }

@@ -7,12 +7,13 @@ use crate::calls::decodings::{load_of_alignment_16, pieces_of_a_constant};
 use crate::calls::instructions::{append_call, append_end, append_sum, block};
 use crate::examples::{encode_given_import, encode_memories, grow, grow_by_each};
 use crate::read_back::handed::{code_of, encode_listed_exports};
+use crate::read_back::sections::{kind_of_items, shortest_payload};
 use crate::read_back::{shortened_function, write_function, write_names, written_function, written_names};
 use crate::test_support::{MOST, Refusing};
 use dolzhytik::fallible::Encode;
 use dolzhytik::fallible::Function;
 use dolzhytik::fallible::Instruction;
-use dolzhytik::reader::Items;
+use dolzhytik::reader::{Items, SectionKind};
 use dolzhytik::fallible::{EntityType, Export, ExportKind, Import, MemoryType};
 
 /// The name section of a module `m`, whose first function is `f`, without its id.
@@ -54,6 +55,17 @@ fn functions() {
     let taken = shortened_function(&mut text, 7, &mut sink).expect("read");
     assert_eq!(rt; taken, 3);
     check_bytes(&rt, &sink, &[2, 1, 7])
+}
+
+/// A table of `anyref`, which the standard encodes in one byte: 63 6E becomes 6E.
+#[test]
+fn shortest() {
+    let rt = crate::host::HostRuntime;
+    let section = &[5, 1, 0x63, 0x6E, 0, 7];
+    let payload = shortest_payload(rt.alloc(), SectionKind::Tables, section).expect("a table");
+    check_bytes(&rt, &payload, &[1, 0x6E, 0, 7]);
+    let kind = kind_of_items(rt.alloc(), SectionKind::Tables, section).expect("a table");
+    assert_eq!(rt; kind, SectionKind::Tables)
 }
 
 #[test]
