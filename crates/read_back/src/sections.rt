@@ -129,7 +129,7 @@ pub fn kind_of_items<A: Allocator + Copy>(
 ) -> Result<SectionKind, ReadFault>
     ensures { IfOk result (λ found. found ≡ kind) }
 {
-    let (items, _taken) = read_section(alloc, kind, bytes)?;
+    let (items, _taken): (Items<'_, A>, usize) = read_section(alloc, kind, bytes)?;
     Ok(items.kind())
 }
 

@@ -153,7 +153,7 @@ pub fn kind_of_items<A: Allocator + Copy>(
     kind: SectionKind,
     bytes: &[u8],
 ) -> Result<SectionKind, ReadFault> {
-    let (items, _taken) = read_section(alloc, kind, bytes)?;
+    let (items, _taken): (Items<'_, A>, usize) = read_section(alloc, kind, bytes)?;
     Ok(items.kind())
 }
 
