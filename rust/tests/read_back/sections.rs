@@ -137,7 +137,7 @@ pub fn shortest_payload<A: Allocator + Copy>(
 ) -> Result<Vec<u8, A>, ReadFault> {
     let (items, _taken) = read_section(alloc, kind, bytes)?;
     let mut payload = Vec::new(alloc);
-    encode_items_in::<Standard, A, A, A>(alloc, &items, &mut payload)?;
+    encode_items_in::<Standard, _, _, _>(alloc, &items, &mut payload)?;
     Ok(payload)
 }
 
