@@ -102,8 +102,8 @@ pub(crate) fn shorten_in<A: Allocator + Copy, G: Grammar, B: Sink>(
 /// In the standard's grammar no encoding of the items is shorter. [`encode_items`] writes types,
 /// instructions and flags as builders do, and all else alike.
 ///
-/// The call promises this for items to which bytes decode in the builders' grammar. For items of
-/// other sections than types, code, imports, tables, globals, elements and data, bytes of `G` do.
+/// The call promises this for items to which some bytes decode: in the builders' grammar for types,
+/// code, imports, tables, globals, elements and data, in that or `G` for all others.
 ///
 /// # Errors
 ///
