@@ -503,3 +503,37 @@ fn entries_behind_a_long_count() {
         CoreDumpSection::new("m".repeat(200)) => CoreDumpSection { name: "m".repeat(200) };
     }
 }
+
+/// `Debug` of the proved instructions, which rustc derives.
+#[test]
+fn proved_instructions() {
+    use dolzhytik::fallible::{
+        Aggregate, Atomic, MemArg, MemArgTarget, Numeric, Ordering, PrefixedNumeric, Vector,
+        VectorImmediate,
+    };
+    let memarg = MemArg {
+        offset: 4,
+        align: 2,
+        target: MemArgTarget::Memory(0),
+        ordering: None,
+    };
+    let shown = [
+        format!("{:?}", Numeric::I64Extend32S),
+        format!("{:?}", Aggregate::I31GetU),
+        format!("{:?}", PrefixedNumeric::I64MulWideU),
+        format!("{:?}", Vector::I8x16Swizzle),
+        format!("{:?}", VectorImmediate::V128Const(-1)),
+        format!("{:?}", VectorImmediate::V128Load(memarg)),
+        format!("{:?}", Atomic::AtomicFence(Ordering::SeqCst)),
+    ];
+    let expected = [
+        "I64Extend32S",
+        "I31GetU",
+        "I64MulWideU",
+        "I8x16Swizzle",
+        "V128Const(-1)",
+        "V128Load(MemArg { offset: 4, align: 2, target: Memory(0), ordering: None })",
+        "AtomicFence(SeqCst)",
+    ];
+    assert_eq!(shown, expected);
+}
