@@ -22,8 +22,7 @@ const PADDED_LINKING: &[u8] = b"\x07linking\x02\x0A\x83\x00abc\x09\x02\x01w";
 const DYLINK: &[u8] = b"\x08dylink.0\x00\x00\x02\x01\x00\xFF\x02hi";
 
 /// The same with sizes in two and in five bytes.
-const PADDED_DYLINK: &[u8] =
-    b"\x08dylink.0\x00\x80\x00\x02\x01\x00\xFF\x82\x80\x80\x80\x00hi";
+const PADDED_DYLINK: &[u8] = b"\x08dylink.0\x00\x80\x00\x02\x01\x00\xFF\x82\x80\x80\x80\x00hi";
 
 /// Checks the subsections of a linking section.
 fn check_items(rt: &impl Abort, items: &[LinkItem<'_>]) {
@@ -78,8 +77,7 @@ fn links() {
     append_links(&items, &mut sink).expect("memory");
     check_bytes(&rt, &sink, LINKING);
     let mut minimal = Vec::new(alloc);
-    minimize_links::<_, Standard, _>(PADDED_LINKING, alloc, &mut minimal)
-        .expect("minimized");
+    minimize_links::<_, Standard, _>(PADDED_LINKING, alloc, &mut minimal).expect("minimized");
     check_bytes(&rt, &minimal, LINKING);
     check_links::<Global, Standard>(PADDED_LINKING, alloc).expect("checked");
 }
@@ -94,8 +92,7 @@ fn libraries() {
     append_dylink(&items, &mut sink).expect("memory");
     check_bytes(&rt, &sink, DYLINK);
     let mut minimal = Vec::new(alloc);
-    minimize_dylink::<_, Standard, _>(PADDED_DYLINK, alloc, &mut minimal)
-        .expect("minimized");
+    minimize_dylink::<_, Standard, _>(PADDED_DYLINK, alloc, &mut minimal).expect("minimized");
     check_bytes(&rt, &minimal, DYLINK);
     check_dylink::<Global, Standard>(PADDED_DYLINK, alloc).expect("checked");
 }
@@ -115,8 +112,16 @@ fn only_of_the_standard() {
         of_id,
     );
     let of_library = (ReadFault::UnknownTag, 9);
-    check_error(&rt, read_dylink::<Global, Padded>(DYLINK, alloc), of_library);
-    check_error(&rt, check_dylink::<Global, Padded>(DYLINK, alloc), of_library);
+    check_error(
+        &rt,
+        read_dylink::<Global, Padded>(DYLINK, alloc),
+        of_library,
+    );
+    check_error(
+        &rt,
+        check_dylink::<Global, Padded>(DYLINK, alloc),
+        of_library,
+    );
     check_error(
         &rt,
         minimize_dylink::<_, Padded, _>(DYLINK, alloc, &mut sink),
@@ -135,5 +140,9 @@ fn cut() {
     check_error(&rt, check_links::<Global, Standard>(cut, alloc), at_the_end);
     let cut = b"\x08dylink.0\x06\x01";
     check_error(&rt, read_dylink::<Global, Standard>(cut, alloc), at_the_end);
-    check_error(&rt, check_dylink::<Global, Standard>(cut, alloc), at_the_end);
+    check_error(
+        &rt,
+        check_dylink::<Global, Standard>(cut, alloc),
+        at_the_end,
+    );
 }

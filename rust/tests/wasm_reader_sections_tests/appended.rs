@@ -247,8 +247,11 @@ fn items_in_a_grammar() {
     let rt = crate::host::HostRuntime;
     let heap = Refusing::new(rt.alloc());
     let section = b"\x05\x01\x63\x6E\0\x07";
-    let (items, _size): (Items<'_, _>, usize) =
-        read_section(rt.alloc(), SectionKind::Tables, section).expect("a table");
+    let (items, _size): (Items<'_, _>, usize) = read_section(
+        rt.alloc(),
+        SectionKind::Tables,
+        section,
+    ).expect("a table");
     check(&rt, &heap, b"\x01\x6E\0\x07", |sink: &mut Vec<u8, _>| {
         encode_items_in::<Standard, _, _, _>(&heap, &items, sink)
     });

@@ -11,12 +11,7 @@ use dolzhytik::fallible::ValType;
 use dolzhytik::reader::{Body, Expression};
 
 /// Checks that a value of the kind is skipped, and the number of remaining bytes.
-fn check<'a, P: Walk<Padded>>(
-    rt: &impl Abort,
-    heap: Heap<'a>,
-    bytes: &'a [u8],
-    left: usize,
-) {
+fn check<'a, P: Walk<Padded>>(rt: &impl Abort, heap: Heap<'a>, bytes: &'a [u8], left: usize) {
     heap.refuse_all();
     match skip_value::<P, Heap, Padded>(bytes, heap) {
         Ok(rest) => check_left(rt, rest, left),
@@ -65,9 +60,7 @@ fn many() {
     ).expect("accepted");
     check_count(&rt, count, 2);
     check_left(&rt, rest, 1);
-    let (count, rest) = skip_many::<ValType, Heap, Padded>(&[0, 9], &heap).expect(
-        "accepted",
-    );
+    let (count, rest) = skip_many::<ValType, Heap, Padded>(&[0, 9], &heap).expect("accepted");
     check_count(&rt, count, 0);
     check_left(&rt, rest, 1);
     let short = match skip_many::<ValType, Heap, Padded>(&[2, 0x7F], &heap) {
