@@ -142,7 +142,8 @@ pub fn encode_items_in<G: Grammar, A: Allocator, B: Allocator, C: Allocator + Co
 
 /// Returns why items are not encoded whose encoding by builders does not decode.
 fn refusal_of(cause: ReadFault) -> Refused
-    ensures { result ≡ TooLong → cause ≢ Memory }
+    ensures memory { cause ≡ Memory → result ≡ Refused.Memory }
+    ensures other { cause ≢ Memory → result ≡ TooLong }
 {
     if cause == ReadFault::Memory {
         Refused::Memory

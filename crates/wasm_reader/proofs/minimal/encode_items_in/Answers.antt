@@ -6,4 +6,4 @@ pub returns-in-Ok-clause-ok : goal.returns-in-Ok-clause-ok
 returns-in-Ok-clause-ok g c = content_minimized _ _ _ _ _ _ (record { is_kind = c.kind.ensures; empty = _; written = _; is_empty = c.new-written.ensures.items; are = c.deref.ensures.value; appended = c.in_ok-encode_items.ensures.ok }) c.in-Ok.ensures.found
 
 pub returns-clause-too_long : goal.returns-clause-too_long
-returns-clause-too_long g c = λ h e. content_not_rejected _ _ _ _ (record { is_kind = c.kind.ensures; empty = _; written = _; is_empty = c.new-written.ensures.items; are = c.deref.ensures.value; appended = c.in_ok-encode_items.ensures.ok }) (c.in-Err.ensures.none (λ m. c.refusal_of.ensures (cc e) (c.cause.ensures ∙ m))) h
+returns-clause-too_long g c = λ h e. content_not_rejected _ _ _ _ (record { is_kind = c.kind.ensures; empty = _; written = _; is_empty = c.new-written.ensures.items; are = c.deref.ensures.value; appended = c.in_ok-encode_items.ensures.ok }) (c.in-Err.ensures.none (λ m. cc (e, c.refusal_of.ensures.memory (c.cause.ensures ∙ m)))) h
