@@ -133,6 +133,16 @@ pub trait Allocator {
     ///
     /// An error refuses the request: the call that made it fails.
     fn grant(&self, bytes: usize) -> Result<(), AllocError>;
+
+    /// Returns whether a failed allocation ends the program, as for the names at the root.
+    #[doc(hidden)]
+    #[inline(always)]
+    fn ends() -> bool
+    where
+        Self: Sized,
+    {
+        false
+    }
 }
 
 /// The allocator that grants all requests: they fail only if the program's allocator fails.
@@ -159,5 +169,10 @@ impl<A: Allocator> Allocator for &A {
     #[inline]
     fn grant(&self, bytes: usize) -> Result<(), AllocError> {
         (**self).grant(bytes)
+    }
+
+    #[inline(always)]
+    fn ends() -> bool {
+        A::ends()
     }
 }

@@ -121,6 +121,28 @@ pub use crate::string::*;
 pub use crate::types::*;
 pub use crate::vec::*;
 
+/// The builders of sections over [`Entries`]: they keep the bytes of their entries and their number.
+/// They take 8 bytes an entry less than the builders of the same names in
+/// [`fallible`](crate::fallible), and no call returns an entry.
+///
+/// ```
+/// use dolzhytik::fallible::{ExportKind, Global, Module, joined::ExportSection};
+///
+/// let mut exports = ExportSection::new(Global);
+/// exports.export("f", ExportKind::Func, 0)?;
+/// let mut module = Module::new(Global)?;
+/// module.section(&exports)?;
+/// // Id 7, size 5, one export: a name of one byte, the kind 0, the index 0.
+/// assert_eq!(module.finish()[8..], [7, 5, 1, 1, b'f', 0, 0]);
+/// # Ok::<(), dolzhytik::fallible::Refused>(())
+/// ```
+pub mod joined {
+    pub use crate::code::joined::*;
+    pub use crate::custom::joined::*;
+    pub use crate::sections::joined::*;
+    pub use crate::types::joined::*;
+}
+
 /// Hexadecimal text: encoded in lower case, decoded from either case.
 pub mod hex {
     pub use crate::hex::*;

@@ -39,6 +39,7 @@ mod alloc;
 #[rustfmt::skip]
 pub mod definitions;
 mod drop_in;
+mod ending;
 mod errors;
 #[doc(alias = "allocator")]
 #[doc(alias = "asks")]

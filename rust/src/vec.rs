@@ -1,6 +1,7 @@
 //! Vectors whose calls return an error if an allocation fails, and the sinks that bytes are
 //! appended to.
 use crate::alloc::{AllocError, AllocFailed, Allocator, Global};
+use crate::ending::{Growing, Root};
 use alloc_crate::vec;
 use core::fmt;
 use core::ops::{Deref, DerefMut};
@@ -49,6 +50,10 @@ impl<T, A: Allocator> Vec<T, A> {
     /// Returns [`AllocError`] if the allocation fails.
     #[inline]
     pub fn with_capacity(alloc: A, capacity: usize) -> Result<Self, AllocError> {
+        if A::ends() {
+            let items = vec::Vec::with_capacity(capacity);
+            return Ok(Vec { items, alloc });
+        }
         let mut items = vec::Vec::new();
         if capacity > 0 {
             alloc.grant(capacity.saturating_mul(size_of::<T>()))?;
@@ -81,10 +86,28 @@ impl<T, A: Allocator> Vec<T, A> {
         self.items
     }
 
+    /// Returns the items as a list for which a failed allocation ends the program.
+    pub(crate) fn into_ending(self) -> Vec<T, Root> {
+        Vec {
+            items: self.items,
+            alloc: Root,
+        }
+    }
+
     /// Allocates spare capacity for `more` items; if `exact`, for no others.
+    #[inline]
+    fn grow(&mut self, more: usize, exact: bool) -> Result<(), AllocError> {
+        if A::ends() {
+            self.items.reserve(more);
+            return Ok(());
+        }
+        self.grow_granted(more, exact)
+    }
+
+    /// Allocates spare capacity if the allocator grants it.
     #[cold]
     #[inline(never)]
-    fn grow(&mut self, more: usize, exact: bool) -> Result<(), AllocError> {
+    fn grow_granted(&mut self, more: usize, exact: bool) -> Result<(), AllocError> {
         let count = self.items.len().saturating_add(more);
         self.alloc.grant(count.saturating_mul(size_of::<T>()))?;
         let answer = if exact {
@@ -374,13 +397,16 @@ impl<A: Allocator> Sink for Vec<u8, A> {
 
     #[inline]
     fn reserve(&mut self, more: usize) -> Result<(), AllocError> {
+        if A::ends() {
+            return Growing(&mut self.items).reserve(more);
+        }
         self.reserve(more)
     }
 
     #[inline]
     fn push(&mut self, byte: u8) -> Result<(), AllocError> {
         if self.items.len() == self.items.capacity() {
-            self.grow(1, false)?;
+            Sink::reserve(self, 1)?;
         }
         self.items.push(byte);
         Ok(())
@@ -398,11 +424,17 @@ impl<A: Allocator> Sink for Vec<u8, A> {
 
     #[inline]
     fn extend_from_slice(&mut self, bytes: &[u8]) -> Result<(), AllocError> {
+        if A::ends() {
+            return Growing(&mut self.items).extend_from_slice(bytes);
+        }
         self.extend_from_slice(bytes)
     }
 
     #[inline]
     fn extend<I: IntoIterator<Item = u8>>(&mut self, bytes: I) -> Result<(), AllocError> {
+        if A::ends() {
+            return Growing(&mut self.items).extend(bytes);
+        }
         let mut bytes = bytes.into_iter();
         if let (least, Some(most)) = bytes.size_hint()
             && least == most

@@ -25,6 +25,8 @@ pub use Rattle.std.proofs.lemmas.Fmt.{decimal_digit, decimal_step}
 pub use Rattle.std.proofs.lemmas.List.Sums.{count_by_more_no, count_by_more_yes}
 pub use Rattle.std.specs.List.{starts_with}
 pub use Rattle.std.specs.declared.alloc.Global.{Global}
+pub use Rattle.wasm_base.proofs.SectionLaws.{payloads}
+pub use Rattle.wasm_base.proofs.Words.{cut_gains, cut_none, cut_same, gains_joined}
 pub use Rattle.wasm_base.proofs.Words.{All, All-more, AllByRecursion, Decodes, Err, FUNCREF, IsVal, List, None, Ok, OnOk, Result, [], adds_item, adds_items, ap, ap₂, arith, ascii, codes}
 pub use Rattle.wasm_base.proofs.Words.{contains_padded, copied_source, drained_array, drop, each, encodes_items, encodes_items_padded, false, fault_stays, finished, flat_map, gains_raw, inl, inr}
 pub use Rattle.wasm_base.proofs.Words.{ints, iter_rest, length, map, map-id, members, neg_ℤ, new_module, on_ok, padded, pair, pos, refl, replicate, rules, s32, size_prefixed, size_prefixed_encoding}
@@ -47,6 +49,9 @@ pub use Rattle.wasm_reader.proofs.DecodeOutlines.{no_header, no_module}
 pub use Rattle.wasm_reader.proofs.IteratingLaws.{next_error, next_section, section_ahead, section_shrinks}
 pub use Rattle.wasm_reader.specs.Words.{IsSection, contents_of}
 pub use Rattle.wasm_sections.proofs.Words.{ContainsMemories, IsExport, IsMemory, active, adds_active, adds_alike, adds_export, adds_expressions, adds_functions, adds_global, adds_global_padded}
+pub use Rattle.wasm_code.proofs.CodeLaws.{code_section-payload}
+pub use Rattle.wasm_sections.proofs.FunctionLaws.{functions_section}
+pub use Rattle.wasm_types.proofs.TypeLaws.{types_section}
 pub use Rattle.wasm_sections.proofs.Words.{adds_passive, adds_table, array_added, copied_added, export, exports_section, gains_elements, gains_exports, gains_functions, gains_globals, gains_imports}
 pub use Rattle.wasm_sections.proofs.Words.{gains_memories, gains_number, gains_segments, gains_tables, global_item, globals_section, import_item, new_elements, new_exports, new_functions, new_globals}
 pub use Rattle.wasm_sections.proofs.Words.{new_imports, new_memories, new_segments, new_tables, passive}

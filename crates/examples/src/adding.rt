@@ -65,7 +65,7 @@ fn code<A: Allocator + Copy>(alloc: A) -> Result<CodeSection<A>>
 }
 
 /// Returns the sum of the two parameters.
-fn sum<A: Allocator>(alloc: A) -> Result<Function<A>>
+pub(crate) fn sum<A: Allocator>(alloc: A) -> Result<Function<A>>
     ensures { IfOk result (λ function. IsWellFormedBody function adding_body) }
 {
     let mut function = Function::new(alloc, [])?;

@@ -7,6 +7,9 @@ use Rattle.wasm_base.specs.{AddsEach, Appends, DecodesOneMore, DecodesBack, Deco
 use Rattle.wasm_base.specs.{any_bytes, size_prefixed, vec, wasm_module, SectionDecoding, decoding_of, padded_decoding_of, raw_decoding, AreDecoded, DecodesSections, DecodesPayloads, GainsDecoding}
 use Rattle.wasm_base.specs.{GainsDecodingPadded, SectionPayload, IsEncodableSection, section_encoding, section_sized, DecodesUniquely, DecodesUniquelyPadded, DecodesWhole, IsSizePrefixed}
 use Rattle.wasm_base.specs.{size_prefixed_encoding, HasEncodableSize, raw_sized}
+use Rattle.wasm_base.specs.{Joined, Cut, Gains, IsEncodableJoined, joined_payload, joined_encoding, joined_sized}
+use Rattle.wasm_base.proofs.Std.{◌∙◌, ap, length-append}
+use Rattle.wasm_base.proofs.Cut.{joined_push}
 use Rattle.wasm_base.proofs.ContentsLaws.{contains_more}
 use Rattle.wasm_base.proofs.Payloads.{bytes-payload, payload-decodes-padded}
 
@@ -97,6 +100,32 @@ pub encodes_items : {A Record Item : Type 0} {kind : Kind Record Item} {encodabl
     → OnOk result (DecodesBackBoth (counted_format kind.format) (ContainsItems kind entries) (ContainsPadded kind.format entries) (section_encoding entries)) → ContainsItems kind entries items → OnOk result (GainsDecoding (counted_format kind.format) items old.items new.items)
 encodes_items {entries = entries} {result = Ok u} {items = items} appends decodes contains = record { encoding = section_encoding entries; added = appends.ok; unique = decodes.plain.for_each items contains }
 encodes_items {result = Err e} appends decodes contains = tt
+
+-- ---- sections whose entries are joined
+
+-- A new store consists of no pieces.
+pub cut_none : {P : List (List ℕ) → Type 0} {j : Joined} → j ≡ record { number = 0; content = [] } → P [] → Cut P j
+cut_none {P = P} e holds = subst (Cut P) (sym e) (record { pieces = []; number = refl; content = refl; are = holds })
+
+-- An equal store consists of the same pieces.
+pub cut_same : {P : List (List ℕ) → Type 0} {old new : Joined} → Cut P old → new ≡ old → Cut P new
+cut_same {P = P} cut e = subst (Cut P) (sym e) cut
+
+-- A store that gains an entry consists of one more piece. So each lemma on a section that gains an
+-- entry is one on a store.
+pub cut_gains : {P Q : List (List ℕ) → Type 0} {encoding : List ℕ} {old new : Joined} → Cut P old → Gains encoding old new → ((pieces : List (List ℕ)) → P pieces → Q (pieces ++ encoding ∷ [])) → Cut Q new
+cut_gains {encoding = encoding} cut gains more = record {
+  pieces = cut.pieces ++ encoding ∷ [];
+  number = omega (arith, length-append cut.pieces (encoding ∷ []), cut.number, gains.number);
+  content = joined_push cut.pieces encoding ∙ ap (λ b. b ++ encoding) cut.content ∙ sym gains.content;
+  are = more cut.pieces cut.are;
+}
+
+-- A module that gains a section of joined entries decodes to what it says.
+pub gains_joined : {decodings : List SectionDecoding} {id : ℕ} {old new : List ℕ} {j : Joined} {X : Type 0} {F : Format X} {Says : X → Type 0} {x : X} → DecodesPayloads F → DecodesSections decodings old
+    → DecodesOneMore (λ payload. payload ≡ joined_payload j) id old new → IsEncodableJoined j → DecodesBack (size_prefixed F) Says (joined_encoding j) → Says x → DecodesSections (decodings ++ decoding_of id F x ∷ []) new
+gains_joined {j = j} {F = F} {x = x} payloads before more fits decodes says =
+    gains_section {F = F} before more payloads (joined_encoding j) _ refl (joined_sized j (joined_encoding j) _ refl fits refl) x (decodes.for_each x says)
 
 -- ---- sections with padded LEB128
 

@@ -1,5 +1,6 @@
 -- The lemmas of the crate: each file as a module. `Words` re-exports what dependent crates use.
 pub mod Std
+pub mod JoinedLaws
 pub mod Words
 pub mod NumberLaws
 pub mod FormatLaws

@@ -4,6 +4,7 @@ use Rattle.std.specs.declared.vec.Vec.{Vec}
 use Rattle.wasm_base.specs.Formats.{Format, wasm_module}
 use Rattle.wasm_base.specs.Decoding.{DecodesUniquely, DecodesUniquelyPadded, DecodesWhole}
 use Rattle.wasm_base.specs.Encodings.{longest}
+use Rattle.wasm_base.specs.Stores.{StoreModel, pieces_model}
 use Rattle.wasm_base.specs.declared.refused.Refused.{Refused}
 use Rattle.wasm_base.specs.declared.refused.Refused.TheVariants.{TooLong}
 
@@ -19,13 +20,17 @@ pub record Appends {A : Type 0} (encoding : List ℕ) (encodable : Type 0) (old 
 
 -- The builder gains one entry with this encoding, or the call returns an error and changes nothing.
 -- A full builder, with 2^32 - 1 entries, returns `TooLong`.
-pub record Adds (encoding : List ℕ) (encodable : Type 0) (old new : List (List ℕ)) (result : Result (Unit {0}) Refused) : Type 0 where
-  pub ok : OnOk result (new ≡ old ++ encoding ∷ [])
+pub record AddsTo {M : Type 0} (model : StoreModel M) (encoding : List ℕ) (encodable : Type 0) (old new : M) (result : Result (Unit {0}) Refused) : Type 0 where
+  pub ok : OnOk result (model.gains encoding old new)
   pub err : OnErr result (new ≡ old)
   pub was_encodable : OnOk result encodable
-  pub counted : OnOk result (length old < longest)
-  pub too_long : encodable → length old < longest → result ≢ Err TooLong
-  pub full : length old ≡ longest → result ≡ Err TooLong
+  pub counted : OnOk result ((model.joins old).number < longest)
+  pub too_long : encodable → (model.joins old).number < longest → result ≢ Err TooLong
+  pub full : (model.joins old).number ≡ longest → result ≡ Err TooLong
+
+-- `AddsTo` of a builder whose entries are a list of pieces.
+abbrev pub Adds : List ℕ → Type 0 → List (List ℕ) → List (List ℕ) → Result (Unit {0}) Refused → Type 0
+Adds encoding encodable old new result = AddsTo pieces_model encoding encodable old new result
 
 -- The builder gains one entry for each of these items, in order.
 pub record AddsEach {T : Type 0} (encoding : T → List ℕ) (Encodable : T → Type 0) (items : List T) (old new : List (List ℕ)) : Type 0 where

@@ -6,6 +6,7 @@ pub mod Decoding
 pub mod Encodings
 pub mod Iterators
 pub mod Pieces
+pub mod Stores
 pub mod Calls
 pub mod Modules
 pub mod Entries
@@ -25,6 +26,7 @@ unfoldable pub use Rattle.wasm_base.specs.Decoding.*
 unfoldable pub use Rattle.wasm_base.specs.Encodings.*
 unfoldable pub use Rattle.wasm_base.specs.Iterators.*
 unfoldable pub use Rattle.wasm_base.specs.Pieces.*
+unfoldable pub use Rattle.wasm_base.specs.Stores.*
 unfoldable pub use Rattle.wasm_base.specs.Calls.*
 unfoldable pub use Rattle.wasm_base.specs.Modules.*
 unfoldable pub use Rattle.wasm_base.specs.Entries.*

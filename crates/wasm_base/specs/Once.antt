@@ -1,9 +1,10 @@
 -- This file defines values that are encoded once, since the iterator in them is consumed, and the
 -- calls that encode them.
-use Rattle.std.specs.Prelude.{◌≡◌, ◌≢◌, ℕ, ◌<◌, ◌≤◌, List, [], ◌∷◌, ◌++◌, length, vec_capacity, Result, Err, OnOk, OnErr, Option}
+use Rattle.std.specs.Prelude.{◌≡◌, ◌≢◌, ℕ, ◌<◌, ◌≤◌, List, ◌++◌, length, vec_capacity, Result, Err, OnOk, OnErr, Option}
 use Rattle.std.specs.Iterator.{Count, Drains, Yields, IsFinite}
 use Rattle.std.specs.List.{All}
 use Rattle.std.specs.declared.vec.Vec.{Vec}
+use Rattle.wasm_base.specs.Stores.{StoreModel, pieces_model}
 use Rattle.wasm_base.specs.Encodings.{longest, vec_encoding, IsEncodableVec, size_prefixed_encoding, HasEncodableSize}
 use Rattle.wasm_base.specs.declared.refused.Refused.{Refused}
 use Rattle.wasm_base.specs.declared.refused.Refused.TheVariants.{TooLong}
@@ -18,12 +19,16 @@ pub record AppendsOnce {A : Type 0} (Gives : List ℕ → Type 0) (encodable : T
 
 -- The builder gains one entry with one of these encodings, or the call returns an error and changes
 -- nothing. A full builder, with 2^32 - 1 entries, returns `TooLong`.
-pub record AddsOnce (Gives : List ℕ → Type 0) (encodable : Type 0) (old new : List (List ℕ)) (result : Result (Unit {0}) Refused) : Type 0 where
-  pub ok : OnOk result ((encoding : List ℕ) × Gives encoding × (new ≡ old ++ encoding ∷ []))
+pub record AddsOnceTo {M : Type 0} (model : StoreModel M) (Gives : List ℕ → Type 0) (encodable : Type 0) (old new : M) (result : Result (Unit {0}) Refused) : Type 0 where
+  pub ok : OnOk result ((encoding : List ℕ) × Gives encoding × model.gains encoding old new)
   pub err : OnErr result (new ≡ old)
-  pub counted : OnOk result (length old < longest)
-  pub too_long : encodable → length old < longest → result ≢ Err TooLong
-  pub full : length old ≡ longest → result ≡ Err TooLong
+  pub counted : OnOk result ((model.joins old).number < longest)
+  pub too_long : encodable → (model.joins old).number < longest → result ≢ Err TooLong
+  pub full : (model.joins old).number ≡ longest → result ≡ Err TooLong
+
+-- `AddsOnceTo` of a builder whose entries are a list of pieces.
+abbrev pub AddsOnce : (List ℕ → Type 0) → Type 0 → List (List ℕ) → List (List ℕ) → Result (Unit {0}) Refused → Type 0
+AddsOnce Gives encodable old new result = AddsOnceTo pieces_model Gives encodable old new result
 
 -- The iterator may be called, ends, and yields exactly `count` items. The count is at most
 -- 2^32 - 1.

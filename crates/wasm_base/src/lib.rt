@@ -27,6 +27,7 @@ mod refused;
 mod section_id;
 mod sections;
 mod shorten;
+mod store;
 mod tuples;
 mod types;
 mod vectors;
@@ -57,6 +58,7 @@ pub use section_id::{
 };
 pub use sections::{RawSection, Section};
 pub use shorten::Shorten;
+pub use store::{Entries, ItemsOf, NewStore, PaddedOf, Property, Store};
 pub use types::{AbstractHeapType, HeapType, RefType, ValType, read_val_after};
 pub use vectors::{append_all, encode_vec};
 pub use walk::{

@@ -15,6 +15,7 @@ use Rattle.wasm_insn.proofs.Words.{Plain, instruction as instruction_format, br_
 use Rattle.wasm_insn.proofs.Words.{byte_encodes, one_argument, byte_shape}
 use Rattle.wasm_insn.specs.declared.instruction.Instruction.TheVariants.{I32Const}
 use Rattle.wasm_insn.specs.declared.op.Shape.TheVariants.{C32}
+use Rattle.wasm_base.specs.Stores.{pieces_model}
 use Rattle.wasm_code.specs.{Run, IsRun, IsRuns, expand, Body, body as body_format, IsWellFormedBody, IsPaddedBody, and_then, Grows, HasLocals, BeginsWithRuns, BeginsWithTypes, code_section}
 use Rattle.wasm_code.specs.{ContainsBodies, EncodesBodiesIn, EncodesBodies, EncodesBodiesPadded, DecodesCode, raw_code_decoding, code_decoding, padded_code_decoding, IsNoEnd, StoresInstructions}
 use Rattle.wasm_code.specs.{StoresPadded, Stores, normal_row, ContainsMoreBodies, GrowsByEncoding, GrowsByLabels, br_table_row, ContainsMoreBodiesPadded, GrowsPadded, GrowsByEncodingPadded}
@@ -138,19 +139,19 @@ adds_bodies {old = old} {raw = raw} {bodies = bodies} before added xs encodes =
 
 -- The module gains a code section of these bodies.
 pub gains_code : {decodings : List SectionDecoding} {id : ℕ} {old new : List ℕ} {entries : List (List ℕ)} {bodies : List Body} → DecodesSections decodings old → DecodesOneMore (SectionPayload entries) id old new
-    → IsEncodableSection entries → DecodesCode entries (section_encoding entries) → EncodesBodies entries bodies → DecodesSections (decodings ++ (id, (code_decoding bodies).1) ∷ []) new
+    → IsEncodableSection entries → DecodesCode pieces_model.holds entries (section_encoding entries) → EncodesBodies entries bodies → DecodesSections (decodings ++ (id, (code_decoding bodies).1) ∷ []) new
 gains_code {entries = entries} {bodies = bodies} before more encodable decodes encodes =
     gains_section {F = vec (size_prefixed body_format)} before more code_section-payload (section_encoding entries) _ refl (section_sized entries _ encodable refl) bodies (decodes.bodies.for_each bodies encodes)
 
 -- The module gains a code section of these raw bodies, whether they encode bodies or not.
 pub gains_raw_code : {decodings : List SectionDecoding} {id : ℕ} {old new : List ℕ} {entries : List (List ℕ)} → DecodesSections decodings old → DecodesOneMore (SectionPayload entries) id old new
-    → IsEncodableSection entries → DecodesCode entries (section_encoding entries) → (raw : List (List ℕ)) → ContainsBodies entries raw → DecodesSections (decodings ++ (id, (raw_code_decoding raw).1) ∷ []) new
+    → IsEncodableSection entries → DecodesCode pieces_model.holds entries (section_encoding entries) → (raw : List (List ℕ)) → ContainsBodies entries raw → DecodesSections (decodings ++ (id, (raw_code_decoding raw).1) ∷ []) new
 gains_raw_code {entries = entries} before more encodable decodes raw held =
     gains_section {F = vec (size_prefixed any_bytes)} before more raw_code-payload (section_encoding entries) _ refl (section_sized entries _ encodable refl) raw (decodes.raw.for_each raw held)
 
 -- A buffer gains a code section.
 pub encodes_code : {A : Type 0} {encodable : Type 0} {entries : List (List ℕ)} {old new : Vec ℕ A} {result : Result (Unit {0}) Refused} {bodies : List Body} → Appends (section_encoding entries) encodable old new result
-    → OnOk result (DecodesCode entries (section_encoding entries)) → EncodesBodies entries bodies → OnOk result (GainsDecoding code_section bodies old.items new.items)
+    → OnOk result (DecodesCode pieces_model.holds entries (section_encoding entries)) → EncodesBodies entries bodies → OnOk result (GainsDecoding code_section bodies old.items new.items)
 encodes_code {entries = entries} {result = Ok u} {bodies = bodies} appends decodes encodes =
     record { encoding = section_encoding entries; added = appends.ok; unique = decodes.bodies.for_each bodies encodes }
 encodes_code {result = Err e} appends decodes encodes = tt
@@ -211,13 +212,13 @@ adds_bodies_padded {old = old} {raw = raw} {bodies = bodies} before added xs enc
 
 -- The module gains a code section of these bodies.
 pub gains_code_padded : {decodings : List SectionDecoding} {id : ℕ} {old new : List ℕ} {entries : List (List ℕ)} {bodies : List Body} → DecodesSections decodings old → DecodesOneMore (SectionPayload entries) id old new
-    → IsEncodableSection entries → DecodesCode entries (section_encoding entries) → EncodesBodiesPadded entries bodies → DecodesSections (decodings ++ (id, (padded_code_decoding bodies).1) ∷ []) new
+    → IsEncodableSection entries → DecodesCode pieces_model.holds entries (section_encoding entries) → EncodesBodiesPadded entries bodies → DecodesSections (decodings ++ (id, (padded_code_decoding bodies).1) ∷ []) new
 gains_code_padded {entries = entries} {bodies = bodies} before more encodable decodes encodes =
     gains_section_padded {F = vec (size_prefixed body_format)} before more (section_encoding entries) _ refl (section_sized entries _ encodable refl) bodies (decodes.padded.for_each bodies encodes)
 
 -- A buffer gains a code section.
 pub encodes_code_padded : {A : Type 0} {encodable : Type 0} {entries : List (List ℕ)} {old new : Vec ℕ A} {result : Result (Unit {0}) Refused} {bodies : List Body} → Appends (section_encoding entries) encodable old new result
-    → OnOk result (DecodesCode entries (section_encoding entries)) → EncodesBodiesPadded entries bodies → OnOk result (GainsDecodingPadded code_section bodies old.items new.items)
+    → OnOk result (DecodesCode pieces_model.holds entries (section_encoding entries)) → EncodesBodiesPadded entries bodies → OnOk result (GainsDecodingPadded code_section bodies old.items new.items)
 encodes_code_padded {entries = entries} {result = Ok u} {bodies = bodies} appends decodes encodes =
     record { encoding = section_encoding entries; added = appends.ok; unique = decodes.padded.for_each bodies encodes }
 encodes_code_padded {result = Err e} appends decodes encodes = tt

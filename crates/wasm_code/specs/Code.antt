@@ -33,12 +33,12 @@ EncodesBodies entries bodies = EncodesBodiesIn minimal entries bodies
 abbrev pub EncodesBodiesPadded : List (List ℕ) → List Body → Type 0
 EncodesBodiesPadded entries bodies = EncodesBodiesIn padded entries bodies
 
--- The headline: the bytes decode to the raw bodies alone. If the raw bodies encode some bodies,
--- minimally or padded, the bytes decode to those bodies alone.
-pub record DecodesCode (entries : List (List ℕ)) (encoding : List ℕ) : Type 0 where
-  pub raw : DecodesBack raw_code (ContainsBodies entries) encoding
-  pub bodies : DecodesBack code_section (EncodesBodies entries) encoding
-  pub padded : DecodesBackPadded code_section (EncodesBodiesPadded entries) encoding
+-- The headline: the bytes decode to the raw bodies that the section holds alone. If these encode
+-- some bodies, minimally or padded, the bytes decode to those bodies alone.
+pub record DecodesCode {M : Type 0} (holds : (List (List ℕ) → Type 0) → M → Type 0) (section : M) (encoding : List ℕ) : Type 0 where
+  pub raw : DecodesBack raw_code (λ raw. holds (λ entries. ContainsBodies entries raw) section) encoding
+  pub bodies : DecodesBack code_section (λ bodies. holds (λ entries. EncodesBodies entries bodies) section) encoding
+  pub padded : DecodesBackPadded code_section (λ bodies. holds (λ entries. EncodesBodiesPadded entries bodies) section) encoding
 
 -- The code section that decodes to these raw bodies.
 abbrev pub raw_code_decoding : List (List ℕ) → SectionDecoding

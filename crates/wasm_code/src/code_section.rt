@@ -1,17 +1,19 @@
 // The code section, to which function bodies are added.
 ghost use Rattle.std.specs.Prelude.{◌≡◌, ◌≢◌, ℕ, List, [], length, IfOk, IsTrue, ◌↔◌, slice_get};
 ghost use Rattle.std.specs.Option.{option_copied};
-ghost use Rattle.wasm_base.specs.Calls.{Adds};
-ghost use Rattle.wasm_base.specs.Pieces.{joined, section_encoding, IsEncodableSection, IsOverlong};
+ghost use Rattle.wasm_base.specs.Calls.{AddsTo};
 ghost use Rattle.wasm_base.specs.Encodings.{size_prefixed_encoding, HasEncodableSize};
 ghost use Rattle.wasm_base.specs.declared.refused.Refused.TheVariants.{TooLong};
 ghost use Rattle.wasm_code.specs.Bodies.{Body};
-ghost use Rattle.wasm_code.specs.Code.{code_section, EncodesBodies, DecodesCode};
+ghost use Rattle.wasm_code.specs.Code.{code_section, ContainsBodies, EncodesBodies, EncodesBodiesPadded, DecodesCode};
 
 use crate::function::Function;
 use std::alloc::{Allocator, Global};
 use std::marker::Model;
-use wasm_base::{Counted, Encode, Pieces, Result, Section, SectionId, encode_size_prefixed};
+use wasm_base::{
+    Counted, Encode, NewStore, Pieces, Property, Result, Section, SectionId, Store,
+    encode_size_prefixed,
+};
 
 /// The code section: the bodies of a module's functions, modelled as the bytes of each entry. An
 /// entry is a raw body with its size prefix.
@@ -21,6 +23,9 @@ use wasm_base::{Counted, Encode, Pieces, Result, Section, SectionId, encode_size
 /// code.raw(&[0x00, 0x0B])?;
 /// module.section(&code)?;
 /// ```
+pub type CodeSection<A = Global> = CodeSectionIn<Pieces<A>>;
+
+/// A code section, whose entries a store of the type `S` keeps.
 ///
 /// # Errors
 ///
@@ -28,14 +33,14 @@ use wasm_base::{Counted, Encode, Pieces, Result, Section, SectionId, encode_size
 /// if the section is full or the body is longer than 4294967295 bytes, and `Memory` only if an
 /// allocation fails.
 #[derive(Drop, Debug)]
-pub struct CodeSection<A: Allocator = Global> {
-    pieces: Pieces<A>,
+pub struct CodeSectionIn<S: Store = Pieces> {
+    entries: S,
 }
 
-impl<A: Allocator> Model for CodeSection<A> {
-    ghost Value = { List (List ℕ) };
+impl<S: Store> Model for CodeSectionIn<S> {
+    ghost Value = { S };
 
-    ghost view = { λ s. s.pieces };
+    ghost view = { λ s. s.entries };
 }
 
 /// A raw body that the caller passes as bytes.
@@ -55,58 +60,90 @@ impl Encode for RawBody<'_> {
     }
 }
 
-impl<A: Allocator> CodeSection<A> {
+/// The entries are raw bodies with their size prefixes.
+#[derive(Clone, Copy, Debug)]
+struct RawBodies;
+
+impl Property for RawBodies {
+    ghost Items = { List (List ℕ) };
+
+    ghost says = { ContainsBodies };
+}
+
+/// The entries minimally encode bodies.
+#[derive(Clone, Copy, Debug)]
+struct Bodies;
+
+impl Property for Bodies {
+    ghost Items = { List Body };
+
+    ghost says = { EncodesBodies };
+}
+
+/// The entries encode bodies, possibly padded.
+#[derive(Clone, Copy, Debug)]
+struct PaddedBodies;
+
+impl Property for PaddedBodies {
+    ghost Items = { List Body };
+
+    ghost says = { EncodesBodiesPadded };
+}
+
+impl<S: Store> CodeSectionIn<S> {
     /// Returns the number of bodies.
     pub fn len(&self) -> u32
-        ensures { result ≡ length self.now }
+        ensures { result ≡ (S.model.joins self.now).number }
     {
-        self.pieces.len()
+        self.entries.count()
     }
 
     /// Returns the length of all entries together, in bytes, without their count.
     pub fn byte_len(&self) -> usize
-        ensures { result ≡ length (joined self.now) }
+        ensures { result ≡ length (S.model.joins self.now).content }
     {
-        self.pieces.raw_len()
+        self.entries.content().len()
     }
 
     /// Returns `true` if there are no bodies.
     pub fn is_empty(&self) -> bool
-        ensures { IsTrue result ↔ (length self.now ≡ 0) }
+        ensures { IsTrue result ↔ ((S.model.joins self.now).number ≡ 0) }
     {
-        self.pieces.is_empty()
+        self.entries.count() == 0
     }
 
+    /// Adds a function body.
+    pub fn function<B: Allocator>(&mut self, function: &Function<B>) -> Result<()>
+        ensures { AddsTo S.model (size_prefixed_encoding function.now) (HasEncodableSize function.now) self.old self.new result }
+    {
+        self.entries.add_item(function)
+    }
+
+    /// Adds a raw body, as [`Function::into_raw_body`](crate::Function::into_raw_body) returns it.
+    pub fn raw(&mut self, body: &[u8]) -> Result<()>
+        ensures { AddsTo S.model (size_prefixed_encoding body.now) (HasEncodableSize body.now) self.old self.new result }
+    {
+        self.entries.add_item(&RawBody { bytes: body })
+    }
+}
+
+impl<A: Allocator> CodeSection<A> {
     /// Returns the bytes of the entry at `index`, a raw body with its size prefix, or `None` if
     /// there is no such entry.
     pub fn piece(&self, index: u32) -> Option<&[u8]>
         ensures { option_copied result ≡ slice_get self.now index }
     {
-        self.pieces.get(index)
-    }
-
-    /// Adds a function body.
-    pub fn function<B: Allocator>(&mut self, function: &Function<B>) -> Result<()>
-        ensures { Adds (size_prefixed_encoding function.now) (HasEncodableSize function.now) self.old self.new result }
-    {
-        self.pieces.add_encoded(function)
-    }
-
-    /// Adds a raw body, as [`Function::into_raw_body`](crate::Function::into_raw_body) returns it.
-    pub fn raw(&mut self, body: &[u8]) -> Result<()>
-        ensures { Adds (size_prefixed_encoding body.now) (HasEncodableSize body.now) self.old self.new result }
-    {
-        self.pieces.add_encoded(&RawBody { bytes: body })
+        self.entries.get(index)
     }
 }
 
-impl<A: Allocator + Copy> CodeSection<A> {
+impl<S: NewStore> CodeSectionIn<S> {
     /// Returns a section without bodies, and allocates nothing.
-    pub fn new(alloc: A) -> Self
-        ensures { result ≡ [] }
+    pub fn new(alloc: S::Alloc) -> Self
+        ensures { result ≡ S.none }
     {
-        CodeSection {
-            pieces: Pieces::new(alloc),
+        CodeSectionIn {
+            entries: S::new_in(alloc),
         }
     }
 
@@ -115,29 +152,32 @@ impl<A: Allocator + Copy> CodeSection<A> {
         ensures same { IfOk result (λ section. section ≡ self.now) }
         ensures memory { result ≢ Err TooLong }
     {
-        Ok(CodeSection {
-            pieces: self.pieces.clone()?,
+        Ok(CodeSectionIn {
+            entries: self.entries.copy()?,
         })
     }
 }
 
 /// Encodes the size prefix, the number of bodies, and the bodies, each with its size prefix.
-impl<A: Allocator> Encode for CodeSection<A> {
-    ghost encoding = { section_encoding };
+impl<S: Store> Encode for CodeSectionIn<S> {
+    ghost encoding = { S.encoding };
 
-    ghost encodable = { IsEncodableSection };
+    ghost encodable = { S.encodable };
 
-    ghost overlong = { IsOverlong };
+    ghost overlong = { S.overlong };
 
-    ghost decoding = { λ section. DecodesCode section (section_encoding section) };
+    ghost decoding = { λ section. DecodesCode S.model.holds section (S.encoding section) };
 
     fn encode<B: Allocator>(&self, sink: &mut Vec<u8, B>) -> Result<()> {
-        self.pieces.encode(sink)
+        self.entries.cut::<RawBodies>();
+        self.entries.cut::<Bodies>();
+        self.entries.cut::<PaddedBodies>();
+        self.entries.encode(sink)
     }
 }
 
-impl<A: Allocator> Section for CodeSection<A> {
-    ghost use Rattle.wasm_base.specs.Pieces.{SectionPayload, section_sized};
+impl<S: Store> Section for CodeSectionIn<S> {
+    ghost use Rattle.wasm_base.specs.Stores.{joined_payload, joined_sized};
     ghost use Rattle.wasm_base.specs.SectionId.{number_of};
     ghost use Rattle.wasm_base.specs.declared.section_id.SectionId.TheVariants as ids;
 
@@ -147,15 +187,15 @@ impl<A: Allocator> Section for CodeSection<A> {
 
     ghost format = { code_section };
 
-    ghost says = { EncodesBodies };
+    ghost says = { λ section bodies. S.model.holds (λ pieces. EncodesBodies pieces bodies) section };
 
-    ghost payload = { SectionPayload };
+    ghost payload = { λ section bytes. bytes ≡ joined_payload (S.model.joins section) };
 
     fn id(&self) -> u8 {
         SectionId::Code.into()
     }
 
-    ghost sized = { section_sized };
+    ghost sized = { λ section bytes encodable e. joined_sized (S.model.joins section) (S.encoding section) bytes (S.encodes section) (S.fits section encodable) e };
 
     ghost decodes_back = { λ section promised. promised.bodies };
 }

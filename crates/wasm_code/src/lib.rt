@@ -8,13 +8,14 @@ mod const_expr;
 mod expression;
 mod first;
 mod function;
+pub mod joined;
 pub mod laws;
 mod locals;
 mod members;
 mod walk;
 
 pub use body::{Body, read_body, read_code, shorten_body};
-pub use code_section::CodeSection;
+pub use code_section::{CodeSection, CodeSectionIn};
 pub use const_expr::ConstExpr;
 pub use expression::Expression;
 pub use function::Function;

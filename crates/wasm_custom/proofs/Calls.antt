@@ -12,6 +12,7 @@ use Rattle.std.specs.declared.array.IntoIter.{IntoIter}
 use Rattle.std.specs.declared.vec.Vec.{Vec}
 use Rattle.wasm_base.specs.declared.refused.Refused.{Refused}
 use Rattle.std.specs.declared.vec.IntoIter.{IntoIter as VecIter}
+use Rattle.wasm_base.specs.Stores.{pieces_model}
 use Rattle.wasm_custom.specs.{AddsList, AddsTwoLists, modules_name, instances_name, marked_encoding, core_name, SaysProcess, marked_name, Instance, instance, ContainsModules, ContainsInstances}
 use Rattle.wasm_custom.specs.{modules_payload, instances_payload, core_payload, StackFrame, stack_name, SaysStack, stack_payload, value_encoding, IsValue, named_payload, named_encoding}
 use Rattle.wasm_custom.specs.{IsEncodableNamed, NamedPayload, named_sized, subsection_encoding, entries_encoding, hints_name, hint_encoding, IsHint, hints, ContainsHints, hints_payload, linking_name}
@@ -339,7 +340,7 @@ list_encodable {X} P {xs = xs} e encodable are = record { count = subst (λ l. l
 -- The section gains a function's hints that an iterator yields. For an array the last premise is
 -- `array_gives hs`.
 pub adds_hints_of : {U S : Type 0} {becomes : U → S → Type 0} {gives : S → Option BranchHint → S → Type 0} {remaining : S → Count} {elements : U} {old new : List (List ℕ)} {items : List Hints} → ContainsHints old items → (index : ℕ)
-    → AddsList becomes gives remaining elements (λ h. Unit {0}) (λ xs. unsigned_encoding index ++ vec_encoding hint_encoding xs) old new (Ok (tt {0})) → (hs : List BranchHint) → GivesItems becomes gives elements hs → index < 2 ^ 32 → AllByRecursion IsHint hs
+    → AddsList pieces_model becomes gives remaining elements (λ h. Unit {0}) (λ xs. unsigned_encoding index ++ vec_encoding hint_encoding xs) old new (Ok (tt {0})) → (hs : List BranchHint) → GivesItems becomes gives elements hs → index < 2 ^ 32 → AllByRecursion IsHint hs
     → ContainsHints new (items ++ (index, hs) ∷ [])
 adds_hints_of {old = old} before index added hs are range plain =
     let given = added.ok in
@@ -348,13 +349,13 @@ adds_hints_of {old = old} before index added hs are range plain =
 
 -- The same for the hints of an array.
 pub adds_hints : {n : ℕ} {remaining : IntoIter BranchHint n → Count} {hs : List BranchHint} {old new : List (List ℕ)} {items : List Hints} → ContainsHints old items → (index : ℕ)
-    → AddsList becomes array_steps remaining hs (λ h. Unit {0}) (λ xs. unsigned_encoding index ++ vec_encoding hint_encoding xs) old new (Ok (tt {0})) → index < 2 ^ 32 → AllByRecursion IsHint hs → ContainsHints new (items ++ (index, hs) ∷ [])
+    → AddsList pieces_model becomes array_steps remaining hs (λ h. Unit {0}) (λ xs. unsigned_encoding index ++ vec_encoding hint_encoding xs) old new (Ok (tt {0})) → index < 2 ^ 32 → AllByRecursion IsHint hs → ContainsHints new (items ++ (index, hs) ∷ [])
 adds_hints {hs = hs} before index added range plain = adds_hints_of before index added hs (array_gives hs) range plain
 
 -- The section gains an instance of a core dump, whose memories and globals iterators yield.
 pub adds_instance_of : {U S V R : Type 0} {becomes : U → S → Type 0} {gives : S → Option ℕ → S → Type 0} {remaining : S → Count} {first : U} {turns : V → R → Type 0} {hands : R → Option ℕ → R → Type 0} {left : R → Count} {second : V}
     {old new : List (List ℕ)} {items : List Instance} → ContainsInstances old items → (i : Instance)
-    → AddsTwoLists becomes gives remaining first turns hands left second (λ x. Unit {0}) (λ x. Unit {0}) (λ xs ys. (0x00 ∷ unsigned_encoding i.module_index) ++ (vec_encoding unsigned_encoding xs ++ vec_encoding unsigned_encoding ys)) old new (Ok (tt {0}))
+    → AddsTwoLists pieces_model becomes gives remaining first turns hands left second (λ x. Unit {0}) (λ x. Unit {0}) (λ xs ys. (0x00 ∷ unsigned_encoding i.module_index) ++ (vec_encoding unsigned_encoding xs ++ vec_encoding unsigned_encoding ys)) old new (Ok (tt {0}))
     → GivesItems becomes gives first i.memories → GivesItems turns hands second i.globals → i.module_index < 2 ^ 32 → AllByRecursion (IsUnsignedInRange 32) i.memories → AllByRecursion (IsUnsignedInRange 32) i.globals → ContainsInstances new (items ++ i ∷ [])
 adds_instance_of {old = old} before i added are others range memories globals =
     let given = added.ok in
@@ -366,7 +367,7 @@ adds_instance_of {old = old} before i added are others range memories globals =
 
 -- The same for memories and globals of arrays.
 pub adds_instance : {n m : ℕ} {remaining : IntoIter ℕ n → Count} {left : IntoIter ℕ m → Count} {old new : List (List ℕ)} {items : List Instance} → ContainsInstances old items → (i : Instance)
-    → AddsTwoLists becomes array_steps remaining i.memories becomes array_steps left i.globals (λ x. Unit {0}) (λ x. Unit {0}) (λ xs ys. (0x00 ∷ unsigned_encoding i.module_index) ++ (vec_encoding unsigned_encoding xs ++ vec_encoding unsigned_encoding ys)) old new (Ok (tt {0}))
+    → AddsTwoLists pieces_model becomes array_steps remaining i.memories becomes array_steps left i.globals (λ x. Unit {0}) (λ x. Unit {0}) (λ xs ys. (0x00 ∷ unsigned_encoding i.module_index) ++ (vec_encoding unsigned_encoding xs ++ vec_encoding unsigned_encoding ys)) old new (Ok (tt {0}))
     → i.module_index < 2 ^ 32 → AllByRecursion (IsUnsignedInRange 32) i.memories → AllByRecursion (IsUnsignedInRange 32) i.globals → ContainsInstances new (items ++ i ∷ [])
 adds_instance before i added range memories globals = adds_instance_of before i added (array_gives i.memories) (array_gives i.globals) range memories globals
 
@@ -379,7 +380,7 @@ new_stack e utf8 = (utf8, ap (λ s. s.0) e, new_section (ap (λ s. s.1) e))
 -- yield.
 pub adds_frame_of : {U S V R : Type 0} {becomes : U → S → Type 0} {gives : S → Option CoreDumpValue → S → Type 0} {remaining : S → Count} {first : U} {turns : V → R → Type 0} {hands : R → Option CoreDumpValue → R → Type 0} {left : R → Count} {second : V}
     {old new : List ℕ × List (List ℕ)} {thread : List ℕ} {frames : List StackFrame} → SaysStack old.0 old.1 (thread, frames) → (f : StackFrame)
-    → AddsTwoLists becomes gives remaining first turns hands left second (λ x. Unit {0}) (λ x. Unit {0})
+    → AddsTwoLists pieces_model becomes gives remaining first turns hands left second (λ x. Unit {0}) (λ x. Unit {0})
     (λ xs ys. (0x00 ∷ (unsigned_encoding f.instance ++ (unsigned_encoding f.function ++ unsigned_encoding f.offset))) ++ (vec_encoding value_encoding xs ++ vec_encoding value_encoding ys)) old.1 new.1 (Ok (tt {0}))
     → new.0 ≡ old.0 → GivesItems becomes gives first f.locals → GivesItems turns hands second f.stack → f.instance < 2 ^ 32 → f.function < 2 ^ 32 → f.offset < 2 ^ 32 → AllByRecursion IsValue f.locals → AllByRecursion IsValue f.stack
     → SaysStack new.0 new.1 (thread, frames ++ f ∷ [])
@@ -396,7 +397,7 @@ adds_frame_of {old = old} before f added thread are others instance function off
 
 -- The same for locals and stacks of arrays.
 pub adds_frame : {n m : ℕ} {remaining : IntoIter CoreDumpValue n → Count} {left : IntoIter CoreDumpValue m → Count} {old new : List ℕ × List (List ℕ)} {thread : List ℕ} {frames : List StackFrame} → SaysStack old.0 old.1 (thread, frames) → (f : StackFrame)
-    → AddsTwoLists becomes array_steps remaining f.locals becomes array_steps left f.stack (λ x. Unit {0}) (λ x. Unit {0})
+    → AddsTwoLists pieces_model becomes array_steps remaining f.locals becomes array_steps left f.stack (λ x. Unit {0}) (λ x. Unit {0})
     (λ xs ys. (0x00 ∷ (unsigned_encoding f.instance ++ (unsigned_encoding f.function ++ unsigned_encoding f.offset))) ++ (vec_encoding value_encoding xs ++ vec_encoding value_encoding ys)) old.1 new.1 (Ok (tt {0}))
     → new.0 ≡ old.0 → f.instance < 2 ^ 32 → f.function < 2 ^ 32 → f.offset < 2 ^ 32 → AllByRecursion IsValue f.locals → AllByRecursion IsValue f.stack → SaysStack new.0 new.1 (thread, frames ++ f ∷ [])
 adds_frame before f added thread instance function offset locals stack = adds_frame_of before f added thread (array_gives f.locals) (array_gives f.stack) instance function offset locals stack

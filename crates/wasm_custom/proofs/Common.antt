@@ -18,7 +18,7 @@ pub use Rattle.wasm_custom.proofs.DecodeMarked.{marked_none}
 pub use Rattle.wasm_custom.proofs.DecodeNamed.{counted_decodes, counted_more, counted_none, counted_rejects, name_none, name_other}
 pub use Rattle.wasm_custom.proofs.DylinkLaws.{dylink_begins, dylink_none, export_flags_none, exports_decodes, exports_none, import_flags_none, imports_decodes, imports_none, memory_decodes, memory_none}
 pub use Rattle.wasm_custom.proofs.DylinkLaws.{exports_encoded, imports_encoded, memory_encoded, needed_decodes, needed_encoded, needed_none, needs_none, paths_decodes, paths_encoded, paths_none, section_fills, section_none, section_rejects}
-pub use Rattle.wasm_custom.proofs.EntriesLaws.{counted_appended, entries_back, same_encodable}
+pub use Rattle.wasm_custom.proofs.EntriesLaws.{counted_appended, stored_back, same_encodable}
 pub use Rattle.wasm_custom.proofs.FeatureLaws.{prefix_none}
 pub use Rattle.wasm_custom.proofs.HintLaws.{hint_decodes, hint_none, hint_rejects, hint_value_none}
 pub use Rattle.wasm_custom.proofs.LinkLaws.{comdats_decodes, comdats_none, inits_decodes, inits_none, link_begins, link_none, links_fill, links_no_version, links_none, no_links, segments_decodes}

@@ -4,7 +4,10 @@ use Rattle.wasm_base.proofs.Words.{DecodesBackBoth, Kind, entry_encoding, Contai
 use Rattle.wasm_base.proofs.Words.{UnambiguousWhole, BeginsWith, longest, size_prefixed_encoding, HasEncodableSize, entries_encodes, pieces_encodes, fixed_unambiguous, vec_unambiguous, members_whole}
 use Rattle.wasm_base.proofs.Words.{whole_from_unique, mapped_whole, pair_whole, encodes_in, decodes_uniquely, decodes_uniquely_padded, joined_encodes, vec_of_pieces, name_unambiguous, after_whole}
 use Rattle.wasm_base.proofs.Words.{SectionLaws, sized_laws, AppendsMinimal, both_grammars, HasEncoding, tagged_encoded, encoding_appended, tagged_appended}
-use Rattle.wasm_custom.specs.{named_section, named_encoding, IsEncodableNamed, named_payload, count_encoding, entries_encoding, listing, entries, counted_payload, CustomLayoutLaws}
+use Rattle.wasm_base.proofs.Words.{ap₂, DecodesUniquely}
+use Rattle.wasm_base.specs.Decoding.{DecodesUniquelyPadded}
+use Rattle.wasm_base.specs.Stores.{Joined, Cut, StoreModel}
+use Rattle.wasm_custom.specs.{joined_data, named_section, named_encoding, IsEncodableNamed, named_payload, count_encoding, entries_encoding, listing, entries, counted_payload, CustomLayoutLaws}
 use Rattle.wasm_custom.proofs.CustomLaws.{named_encoded, named_encodable, named_unambiguous, named_encodes, data_encodable, named_appended}
 
 listing_whole : {Item : Type 0} (counted : Bool) {F : Format Item} → (counted ≡ false → BeginsWith (λ b. Unit {0}) F) → Unambiguous F → UnambiguousWhole (listing counted F)
@@ -18,10 +21,14 @@ pub listing_encodes : {Item : Type 0} (mode : Mode) (counted : Bool) (F : Format
 listing_encodes mode true F pieces items few h = vec_of_pieces mode F pieces items few h
 listing_encodes mode false F pieces items few h = joined_encodes mode F pieces items h
 
-pub same_encodable : (n front m first : List ℕ) (counted other : Bool) (pieces ps : List (List ℕ)) → m ≡ n → first ≡ front → other ≡ counted → ps ≡ pieces → IsEncodableNamed m (entries_encoding first other ps) → IsEncodableNamed n (entries_encoding front counted pieces)
-same_encodable n front m first counted other pieces ps e f g h encodable =
-    subst (λ z. IsEncodableNamed n (entries_encoding front counted z)) h
-    (subst (λ z. IsEncodableNamed n (entries_encoding front z ps)) g (subst (λ z. IsEncodableNamed n (entries_encoding z other ps)) f (subst (λ z. IsEncodableNamed z (entries_encoding first other ps)) e encodable)))
+pub same_encodable : (n front m first : List ℕ) (counted other : Bool) (j k : Joined) → m ≡ n → first ≡ front → other ≡ counted → k ≡ j → IsEncodableNamed m (joined_data first other k) → IsEncodableNamed n (joined_data front counted j)
+same_encodable n front m first counted other j k e f g h encodable =
+    subst (λ z. IsEncodableNamed n (joined_data front counted z)) h
+    (subst (λ z. IsEncodableNamed n (joined_data front z k)) g (subst (λ z. IsEncodableNamed n (joined_data z other k)) f (subst (λ z. IsEncodableNamed z (joined_data first other k)) e encodable)))
+
+-- The data of the pieces are those of the entries.
+cut_data : {P : List (List ℕ) → Type 0} (front : List ℕ) (counted : Bool) (j : Joined) (cut : Cut P j) → entries_encoding front counted cut.pieces ≡ joined_data front counted j
+cut_data front counted j cut = ap₂ (λ k b. front ++ (count_encoding counted k ++ b)) cut.number cut.content
 
 module _ {Record Item : Type 0} (kind : Kind Record Item) (n front : List ℕ) (front_format : Format (Unit {0})) (counted : Bool)
     (laws : ItemLaws kind) (more : CustomLayoutLaws kind.format n front front_format counted) where
@@ -63,6 +70,32 @@ module _ {Record Item : Type 0} (kind : Kind Record Item) (n front : List ℕ) (
   pub entries_back : (pieces : List (List ℕ)) → length pieces ≤ longest → IsEncodableNamed n (entries_encoding front counted pieces)
       → DecodesBackBoth (named_section n (entries front_format counted kind.format)) (ContainsItems kind pieces) (ContainsPadded kind.format pieces) (named_encoding n (entries_encoding front counted pieces))
   entries_back pieces few encodable = record { plain = entries_unique pieces few encodable; padded = entries_unique_padded pieces few encodable }
+
+  few_pieces : {P : List (List ℕ) → Type 0} (j : Joined) (cut : Cut P j) → j.number ≤ longest → length cut.pieces ≤ longest
+  few_pieces j cut few = subst (λ k. k ≤ longest) (sym cut.number) few
+
+  fits_pieces : {P : List (List ℕ) → Type 0} (j : Joined) (cut : Cut P j) → IsEncodableNamed n (joined_data front counted j) → IsEncodableNamed n (entries_encoding front counted cut.pieces)
+  fits_pieces j cut encodable = subst (IsEncodableNamed n) (sym (cut_data front counted j cut)) encodable
+
+  -- A store decodes to the items that its entries contain, if entries with a property can be cut
+  -- into pieces that have it.
+  pub stored_back : {M : Type 0} (model : StoreModel M) (s : M) → (model.joins s).number ≤ longest → IsEncodableNamed n (joined_data front counted (model.joins s))
+      → ((items : List Item) → model.holds (λ pieces. ContainsItems kind pieces items) s → Cut (λ pieces. ContainsItems kind pieces items) (model.joins s))
+      → ((items : List Item) → model.holds (λ pieces. ContainsPadded kind.format pieces items) s → Cut (λ pieces. ContainsPadded kind.format pieces items) (model.joins s))
+      → DecodesBackBoth (named_section n (entries front_format counted kind.format)) (λ items. model.holds (λ pieces. ContainsItems kind pieces items) s) (λ items. model.holds (λ pieces. ContainsPadded kind.format pieces items) s)
+      (named_encoding n (joined_data front counted (model.joins s)))
+  stored_back model s few encodable says loose = record {
+    plain = record {
+      for_each = λ items h. let cut = says items h in
+          subst (λ b. DecodesUniquely (named_section n (entries front_format counted kind.format)) (named_encoding n b) items) (cut_data front counted _ cut)
+          ((entries_back cut.pieces (few_pieces _ cut few) (fits_pieces _ cut encodable)).plain.for_each items cut.are);
+    };
+    padded = record {
+      for_each = λ items h. let cut = loose items h in
+          subst (λ b. DecodesUniquelyPadded (named_section n (entries front_format counted kind.format)) (named_encoding n b) items) (cut_data front counted _ cut)
+          ((entries_back cut.pieces (few_pieces _ cut few) (fits_pieces _ cut encodable)).padded.for_each items cut.are);
+    };
+  }
 
 -- A section of counted items right after its name has the laws of its front.
 pub counted_layout : {Item : Type 0} {F : Format Item} {n : List ℕ} → IsUtf8 n → CustomLayoutLaws F n [] (fixed [] (tt {0})) true

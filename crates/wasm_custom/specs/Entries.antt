@@ -1,6 +1,7 @@
 -- This file defines custom sections whose data are a front and a list of entries.
-use Rattle.std.specs.Prelude.{◌≡◌, ℕ, List, [], ◌++◌, length, Bool, true, false, cond, IsUtf8}
-use Rattle.wasm_base.specs.Words.{Format, fixed, tagged, vec, members, when, minimal, unsigned_encoding, joined, Unambiguous, BeginsWith}
+use Rattle.std.specs.Prelude.{◌≡◌, ℕ, List, [], ◌++◌, Bool, true, false, cond, IsUtf8}
+use Rattle.wasm_base.specs.Stores.{Joined, pieces_model}
+use Rattle.wasm_base.specs.Words.{Format, fixed, tagged, vec, members, when, minimal, unsigned_encoding, Unambiguous, BeginsWith}
 use Rattle.wasm_custom.specs.Customs.{named_payload}
 
 -- The encoding of the count, or no bytes if the entries are not counted.
@@ -8,8 +9,12 @@ abbrev pub count_encoding : Bool → ℕ → List ℕ
 count_encoding counted n = cond counted (unsigned_encoding n) []
 
 -- The data of a section: a front, the number of entries if they are counted, and the entries.
+abbrev pub joined_data : List ℕ → Bool → Joined → List ℕ
+joined_data front counted j = front ++ (count_encoding counted j.number ++ j.content)
+
+-- `joined_data` of entries that are a list of pieces.
 abbrev pub entries_encoding : List ℕ → Bool → List (List ℕ) → List ℕ
-entries_encoding front counted pieces = front ++ (count_encoding counted (length pieces) ++ joined pieces)
+entries_encoding front counted pieces = joined_data front counted (pieces_model.joins pieces)
 
 -- A list of items: a vector if they are counted, or one after another up to the last byte.
 abbrev pub listing : {Item : Type 0} → Bool → Format Item → Format (List Item)

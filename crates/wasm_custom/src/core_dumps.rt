@@ -1,6 +1,6 @@
 // Core dump sections: the process, its modules and its instances.
 ghost use Rattle.std.specs.Prelude.{◌≡◌, ◌≢◌, ℕ, List, [], ◌∷◌, ◌++◌, IfOk, true, ⊤, IfErr, Err, OnOk, OnErr, map};
-ghost use Rattle.wasm_base.specs.Calls.{Adds, DecodesBack};
+ghost use Rattle.wasm_base.specs.Calls.{Adds, AddsTo, DecodesBack};
 ghost use Rattle.wasm_base.specs.Cow.{items_of, utf8_of};
 ghost use Rattle.wasm_base.specs.Formats.{fixed};
 ghost use Rattle.wasm_base.specs.Continuing.{RejectsWhole};
@@ -12,7 +12,7 @@ ghost use Rattle.wasm_base.specs.declared.refused.Refused.TheVariants.{TooLong};
 ghost use Rattle.wasm_custom.specs.Adding.{AddsTwoLists};
 ghost use Rattle.wasm_custom.specs.CoreDumps.{instance_items, module_items, marked_encoding, core_name, core_section, SaysProcess, marked_name, modules_name, Instance, instance, instances_name, instance_view, core_payload, modules_payload, instances_payload};
 ghost use Rattle.wasm_custom.specs.Customs.{named_encoding, IsEncodableNamed};
-ghost use Rattle.wasm_custom.specs.Entries.{entries_encoding};
+ghost use Rattle.wasm_custom.specs.Entries.{joined_data};
 ghost use Rattle.wasm_base.specs.Minimal.{AppendsMinimal, IsFrontOf, HasEncoding, both_grammars};
 ghost use Rattle.wasm_base.specs.declared.fault.ReadFault.TheVariants.{Memory};
 
@@ -24,8 +24,8 @@ use crate::named::after_name;
 use std::alloc::{Allocator, Global};
 use std::marker::Model;
 use wasm_base::{
-    DecodeError, Encode, Grammar, Kind, Layout, Readable, Result, Section, SectionId, Shorten,
-    read_whole, vec_of,
+    DecodeError, Encode, Grammar, Kind, Layout, Pieces, Readable, Result, Section, SectionId,
+    Shorten, Store, read_whole, vec_of,
 };
 
 /// The `core` section of a dumped process, modelled as its data: the byte 00, and the name of the
@@ -124,7 +124,7 @@ impl<A: Allocator> Section for CoreDumpSection<A> {
 /// modules.module("a.wasm")?;
 /// module.section(&modules)?;
 /// ```
-pub type CoreDumpModulesSection<A = Global> = CustomEntries<ModuleItems, A>;
+pub type CoreDumpModulesSection<A = Global> = CustomEntries<ModuleItems, Pieces<A>>;
 
 /// The kind of the items of a modules section: their names.
 #[derive(Clone, Copy, Debug)]
@@ -166,17 +166,17 @@ impl CustomKind for ModuleItems {
     fn layout_laws() {}
 }
 
-impl<A: Allocator> CoreDumpModulesSection<A> {
+impl<S: Store> CustomEntries<ModuleItems, S> {
     /// Adds a module.
     pub fn module(&mut self, name: &str) -> Result<()>
-        ensures { Adds (marked_encoding name.now) (⊤ × HasEncodableSize name.now) self.old self.new result }
+        ensures { AddsTo S.model (marked_encoding name.now) (⊤ × HasEncodableSize name.now) self.old self.new result }
     {
         self.add_record(&(0x00u8, name))
     }
 
     /// Returns the section as a custom section, which owns a copy of the data.
     pub fn as_custom<B: Allocator>(&self, alloc: B) -> Result<CustomSection<'_, B>>
-        ensures same { IfOk result (λ s. (utf8_of s.name ≡ modules_name) × (items_of s.bytes ≡ entries_encoding [] true self.now)) }
+        ensures same { IfOk result (λ s. (utf8_of s.name ≡ modules_name) × (items_of s.bytes ≡ joined_data [] true (S.model.joins self.now))) }
         ensures memory { result ≢ Err TooLong }
     {
         self.owned(alloc)
@@ -190,7 +190,7 @@ impl<A: Allocator> CoreDumpModulesSection<A> {
 /// instances.instance(0, [0], [0, 1])?;
 /// module.section(&instances)?;
 /// ```
-pub type CoreDumpInstancesSection<A = Global> = CustomEntries<InstanceItems, A>;
+pub type CoreDumpInstancesSection<A = Global> = CustomEntries<InstanceItems, Pieces<A>>;
 
 /// The kind of the items of an instances section.
 #[derive(Clone, Copy, Debug)]
@@ -232,7 +232,7 @@ impl CustomKind for InstanceItems {
     fn layout_laws() {}
 }
 
-impl<A: Allocator> CoreDumpInstancesSection<A> {
+impl<S: Store> CustomEntries<InstanceItems, S> {
     /// Adds an instance of the module, with these memories and globals.
     ///
     /// If there are more than 4294967295 memories or globals, the call returns `TooLong` and
@@ -248,7 +248,7 @@ impl<A: Allocator> CoreDumpInstancesSection<A> {
         G::IntoIter: ExactSizeIterator + Drop,
         requires memories { HasKnownLength M.into_iter_gives M.IntoIter.can_next M.IntoIter.next_gives M.IntoIter.remaining memories }
         requires globals { HasKnownLength G.into_iter_gives G.IntoIter.can_next G.IntoIter.next_gives G.IntoIter.remaining globals }
-        ensures { AddsTwoLists M.into_iter_gives M.IntoIter.next_gives M.IntoIter.remaining memories G.into_iter_gives G.IntoIter.next_gives G.IntoIter.remaining globals (λ _. ⊤) (λ _. ⊤)
+        ensures { AddsTwoLists S.model M.into_iter_gives M.IntoIter.next_gives M.IntoIter.remaining memories G.into_iter_gives G.IntoIter.next_gives G.IntoIter.remaining globals (λ _. ⊤) (λ _. ⊤)
             (λ xs ys. (0x00 ∷ unsigned_encoding module_index) ++ (vec_encoding unsigned_encoding xs ++ vec_encoding unsigned_encoding ys)) self.old self.new result }
     {
         let memories = vec_of(memories)?;
@@ -258,7 +258,7 @@ impl<A: Allocator> CoreDumpInstancesSection<A> {
 
     /// Returns the section as a custom section, which owns a copy of the data.
     pub fn as_custom<B: Allocator>(&self, alloc: B) -> Result<CustomSection<'_, B>>
-        ensures same { IfOk result (λ s. (utf8_of s.name ≡ instances_name) × (items_of s.bytes ≡ entries_encoding [] true self.now)) }
+        ensures same { IfOk result (λ s. (utf8_of s.name ≡ instances_name) × (items_of s.bytes ≡ joined_data [] true (S.model.joins self.now))) }
         ensures memory { result ≢ Err TooLong }
     {
         self.owned(alloc)

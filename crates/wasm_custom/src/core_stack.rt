@@ -12,6 +12,7 @@ ghost use Rattle.wasm_custom.specs.CoreDumps.{marked_encoding};
 ghost use Rattle.wasm_custom.specs.CoreStacks.{stack_name, stack_section, SaysStack, StackFrame, stack_frame, stack_frame_view, stack_payload};
 ghost use Rattle.wasm_custom.specs.CoreValues.{value_encoding};
 ghost use Rattle.wasm_custom.specs.Customs.{named_encoding, IsEncodableNamed};
+ghost use Rattle.wasm_base.specs.Stores.{pieces_model};
 ghost use Rattle.wasm_custom.specs.Entries.{entries_encoding};
 ghost use Rattle.wasm_base.specs.Minimal.{AppendsMinimal, IsFrontOf, HasEncoding, both_grammars};
 ghost use Rattle.wasm_base.specs.declared.fault.ReadFault.TheVariants.{Memory};
@@ -95,7 +96,7 @@ impl<A: Allocator> CoreDumpStackSection<A> {
         S::IntoIter: ExactSizeIterator + Drop,
         requires locals { HasKnownLength L.into_iter_gives L.IntoIter.can_next L.IntoIter.next_gives L.IntoIter.remaining locals }
         requires stack { HasKnownLength S.into_iter_gives S.IntoIter.can_next S.IntoIter.next_gives S.IntoIter.remaining stack }
-        ensures adds { AddsTwoLists L.into_iter_gives L.IntoIter.next_gives L.IntoIter.remaining locals S.into_iter_gives S.IntoIter.next_gives S.IntoIter.remaining stack (λ _. ⊤) (λ _. ⊤)
+        ensures adds { AddsTwoLists pieces_model L.into_iter_gives L.IntoIter.next_gives L.IntoIter.remaining locals S.into_iter_gives S.IntoIter.next_gives S.IntoIter.remaining stack (λ _. ⊤) (λ _. ⊤)
             (λ xs ys. (0x00 ∷ (unsigned_encoding instanceidx ++ (unsigned_encoding funcidx ++ unsigned_encoding codeoffset))) ++ (vec_encoding value_encoding xs ++ vec_encoding value_encoding ys)) self.old.1 self.new.1 result }
         ensures same_thread { self.new.0 ≡ self.old.0 }
     {

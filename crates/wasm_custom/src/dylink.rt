@@ -1,6 +1,6 @@
 // The section of a dynamic library: its builder, its reader and its minimizer.
 ghost use Rattle.std.specs.Prelude.{◌≡◌, [], false, ⊤, ◌≢◌, IfOk, IfErr, Err, OnOk, OnErr, map};
-ghost use Rattle.wasm_base.specs.Calls.{Adds};
+ghost use Rattle.wasm_base.specs.Calls.{Adds, AddsTo};
 ghost use Rattle.wasm_base.specs.Formats.{fixed, prefixed, size_prefixed};
 ghost use Rattle.std.specs.Prelude.{◌∷◌};
 ghost use Rattle.wasm_base.specs.Continuing.{RejectsWhole};
@@ -25,8 +25,8 @@ use crate::standard::require_standard;
 use crate::subsections::Subsection;
 use std::alloc::{Allocator, Global};
 use wasm_base::{
-    DecodeError, Encode, Grammar, Kind, Layout, Readable, Result, Shorten, SizePrefixed,
-    append_all, read_to_end,
+    DecodeError, Encode, Grammar, Kind, Layout, Pieces, Readable, Result, Shorten, SizePrefixed,
+    Store, append_all, read_to_end,
 };
 
 /// The `dylink.0` section: the requirements of a dynamic library at load time. It is the first
@@ -45,7 +45,7 @@ use wasm_base::{
 /// dylink.needed(&needed)?;
 /// module.section(&dylink)?;
 /// ```
-pub type DylinkSection<A = Global> = CustomEntries<DylinkItems, A>;
+pub type DylinkSection<A = Global> = CustomEntries<DylinkItems, Pieces<A>>;
 
 /// The kind of the items of a dynamic library's section: subsections.
 #[derive(Clone, Copy, Debug)]
@@ -87,10 +87,10 @@ impl CustomKind for DylinkItems {
     fn layout_laws() {}
 }
 
-impl<A: Allocator> DylinkSection<A> {
+impl<S: Store> CustomEntries<DylinkItems, S> {
     /// Adds the memory and the table that the library needs.
     pub fn memory(&mut self, memory: DylinkMemory) -> Result<()>
-        ensures { Adds (subsection_encoding 1 (needs_encoding memory)) (HasEncodableSize (needs_encoding memory) × ⊤) self.old self.new result }
+        ensures { AddsTo S.model (subsection_encoding 1 (needs_encoding memory)) (HasEncodableSize (needs_encoding memory) × ⊤) self.old self.new result }
     {
         self.add_record(&Subsection {
             id: 1,
@@ -100,28 +100,28 @@ impl<A: Allocator> DylinkSection<A> {
 
     /// Adds the libraries that the library needs.
     pub fn needed<B: Allocator>(&mut self, libraries: &DylinkNeeded<B>) -> Result<()>
-        ensures { Adds (subsection_encoding 2 (list_encoding libraries.now)) (HasEncodableSize (list_encoding libraries.now) × ⊤) self.old self.new result }
+        ensures { AddsTo S.model (subsection_encoding 2 (list_encoding libraries.now)) (HasEncodableSize (list_encoding libraries.now) × ⊤) self.old self.new result }
     {
         self.add_record(libraries)
     }
 
     /// Adds flags of exported symbols.
     pub fn exports<B: Allocator>(&mut self, exports: &DylinkExports<B>) -> Result<()>
-        ensures { Adds (subsection_encoding 3 (list_encoding exports.now)) (HasEncodableSize (list_encoding exports.now) × ⊤) self.old self.new result }
+        ensures { AddsTo S.model (subsection_encoding 3 (list_encoding exports.now)) (HasEncodableSize (list_encoding exports.now) × ⊤) self.old self.new result }
     {
         self.add_record(exports)
     }
 
     /// Adds flags of imported symbols.
     pub fn imports<B: Allocator>(&mut self, imports: &DylinkImports<B>) -> Result<()>
-        ensures { Adds (subsection_encoding 4 (list_encoding imports.now)) (HasEncodableSize (list_encoding imports.now) × ⊤) self.old self.new result }
+        ensures { AddsTo S.model (subsection_encoding 4 (list_encoding imports.now)) (HasEncodableSize (list_encoding imports.now) × ⊤) self.old self.new result }
     {
         self.add_record(imports)
     }
 
     /// Adds the folders in which the loader searches for libraries.
     pub fn runtime_path<B: Allocator>(&mut self, folders: &DylinkPath<B>) -> Result<()>
-        ensures { Adds (subsection_encoding 5 (list_encoding folders.now)) (HasEncodableSize (list_encoding folders.now) × ⊤) self.old self.new result }
+        ensures { AddsTo S.model (subsection_encoding 5 (list_encoding folders.now)) (HasEncodableSize (list_encoding folders.now) × ⊤) self.old self.new result }
     {
         self.add_record(folders)
     }

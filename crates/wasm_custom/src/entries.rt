@@ -1,21 +1,21 @@
 // The builder of all custom sections of entries.
 ghost use Rattle.std.specs.Prelude.{◌≡◌, ◌≢◌, ℕ, ◌+◌, ◌<◌, ◌≤◌, List, [], length, Bool, Err, IfOk, IsTrue, ◌↔◌, ⊤};
-ghost use Rattle.wasm_base.specs.Calls.{Adds, Appends, DecodesBackBoth};
+ghost use Rattle.wasm_base.specs.Calls.{AddsTo, Appends, DecodesBackBoth};
 ghost use Rattle.wasm_base.specs.Cow.{items_of, utf8_of};
 ghost use Rattle.wasm_base.specs.Entries.{ContainsItems, ContainsPadded};
 ghost use Rattle.wasm_base.specs.Numbers.{Mode};
-ghost use Rattle.wasm_base.specs.Once.{AddsOnce};
-ghost use Rattle.wasm_base.specs.Pieces.{joined};
+ghost use Rattle.wasm_base.specs.Once.{AddsOnceTo};
 ghost use Rattle.wasm_base.specs.Encodings.{longest, size_prefixed_encoding};
 ghost use Rattle.wasm_base.specs.declared.refused.Refused.TheVariants.{TooLong};
 ghost use Rattle.wasm_custom.specs.Customs.{named_section, named_encoding, IsEncodableNamed};
-ghost use Rattle.wasm_custom.specs.Entries.{count_encoding, entries_encoding, entries, CustomLayoutLaws};
+ghost use Rattle.wasm_custom.specs.Entries.{count_encoding, joined_data, entries, CustomLayoutLaws};
 
 use crate::custom_section::{CustomSection, begin_custom};
-use std::alloc::{Allocator, Global};
+use std::alloc::Allocator;
 use std::marker::{Model, PhantomData};
 use wasm_base::{
-    CowSlice, CowStr, Encode, EncodeOnce, Kind, Pieces, Result, Section, SectionId, encoding_size,
+    CowSlice, CowStr, Encode, EncodeOnce, ItemsOf, Kind, NewStore, PaddedOf, Pieces, Result,
+    Section, SectionId, Store, encoding_size,
 };
 
 /// A kind of custom section: its items, its name, the bytes before its entries, and whether the
@@ -50,69 +50,69 @@ pub trait CustomKind: Kind {
         ensures { CustomLayoutLaws Self.kind.format name front front_format counted };
 }
 
-/// A custom section of entries of the kind `K`, modelled as the bytes of each entry.
+/// A custom section of entries of the kind `K`, which a store of the type `S` keeps.
 ///
 /// # Errors
 ///
 /// An adding call that returns an error leaves the section unchanged. The error is `TooLong` only
 /// if the section is full or the item does not fit, and `Memory` only if an allocation fails.
 #[derive(Drop, Debug)]
-pub struct CustomEntries<K, A: Allocator = Global> {
-    pieces: Pieces<A>,
+pub struct CustomEntries<K, S: Store = Pieces> {
+    entries: S,
     kind: PhantomData<K>,
 }
 
-impl<K, A: Allocator> Model for CustomEntries<K, A> {
-    ghost Value = { List (List ℕ) };
+impl<K, S: Store> Model for CustomEntries<K, S> {
+    ghost Value = { S };
 
-    ghost view = { λ s. s.pieces };
+    ghost view = { λ s. s.entries };
 }
 
-impl<K, A: Allocator> CustomEntries<K, A> {
+impl<K, S: Store> CustomEntries<K, S> {
     /// Returns the number of entries.
     pub fn len(&self) -> u32
-        ensures { result ≡ length self.now }
+        ensures { result ≡ (S.model.joins self.now).number }
     {
-        self.pieces.len()
+        self.entries.count()
     }
 
     /// Returns `true` if there are no entries.
     pub fn is_empty(&self) -> bool
-        ensures { IsTrue result ↔ (length self.now ≡ 0) }
+        ensures { IsTrue result ↔ ((S.model.joins self.now).number ≡ 0) }
     {
-        self.pieces.is_empty()
+        self.entries.count() == 0
     }
 
     /// Adds the encoding of the record as an entry.
     pub(crate) fn add_record<T: Encode>(&mut self, given: &T) -> Result<()>
-        ensures { Adds (T.encoding given.now) (T.encodable given.now) self.old self.new result }
+        ensures { AddsTo S.model (T.encoding given.now) (T.encodable given.now) self.old self.new result }
     {
-        self.pieces.add_encoded(given)
+        self.entries.add_item(given)
     }
 
     /// Adds an encoding of the item as an entry, and consumes the item.
     pub(crate) fn add_once<T: EncodeOnce + Drop>(&mut self, item: T) -> Result<()>
         requires { T.lawful item }
-        ensures { AddsOnce (T.gives item) (T.encodable item) self.old self.new result }
+        ensures { AddsOnceTo S.model (T.gives item) (T.encodable item) self.old self.new result }
     {
-        self.pieces.add_once(item)
+        self.entries.add_item_once(item)
     }
 
     /// Returns the bytes of the entries, one entry after another.
     pub(crate) fn content(&self) -> &[u8]
-        ensures { result.now ≡ joined self.now }
+        ensures { result.now ≡ (S.model.joins self.now).content }
     {
-        self.pieces.bytes()
+        self.entries.content()
     }
 }
 
-impl<K, A: Allocator + Copy> CustomEntries<K, A> {
+impl<K, S: NewStore> CustomEntries<K, S> {
     /// Returns a section without entries, and allocates nothing.
-    pub fn new(alloc: A) -> Self
-        ensures { result ≡ [] }
+    pub fn new(alloc: S::Alloc) -> Self
+        ensures { result ≡ S.none }
     {
         CustomEntries {
-            pieces: Pieces::new(alloc),
+            entries: S::new_in(alloc),
             kind: PhantomData,
         }
     }
@@ -123,19 +123,19 @@ impl<K, A: Allocator + Copy> CustomEntries<K, A> {
         ensures memory { result ≢ Err TooLong }
     {
         Ok(CustomEntries {
-            pieces: self.pieces.clone()?,
+            entries: self.entries.copy()?,
             kind: PhantomData,
         })
     }
 }
 
-impl<K: CustomKind, A: Allocator> CustomEntries<K, A> {
+impl<K: CustomKind, S: Store> CustomEntries<K, S> {
     /// Returns the section as a custom section, which owns a copy of the data.
     pub(crate) fn owned<B: Allocator>(&self, alloc: B) -> Result<CustomSection<'_, B>>
-        ensures same { IfOk result (λ s. (utf8_of s.name ≡ K.name) × (items_of s.bytes ≡ entries_encoding K.front K.counted self.now)) }
+        ensures same { IfOk result (λ s. (utf8_of s.name ≡ K.name) × (items_of s.bytes ≡ joined_data K.front K.counted (S.model.joins self.now))) }
         ensures memory { result ≢ Err TooLong }
     {
-        let data = data_of(alloc, K::front(), K::counted(), &self.pieces)?;
+        let data = data_of(alloc, K::front(), K::counted(), &self.entries)?;
         Ok(CustomSection {
             name: CowStr::Borrowed(K::name()),
             bytes: CowSlice::Owned(data),
@@ -181,85 +181,87 @@ impl Encode for Count {
 
 /// Returns the length of the data in bytes if a size prefix can represent it, and a number above
 /// 4294967295 otherwise.
-fn data_size<B: Allocator>(front: &[u8], count: Count, pieces: &Pieces<B>) -> usize
-    ensures known { result ≤ longest → result ≡ length front.now + (length (count_encoding count.counted count.number) + length (joined pieces.now)) }
-    ensures small { length front.now + (length (count_encoding count.counted count.number) + length (joined pieces.now)) ≤ longest → result ≡ length front.now + (length (count_encoding count.counted count.number) + length (joined pieces.now)) }
+fn data_size<S: Store>(front: &[u8], count: Count, entries: &S) -> usize
+    ensures known { result ≤ longest → result ≡ length front.now + (length (count_encoding count.counted count.number) + length (S.model.joins entries.now).content) }
+    ensures small { length front.now + (length (count_encoding count.counted count.number) + length (S.model.joins entries.now).content) ≤ longest → result ≡ length front.now + (length (count_encoding count.counted count.number) + length (S.model.joins entries.now).content) }
 {
     front
         .len()
         .saturating_add(count.size())
-        .saturating_add(pieces.raw_len())
+        .saturating_add(entries.content().len())
 }
 
 /// Appends a custom section without its id: the size prefix, the name, the bytes `front`, the
 /// number of entries if they are counted, and the entries.
 #[tactic(auto, unfolding(crate::specs::Customs::named_encoding))]
-pub(crate) fn encode_entries<A: Allocator, B: Allocator>(
+pub(crate) fn encode_entries<A: Allocator, S: Store>(
     sink: &mut Vec<u8, A>,
     name: &str,
     front: &[u8],
     counted: bool,
-    pieces: &Pieces<B>,
+    entries: &S,
 ) -> Result<()>
-    ensures appends { Appends (named_encoding name.now (entries_encoding front.now counted pieces.now)) (IsEncodableNamed name.now (entries_encoding front.now counted pieces.now)) sink.old sink.new result }
-    ensures few { length pieces.now ≤ longest }
-    ensures too_many { longest < length (size_prefixed_encoding name.now) + length (entries_encoding front.now counted pieces.now) → result ≡ Err TooLong }
+    ensures appends { Appends (named_encoding name.now (joined_data front.now counted (S.model.joins entries.now))) (IsEncodableNamed name.now (joined_data front.now counted (S.model.joins entries.now))) sink.old sink.new result }
+    ensures few { (S.model.joins entries.now).number ≤ longest }
+    ensures too_many { longest < length (size_prefixed_encoding name.now) + length (joined_data front.now counted (S.model.joins entries.now)) → result ≡ Err TooLong }
 {
     let count = Count {
         counted,
-        number: pieces.len(),
+        number: entries.count(),
     };
-    let size = data_size(front, count, pieces);
+    let size = data_size(front, count, entries);
     begin_custom(sink, name, size)?;
     sink.extend_from_slice(front).unwrap();
     count.encode(sink).unwrap();
-    sink.extend_from_slice(pieces.bytes()).unwrap();
+    sink.extend_from_slice(entries.content()).unwrap();
     Ok(())
 }
 
 /// Returns a copy of the data of a section.
-pub(crate) fn data_of<A: Allocator, B: Allocator>(
+pub(crate) fn data_of<A: Allocator, S: Store>(
     alloc: A,
     front: &[u8],
     counted: bool,
-    pieces: &Pieces<B>,
+    entries: &S,
 ) -> Result<Vec<u8, A>>
-    ensures same { IfOk result (λ v. v.items ≡ entries_encoding front.now counted pieces.now) }
+    ensures same { IfOk result (λ v. v.items ≡ joined_data front.now counted (S.model.joins entries.now)) }
     ensures memory { result ≢ Err TooLong }
 {
     let count = Count {
         counted,
-        number: pieces.len(),
+        number: entries.count(),
     };
     let mut sink = Vec::from_slice(alloc, front)?;
     count.encode(&mut sink)?;
-    sink.extend_from_slice(pieces.bytes())?;
+    sink.extend_from_slice(entries.content())?;
     Ok(sink)
 }
 
 /// Encodes the size prefix, the name and the data.
-impl<K: CustomKind, A: Allocator> Encode for CustomEntries<K, A> {
-    ghost encoding = { λ section. named_encoding K.name (entries_encoding K.front K.counted section) };
+impl<K: CustomKind, S: Store> Encode for CustomEntries<K, S> {
+    ghost encoding = { λ section. named_encoding K.name (joined_data K.front K.counted (S.model.joins section)) };
 
-    ghost encodable = { λ section. IsEncodableNamed K.name (entries_encoding K.front K.counted section) };
+    ghost encodable = { λ section. IsEncodableNamed K.name (joined_data K.front K.counted (S.model.joins section)) };
 
-    ghost overlong = { λ section. longest < length (size_prefixed_encoding K.name) + length (entries_encoding K.front K.counted section) };
+    ghost overlong = { λ section. longest < length (size_prefixed_encoding K.name) + length (joined_data K.front K.counted (S.model.joins section)) };
 
-    ghost decoding = { λ section. DecodesBackBoth (named_section K.name (entries K.front_format K.counted K.kind.format)) (ContainsItems K.kind section) (ContainsPadded K.kind.format section) (named_encoding K.name (entries_encoding K.front K.counted section)) };
+    ghost decoding = { λ section. DecodesBackBoth (named_section K.name (entries K.front_format K.counted K.kind.format)) (λ items. S.model.holds (λ pieces. ContainsItems K.kind pieces items) section) (λ items. S.model.holds (λ pieces. ContainsPadded K.kind.format pieces items) section) (named_encoding K.name (joined_data K.front K.counted (S.model.joins section))) };
 
     fn encode<B: Allocator>(&self, sink: &mut Vec<u8, B>) -> Result<()> {
         K::laws();
         K::layout_laws();
-        encode_entries(sink, K::name(), K::front(), K::counted(), &self.pieces)
+        self.entries.cut::<ItemsOf<K>>();
+        self.entries.cut::<PaddedOf<K>>();
+        encode_entries(sink, K::name(), K::front(), K::counted(), &self.entries)
     }
 }
 
-impl<K: CustomKind, A: Allocator> Section for CustomEntries<K, A> {
+impl<K: CustomKind, S: Store> Section for CustomEntries<K, S> {
     ghost use Rattle.wasm_base.specs.Entries.{ContainsItems};
     ghost use Rattle.wasm_base.specs.SectionId.{number_of};
     ghost use Rattle.wasm_base.specs.declared.section_id.SectionId.TheVariants as ids;
     ghost use Rattle.wasm_custom.specs.Customs.{named_section, NamedPayload, named_sized};
-    ghost use Rattle.wasm_custom.specs.Entries.{entries_encoding, entries};
+    ghost use Rattle.wasm_custom.specs.Entries.{joined_data, entries};
 
     ghost id_of = { λ _. number_of ids.Custom };
 
@@ -267,15 +269,15 @@ impl<K: CustomKind, A: Allocator> Section for CustomEntries<K, A> {
 
     ghost format = { named_section K.name (entries K.front_format K.counted K.kind.format) };
 
-    ghost says = { ContainsItems K.kind };
+    ghost says = { λ section items. S.model.holds (λ pieces. ContainsItems K.kind pieces items) section };
 
-    ghost payload = { λ section. NamedPayload K.name (entries_encoding K.front K.counted section) };
+    ghost payload = { λ section. NamedPayload K.name (joined_data K.front K.counted (S.model.joins section)) };
 
     fn id(&self) -> u8 {
         SectionId::Custom.into()
     }
 
-    ghost sized = { λ section bytes encodable pays. named_sized K.name (entries_encoding K.front K.counted section) bytes encodable pays };
+    ghost sized = { λ section bytes encodable pays. named_sized K.name (joined_data K.front K.counted (S.model.joins section)) bytes encodable pays };
 
     ghost decodes_back = { λ section promised. promised.plain };
 }

@@ -17,7 +17,8 @@ use crate::entries::{CustomEntries, CustomKind};
 use crate::marked::read_marked;
 use std::alloc::{Allocator, Global};
 use wasm_base::{
-    DecodeError, Encode, Grammar, Kind, Layout, ReadFault, Readable, Result, Shorten, vec_of,
+    DecodeError, Encode, Grammar, Kind, Layout, Pieces, ReadFault, Readable, Result, Shorten,
+    Store, vec_of,
 };
 
 /// The branch hint section: which branches are likely to be taken, as a list of hints for each
@@ -31,7 +32,7 @@ use wasm_base::{
 /// let mut hints = BranchHints::new(alloc);
 /// hints.function_hints(0, [BranchHint { branch_func_offset: offset, branch_hint_value: 1 }])?;
 /// ```
-pub type BranchHints<A = Global> = CustomEntries<HintItems, A>;
+pub type BranchHints<A = Global> = CustomEntries<HintItems, Pieces<A>>;
 
 /// The kind of a branch hint section's items: the hints of one function each.
 #[derive(Clone, Copy, Debug)]
@@ -93,7 +94,7 @@ impl CustomKind for HintItems {
     fn layout_laws() {}
 }
 
-impl<A: Allocator> BranchHints<A> {
+impl<S: Store> CustomEntries<HintItems, S> {
     /// Adds the hints of a function.
     ///
     /// If there are more than 4294967295 hints, the call returns `TooLong` and requests none of
@@ -106,7 +107,7 @@ impl<A: Allocator> BranchHints<A> {
     where
         H::IntoIter: ExactSizeIterator + Drop,
         requires { HasKnownLength H.into_iter_gives H.IntoIter.can_next H.IntoIter.next_gives H.IntoIter.remaining hints }
-        ensures { AddsList H.into_iter_gives H.IntoIter.next_gives H.IntoIter.remaining hints (λ _. ⊤) (λ items. unsigned_encoding func ++ vec_encoding hint_encoding items) self.old self.new result }
+        ensures { AddsList S.model H.into_iter_gives H.IntoIter.next_gives H.IntoIter.remaining hints (λ _. ⊤) (λ items. unsigned_encoding func ++ vec_encoding hint_encoding items) self.old self.new result }
     {
         let hints = vec_of(hints)?;
         self.add_once((func, hints))

@@ -1,6 +1,6 @@
 // The linking section: its builder, its reader and its minimizer.
 ghost use Rattle.std.specs.Prelude.{◌≡◌, [], ◌∷◌, false, ⊤, ◌≢◌, IfOk, IfErr, Err, OnOk, OnErr, map};
-ghost use Rattle.wasm_base.specs.Calls.{Adds};
+ghost use Rattle.wasm_base.specs.Calls.{Adds, AddsTo};
 ghost use Rattle.wasm_base.specs.Formats.{any_bytes, u32 as u32_format, just, name as name_format, prefixed, size_prefixed, vec};
 ghost use Rattle.wasm_base.specs.Continuing.{RejectsWhole};
 ghost use Rattle.wasm_base.specs.Numbers.{padded_of};
@@ -23,8 +23,8 @@ use crate::subsections::Subsection;
 use crate::symbols::{Symbol, SymbolTable};
 use std::alloc::{Allocator, Global};
 use wasm_base::{
-    DecodeError, Encode, Grammar, Kind, Layout, ReadFault, Readable, Result, Shorten, SizePrefixed,
-    append_all, prefix_size_since, read_to_end,
+    DecodeError, Encode, Grammar, Kind, Layout, Pieces, ReadFault, Readable, Result, Shorten,
+    SizePrefixed, Store, append_all, prefix_size_since, read_to_end,
 };
 
 /// The linking section: the symbols and target of a module for a linker, in version 2 of the
@@ -37,7 +37,7 @@ use wasm_base::{
 /// linking.symbol_table(&symbols)?;
 /// module.section(&linking)?;
 /// ```
-pub type LinkingSection<A = Global> = CustomEntries<LinkingItems, A>;
+pub type LinkingSection<A = Global> = CustomEntries<LinkingItems, Pieces<A>>;
 
 /// The kind of a linking section's items: subsections.
 #[derive(Clone, Copy, Debug)]
@@ -79,17 +79,17 @@ impl CustomKind for LinkingItems {
     fn layout_laws() {}
 }
 
-impl<A: Allocator> LinkingSection<A> {
+impl<S: Store> CustomEntries<LinkingItems, S> {
     /// Adds the symbols.
     pub fn symbol_table<B: Allocator>(&mut self, symbols: &SymbolTable<B>) -> Result<()>
-        ensures { Adds (subsection_encoding 8 (list_encoding symbols.now)) (HasEncodableSize (list_encoding symbols.now) × ⊤) self.old self.new result }
+        ensures { AddsTo S.model (subsection_encoding 8 (list_encoding symbols.now)) (HasEncodableSize (list_encoding symbols.now) × ⊤) self.old self.new result }
     {
         self.add_record(symbols)
     }
 
     /// Adds the architecture of the target.
     pub fn target_arch(&mut self, name: &str) -> Result<()>
-        ensures { Adds (subsection_encoding 9 (size_prefixed_encoding name.now)) (HasEncodableSize (size_prefixed_encoding name.now) × HasEncodableSize name.now) self.old self.new result }
+        ensures { AddsTo S.model (subsection_encoding 9 (size_prefixed_encoding name.now)) (HasEncodableSize (size_prefixed_encoding name.now) × HasEncodableSize name.now) self.old self.new result }
     {
         self.add_record(&Subsection {
             id: 9,

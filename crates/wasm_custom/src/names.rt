@@ -1,6 +1,6 @@
 // The name section: its builder, its reader and its minimizer.
 ghost use Rattle.std.specs.Prelude.{None, ◌≡◌, ◌++◌, [], false, ⊤, ◌≢◌, IfOk, IfErr, Err, OnOk, OnErr, map};
-ghost use Rattle.wasm_base.specs.Calls.{Adds};
+ghost use Rattle.wasm_base.specs.Calls.{Adds, AddsTo};
 ghost use Rattle.wasm_base.specs.Cow.{items_of, utf8_of};
 ghost use Rattle.wasm_base.specs.Formats.{fixed, u32};
 ghost use Rattle.wasm_base.specs.Continuing.{RejectsWhole};
@@ -22,8 +22,8 @@ use crate::named::after_name;
 use crate::subsections::{RawContent, Subsection};
 use std::alloc::{Allocator, Global};
 use wasm_base::{
-    CowSlice, CowStr, DecodeError, Encode, Grammar, Kind, Layout, Lent, Readable, Result, Shorten,
-    append_all, prefix_size_since, read_before, read_to_end,
+    CowSlice, CowStr, DecodeError, Encode, Grammar, Kind, Layout, Lent, Pieces, Readable, Result,
+    Shorten, Store, append_all, prefix_size_since, read_before, read_to_end,
 };
 
 /// A name map: indices and their names. The calls check neither their order nor whether an index is
@@ -129,7 +129,7 @@ impl<A: Allocator> IndirectNameMap<A> {
 /// names.functions(&functions)?;
 /// module.section(&names)?;
 /// ```
-pub type NameSection<A = Global> = CustomEntries<NameItems, A>;
+pub type NameSection<A = Global> = CustomEntries<NameItems, Pieces<A>>;
 
 /// The kind of a name section's items: subsections.
 #[derive(Clone, Copy, Debug)]
@@ -171,10 +171,10 @@ impl CustomKind for NameItems {
     fn layout_laws() {}
 }
 
-impl<A: Allocator> NameSection<A> {
+impl<S: Store> CustomEntries<NameItems, S> {
     /// Adds a subsection with a name map.
     fn map<B: Allocator>(&mut self, id: u8, names: &NameMap<B>) -> Result<()>
-        ensures { Adds (subsection_encoding id (list_encoding names.now)) (HasEncodableSize (list_encoding names.now) × ⊤) self.old self.new result }
+        ensures { AddsTo S.model (subsection_encoding id (list_encoding names.now)) (HasEncodableSize (list_encoding names.now) × ⊤) self.old self.new result }
     {
         let content = &Entries(names);
         self.add_record(&Subsection { id, content })
@@ -182,7 +182,7 @@ impl<A: Allocator> NameSection<A> {
 
     /// Adds a subsection with an indirect name map.
     fn indirect_map<B: Allocator>(&mut self, id: u8, names: &IndirectNameMap<B>) -> Result<()>
-        ensures { Adds (subsection_encoding id (list_encoding names.now)) (HasEncodableSize (list_encoding names.now) × ⊤) self.old self.new result }
+        ensures { AddsTo S.model (subsection_encoding id (list_encoding names.now)) (HasEncodableSize (list_encoding names.now) × ⊤) self.old self.new result }
     {
         let content = &Entries(names);
         self.add_record(&Subsection { id, content })
@@ -190,7 +190,7 @@ impl<A: Allocator> NameSection<A> {
 
     /// Adds the name of the module.
     pub fn module(&mut self, name: &str) -> Result<()>
-        ensures { Adds (subsection_encoding 0 (size_prefixed_encoding name.now)) (HasEncodableSize (size_prefixed_encoding name.now) × HasEncodableSize name.now) self.old self.new result }
+        ensures { AddsTo S.model (subsection_encoding 0 (size_prefixed_encoding name.now)) (HasEncodableSize (size_prefixed_encoding name.now) × HasEncodableSize name.now) self.old self.new result }
     {
         self.add_record(&Subsection {
             id: 0,
@@ -200,98 +200,98 @@ impl<A: Allocator> NameSection<A> {
 
     /// Adds the names of functions.
     pub fn functions<B: Allocator>(&mut self, names: &NameMap<B>) -> Result<()>
-        ensures { Adds (subsection_encoding 1 (list_encoding names.now)) (HasEncodableSize (list_encoding names.now) × ⊤) self.old self.new result }
+        ensures { AddsTo S.model (subsection_encoding 1 (list_encoding names.now)) (HasEncodableSize (list_encoding names.now) × ⊤) self.old self.new result }
     {
         self.map(1, names)
     }
 
     /// Adds the names of types.
     pub fn types<B: Allocator>(&mut self, names: &NameMap<B>) -> Result<()>
-        ensures { Adds (subsection_encoding 4 (list_encoding names.now)) (HasEncodableSize (list_encoding names.now) × ⊤) self.old self.new result }
+        ensures { AddsTo S.model (subsection_encoding 4 (list_encoding names.now)) (HasEncodableSize (list_encoding names.now) × ⊤) self.old self.new result }
     {
         self.map(4, names)
     }
 
     /// Adds the names of tables.
     pub fn tables<B: Allocator>(&mut self, names: &NameMap<B>) -> Result<()>
-        ensures { Adds (subsection_encoding 5 (list_encoding names.now)) (HasEncodableSize (list_encoding names.now) × ⊤) self.old self.new result }
+        ensures { AddsTo S.model (subsection_encoding 5 (list_encoding names.now)) (HasEncodableSize (list_encoding names.now) × ⊤) self.old self.new result }
     {
         self.map(5, names)
     }
 
     /// Adds the names of memories.
     pub fn memories<B: Allocator>(&mut self, names: &NameMap<B>) -> Result<()>
-        ensures { Adds (subsection_encoding 6 (list_encoding names.now)) (HasEncodableSize (list_encoding names.now) × ⊤) self.old self.new result }
+        ensures { AddsTo S.model (subsection_encoding 6 (list_encoding names.now)) (HasEncodableSize (list_encoding names.now) × ⊤) self.old self.new result }
     {
         self.map(6, names)
     }
 
     /// Adds the names of globals.
     pub fn globals<B: Allocator>(&mut self, names: &NameMap<B>) -> Result<()>
-        ensures { Adds (subsection_encoding 7 (list_encoding names.now)) (HasEncodableSize (list_encoding names.now) × ⊤) self.old self.new result }
+        ensures { AddsTo S.model (subsection_encoding 7 (list_encoding names.now)) (HasEncodableSize (list_encoding names.now) × ⊤) self.old self.new result }
     {
         self.map(7, names)
     }
 
     /// Adds the names of element segments.
     pub fn elements<B: Allocator>(&mut self, names: &NameMap<B>) -> Result<()>
-        ensures { Adds (subsection_encoding 8 (list_encoding names.now)) (HasEncodableSize (list_encoding names.now) × ⊤) self.old self.new result }
+        ensures { AddsTo S.model (subsection_encoding 8 (list_encoding names.now)) (HasEncodableSize (list_encoding names.now) × ⊤) self.old self.new result }
     {
         self.map(8, names)
     }
 
     /// Adds the names of data segments.
     pub fn data<B: Allocator>(&mut self, names: &NameMap<B>) -> Result<()>
-        ensures { Adds (subsection_encoding 9 (list_encoding names.now)) (HasEncodableSize (list_encoding names.now) × ⊤) self.old self.new result }
+        ensures { AddsTo S.model (subsection_encoding 9 (list_encoding names.now)) (HasEncodableSize (list_encoding names.now) × ⊤) self.old self.new result }
     {
         self.map(9, names)
     }
 
     /// Adds the names of tags, as `tags` does.
     pub fn tag<B: Allocator>(&mut self, names: &NameMap<B>) -> Result<()>
-        ensures { Adds (subsection_encoding 11 (list_encoding names.now)) (HasEncodableSize (list_encoding names.now) × ⊤) self.old self.new result }
+        ensures { AddsTo S.model (subsection_encoding 11 (list_encoding names.now)) (HasEncodableSize (list_encoding names.now) × ⊤) self.old self.new result }
     {
         self.tags(names)
     }
 
     /// Adds the names of tags.
     pub fn tags<B: Allocator>(&mut self, names: &NameMap<B>) -> Result<()>
-        ensures { Adds (subsection_encoding 11 (list_encoding names.now)) (HasEncodableSize (list_encoding names.now) × ⊤) self.old self.new result }
+        ensures { AddsTo S.model (subsection_encoding 11 (list_encoding names.now)) (HasEncodableSize (list_encoding names.now) × ⊤) self.old self.new result }
     {
         self.map(11, names)
     }
 
     /// Adds the names of the locals of functions, including parameters.
     pub fn locals<B: Allocator>(&mut self, names: &IndirectNameMap<B>) -> Result<()>
-        ensures { Adds (subsection_encoding 2 (list_encoding names.now)) (HasEncodableSize (list_encoding names.now) × ⊤) self.old self.new result }
+        ensures { AddsTo S.model (subsection_encoding 2 (list_encoding names.now)) (HasEncodableSize (list_encoding names.now) × ⊤) self.old self.new result }
     {
         self.indirect_map(2, names)
     }
 
     /// Adds the names of the labels of functions.
     pub fn labels<B: Allocator>(&mut self, names: &IndirectNameMap<B>) -> Result<()>
-        ensures { Adds (subsection_encoding 3 (list_encoding names.now)) (HasEncodableSize (list_encoding names.now) × ⊤) self.old self.new result }
+        ensures { AddsTo S.model (subsection_encoding 3 (list_encoding names.now)) (HasEncodableSize (list_encoding names.now) × ⊤) self.old self.new result }
     {
         self.indirect_map(3, names)
     }
 
     /// Adds the names of the fields of types.
     pub fn fields<B: Allocator>(&mut self, names: &IndirectNameMap<B>) -> Result<()>
-        ensures { Adds (subsection_encoding 10 (list_encoding names.now)) (HasEncodableSize (list_encoding names.now) × ⊤) self.old self.new result }
+        ensures { AddsTo S.model (subsection_encoding 10 (list_encoding names.now)) (HasEncodableSize (list_encoding names.now) × ⊤) self.old self.new result }
     {
         self.indirect_map(10, names)
     }
 
     /// Adds the names of the parameters of function types.
     pub fn parameters<B: Allocator>(&mut self, names: &IndirectNameMap<B>) -> Result<()>
-        ensures { Adds (subsection_encoding 12 (list_encoding names.now)) (HasEncodableSize (list_encoding names.now) × ⊤) self.old self.new result }
+        ensures { AddsTo S.model (subsection_encoding 12 (list_encoding names.now)) (HasEncodableSize (list_encoding names.now) × ⊤) self.old self.new result }
     {
         self.indirect_map(12, names)
     }
 
     /// Adds the names of the parameters of tags.
     pub fn tag_parameters<B: Allocator>(&mut self, names: &IndirectNameMap<B>) -> Result<()>
-        ensures { Adds (subsection_encoding 13 (list_encoding names.now)) (HasEncodableSize (list_encoding names.now) × ⊤) self.old self.new result }
+        ensures { AddsTo S.model (subsection_encoding 13 (list_encoding names.now)) (HasEncodableSize (list_encoding names.now) × ⊤) self.old self.new result }
     {
         self.indirect_map(13, names)
     }
@@ -299,7 +299,7 @@ impl<A: Allocator> NameSection<A> {
     /// Adds a subsection of this id, whose content is already encoded. The call does not check the
     /// content.
     pub fn raw(&mut self, id: u8, content: &[u8]) -> Result<()>
-        ensures { Adds (subsection_encoding id content.now) (HasEncodableSize content.now × ⊤) self.old self.new result }
+        ensures { AddsTo S.model (subsection_encoding id content.now) (HasEncodableSize content.now × ⊤) self.old self.new result }
     {
         self.add_record(&Subsection {
             id,
@@ -310,7 +310,7 @@ impl<A: Allocator> NameSection<A> {
     /// Returns the section as a custom section that borrows the entries, and allocates nothing.
     pub fn as_custom(&self) -> CustomSection<'_>
         ensures name { utf8_of result.name ≡ name_name }
-        ensures bytes { items_of result.bytes ≡ joined self.now }
+        ensures bytes { items_of result.bytes ≡ (S.model.joins self.now).content }
     {
         CustomSection {
             name: CowStr::Borrowed("name"),

@@ -1,6 +1,6 @@
 // The linking section of an object file, which has subsections of all kinds: its builder.
 ghost use Rattle.std.specs.Prelude.{◌∷◌, [], false, ⊤};
-ghost use Rattle.wasm_base.specs.Calls.{Adds};
+ghost use Rattle.wasm_base.specs.Calls.{Adds, AddsTo};
 ghost use Rattle.wasm_base.specs.Encodings.{size_prefixed_encoding, HasEncodableSize};
 ghost use Rattle.wasm_base.specs.Formats.{u32 as u32_format, just};
 ghost use Rattle.wasm_custom.specs.Customs.{subsection_encoding};
@@ -14,7 +14,7 @@ use crate::object_symbols::ObjectSymbols;
 use crate::segments::SegmentInfos;
 use crate::subsections::Subsection;
 use std::alloc::{Allocator, Global};
-use wasm_base::{Kind, Result};
+use wasm_base::{Kind, Pieces, Result, Store};
 
 /// The linking section of an object file, in version 2 of the format: symbols of all kinds,
 /// segments, init functions, COMDAT groups and the target. Each call adds a subsection, and `new`
@@ -33,7 +33,7 @@ use wasm_base::{Kind, Result};
 /// linking.segments(&segments)?;
 /// module.section(&linking)?;
 /// ```
-pub type ObjectLinking<A = Global> = CustomEntries<ObjectLinkingItems, A>;
+pub type ObjectLinking<A = Global> = CustomEntries<ObjectLinkingItems, Pieces<A>>;
 
 /// The kind of the items of an object file's linking section: subsections.
 #[derive(Clone, Copy, Debug)]
@@ -75,38 +75,38 @@ impl CustomKind for ObjectLinkingItems {
     fn layout_laws() {}
 }
 
-impl<A: Allocator> ObjectLinking<A> {
+impl<S: Store> CustomEntries<ObjectLinkingItems, S> {
     /// Adds the segments.
     pub fn segments<B: Allocator>(&mut self, segments: &SegmentInfos<B>) -> Result<()>
-        ensures { Adds (subsection_encoding 5 (list_encoding segments.now)) (HasEncodableSize (list_encoding segments.now) × ⊤) self.old self.new result }
+        ensures { AddsTo S.model (subsection_encoding 5 (list_encoding segments.now)) (HasEncodableSize (list_encoding segments.now) × ⊤) self.old self.new result }
     {
         self.add_record(segments)
     }
 
     /// Adds the init functions.
     pub fn init_functions<B: Allocator>(&mut self, functions: &InitFunctions<B>) -> Result<()>
-        ensures { Adds (subsection_encoding 6 (list_encoding functions.now)) (HasEncodableSize (list_encoding functions.now) × ⊤) self.old self.new result }
+        ensures { AddsTo S.model (subsection_encoding 6 (list_encoding functions.now)) (HasEncodableSize (list_encoding functions.now) × ⊤) self.old self.new result }
     {
         self.add_record(functions)
     }
 
     /// Adds the COMDAT groups.
     pub fn comdats<B: Allocator>(&mut self, comdats: &Comdats<B>) -> Result<()>
-        ensures { Adds (subsection_encoding 7 (list_encoding comdats.now)) (HasEncodableSize (list_encoding comdats.now) × ⊤) self.old self.new result }
+        ensures { AddsTo S.model (subsection_encoding 7 (list_encoding comdats.now)) (HasEncodableSize (list_encoding comdats.now) × ⊤) self.old self.new result }
     {
         self.add_record(comdats)
     }
 
     /// Adds the symbols.
     pub fn symbol_table<B: Allocator>(&mut self, symbols: &ObjectSymbols<B>) -> Result<()>
-        ensures { Adds (subsection_encoding 8 (list_encoding symbols.now)) (HasEncodableSize (list_encoding symbols.now) × ⊤) self.old self.new result }
+        ensures { AddsTo S.model (subsection_encoding 8 (list_encoding symbols.now)) (HasEncodableSize (list_encoding symbols.now) × ⊤) self.old self.new result }
     {
         self.add_record(symbols)
     }
 
     /// Adds the architecture of the target, which is not in the tool conventions.
     pub fn target_arch(&mut self, name: &str) -> Result<()>
-        ensures { Adds (subsection_encoding 9 (size_prefixed_encoding name.now)) (HasEncodableSize (size_prefixed_encoding name.now) × HasEncodableSize name.now) self.old self.new result }
+        ensures { AddsTo S.model (subsection_encoding 9 (size_prefixed_encoding name.now)) (HasEncodableSize (size_prefixed_encoding name.now) × HasEncodableSize name.now) self.old self.new result }
     {
         self.add_record(&Subsection {
             id: 9,

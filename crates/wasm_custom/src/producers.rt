@@ -1,6 +1,6 @@
 // The producers section: its builder, its reader and its minimizer.
 ghost use Rattle.std.specs.Prelude.{None, ◌≡◌, ◌++◌, [], true, ⊤, ◌≢◌, IfOk, IfErr, Err, OnOk, OnErr, map};
-ghost use Rattle.wasm_base.specs.Calls.{Adds};
+ghost use Rattle.wasm_base.specs.Calls.{Adds, AddsTo};
 ghost use Rattle.wasm_base.specs.Formats.{fixed};
 ghost use Rattle.wasm_base.specs.Continuing.{RejectsWhole};
 ghost use Rattle.wasm_base.specs.Numbers.{padded_of};
@@ -16,7 +16,7 @@ use crate::counted::{DecodesItems, ItemsAs, append_counted, read_counted};
 use crate::entries::{CustomEntries, CustomKind};
 use crate::lists::{CountedList, ListKind};
 use std::alloc::{Allocator, Global};
-use wasm_base::{DecodeError, Grammar, Kind, Lent, Readable, Result, Shorten};
+use wasm_base::{DecodeError, Grammar, Kind, Lent, Pieces, Readable, Result, Shorten, Store};
 
 /// The values of a producers field: the tools that produced the module, and their versions.
 pub type ProducersField<A = Global> = CountedList<ValueMembers, A>;
@@ -57,7 +57,7 @@ impl<A: Allocator> ProducersField<A> {
 /// producers.field("processed-by", &field)?;
 /// module.section(&producers)?;
 /// ```
-pub type ProducersSection<A = Global> = CustomEntries<ProducerItems, A>;
+pub type ProducersSection<A = Global> = CustomEntries<ProducerItems, Pieces<A>>;
 
 /// The kind of a producers section's items: fields.
 #[derive(Clone, Copy, Debug)]
@@ -99,10 +99,10 @@ impl CustomKind for ProducerItems {
     fn layout_laws() {}
 }
 
-impl<A: Allocator> ProducersSection<A> {
+impl<S: Store> CustomEntries<ProducerItems, S> {
     /// Adds a field, such as `language`, `processed-by` or `sdk`.
     pub fn field<B: Allocator>(&mut self, name: &str, values: &ProducersField<B>) -> Result<()>
-        ensures { Adds (size_prefixed_encoding name.now ++ list_encoding values.now) (HasEncodableSize name.now × ⊤) self.old self.new result }
+        ensures { AddsTo S.model (size_prefixed_encoding name.now ++ list_encoding values.now) (HasEncodableSize name.now × ⊤) self.old self.new result }
     {
         self.add_record(&(name, Lent(values)))
     }

@@ -1,6 +1,6 @@
 // The target features section: its builder, its reader and its minimizer.
 ghost use Rattle.std.specs.Prelude.{◌≡◌, [], ◌∷◌, ◌++◌, true, ⊤, ◌≢◌, IfOk, IfErr, Err, OnOk, OnErr, map};
-ghost use Rattle.wasm_base.specs.Calls.{Adds};
+ghost use Rattle.wasm_base.specs.Calls.{Adds, AddsTo};
 ghost use Rattle.wasm_base.specs.Formats.{coded, fixed};
 ghost use Rattle.wasm_base.specs.Continuing.{RejectsWhole};
 ghost use Rattle.wasm_base.specs.Numbers.{padded_of};
@@ -15,7 +15,9 @@ ghost use Rattle.wasm_base.specs.declared.fault.ReadFault.TheVariants.{Memory};
 use crate::counted::{DecodesItems, ItemsAs, append_counted, read_counted};
 use crate::entries::{CustomEntries, CustomKind};
 use std::alloc::{Allocator, Global};
-use wasm_base::{DecodeError, Encode, Grammar, Kind, Layout, ReadFault, Readable, Result, Shorten};
+use wasm_base::{
+    DecodeError, Encode, Grammar, Kind, Layout, Pieces, ReadFault, Readable, Result, Shorten, Store,
+};
 
 /// The target features section: the features that an object file uses, and those that it must not
 /// be linked with.
@@ -25,7 +27,7 @@ use wasm_base::{DecodeError, Encode, Grammar, Kind, Layout, ReadFault, Readable,
 /// features.feature(FeaturePrefix::Used, "bulk-memory")?;
 /// module.section(&features)?;
 /// ```
-pub type TargetFeaturesSection<A = Global> = CustomEntries<FeatureItems, A>;
+pub type TargetFeaturesSection<A = Global> = CustomEntries<FeatureItems, Pieces<A>>;
 
 /// The kind of a target features section's items: features.
 #[derive(Clone, Copy, Debug)]
@@ -90,10 +92,10 @@ impl CustomKind for FeatureItems {
     fn layout_laws() {}
 }
 
-impl<A: Allocator> TargetFeaturesSection<A> {
+impl<S: Store> CustomEntries<FeatureItems, S> {
     /// Adds a feature, such as `atomics` or `bulk-memory`.
     pub fn feature(&mut self, prefix: FeaturePrefix, name: &str) -> Result<()>
-        ensures { Adds (prefix_code prefix ∷ [] ++ size_prefixed_encoding name.now) (⊤ × HasEncodableSize name.now) self.old self.new result }
+        ensures { AddsTo S.model (prefix_code prefix ∷ [] ++ size_prefixed_encoding name.now) (⊤ × HasEncodableSize name.now) self.old self.new result }
     {
         self.add_record(&(prefix, name))
     }

@@ -1,4 +1,5 @@
 -- This file proves the effect of each call on core sections: lemmas that a caller's proof cites.
+use Rattle.wasm_base.specs.Stores.{StoreModel}
 use Rattle.wasm_base.proofs.Words.{◌≡◌, ℕ, ◌^◌, ◌<◌, List, [], ◌∷◌, ◌++◌, map, IsUtf8, Bor, None, Some, Ok, refl, sym, subst, ◌∙◌, arith, length-map, All-map, array_into_iter_items, array_steps}
 use Rattle.wasm_base.proofs.Words.{Count, copied_source, copied_steps, iter_rest, iter_steps, All, AllByRecursion, DecodesOneMore, DecodesBack, DecodesBackBoth, ContainsPadded, counted_format, u32}
 use Rattle.wasm_base.proofs.Words.{vec, size_prefixed, IsEncodableName, SectionDecoding, decoding_of, DecodesSections, minimal, unsigned_encoding, SectionPayload, IsEncodableSection, section_encoding}
@@ -119,17 +120,17 @@ pub adds_passive : {old new : List (List ℕ)} {items : List DataItem} → Conta
 adds_passive before bytes e = adds_item before (given_passive bytes) e tt
 
 -- The section gains the bytes of an array, or of a slice, which the call copies.
-pub array_added : {U : Type 0} {n : ℕ} {becomes : U → IntoIter ℕ n → Type 0} {remaining : IntoIter ℕ n → Count} {elements : U} {encoding : List ℕ → List ℕ} {old new : List (List ℕ)}
-    → AddsBytes becomes array_steps remaining elements encoding old new (Ok (tt {0})) → (bytes : List ℕ) → ((it : IntoIter ℕ n) → becomes elements it → array_into_iter_items it ≡ bytes) → new ≡ old ++ encoding bytes ∷ []
-array_added {encoding = encoding} {old = old} {new = new} added bytes are =
+pub array_added : {M U : Type 0} {model : StoreModel M} {n : ℕ} {becomes : U → IntoIter ℕ n → Type 0} {remaining : IntoIter ℕ n → Count} {elements : U} {encoding : List ℕ → List ℕ} {old new : M}
+    → AddsBytes model becomes array_steps remaining elements encoding old new (Ok (tt {0})) → (bytes : List ℕ) → ((it : IntoIter ℕ n) → becomes elements it → array_into_iter_items it ≡ bytes) → model.gains (encoding bytes) old new
+array_added {model = model} {encoding = encoding} {old = old} {new = new} added bytes are =
     let given = added.ok in
-    subst (λ bs. new ≡ old ++ encoding bs ∷ []) (array_items given.0 given.1 given.3 ∙ are given.0 given.2) given.5
+    subst (λ bs. model.gains (encoding bs) old new) (array_items given.0 given.1 given.3 ∙ are given.0 given.2) given.5
 
-pub copied_added : {U : Type 0} {becomes : U → Copied (Iter ℕ) → Type 0} {remaining : Copied (Iter ℕ) → Count} {elements : U} {encoding : List ℕ → List ℕ} {old new : List (List ℕ)}
-    → AddsBytes becomes (copied_steps iter_steps) remaining elements encoding old new (Ok (tt {0})) → (bytes : List ℕ) → ((it : Copied (Iter ℕ)) → becomes elements it → iter_rest (copied_source it) ≡ bytes) → new ≡ old ++ encoding bytes ∷ []
-copied_added {encoding = encoding} {old = old} {new = new} added bytes are =
+pub copied_added : {M U : Type 0} {model : StoreModel M} {becomes : U → Copied (Iter ℕ) → Type 0} {remaining : Copied (Iter ℕ) → Count} {elements : U} {encoding : List ℕ → List ℕ} {old new : M}
+    → AddsBytes model becomes (copied_steps iter_steps) remaining elements encoding old new (Ok (tt {0})) → (bytes : List ℕ) → ((it : Copied (Iter ℕ)) → becomes elements it → iter_rest (copied_source it) ≡ bytes) → model.gains (encoding bytes) old new
+copied_added {model = model} {encoding = encoding} {old = old} {new = new} added bytes are =
     let given = added.ok in
-    subst (λ bs. new ≡ old ++ encoding bs ∷ []) (copied_items given.0 given.1 given.3 ∙ are given.0 given.2) given.5
+    subst (λ bs. model.gains (encoding bs) old new) (copied_items given.0 given.1 given.3 ∙ are given.0 given.2) given.5
 
 -- The section gains a group of imports of one type, whose names' lengths the call has checked.
 pub adds_alike : {old new : List (List ℕ)} {items : List ImportItem} → ContainsImports old items → (from : List ℕ) (ty : EntityType) (names : List (Bor (List ℕ)))

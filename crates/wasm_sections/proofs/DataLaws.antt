@@ -1,7 +1,7 @@
 -- This file proves that data segments are unambiguous, and how they are decoded and minimized.
 use Rattle.wasm_base.proofs.Words.{◌≡◌, ◌≢◌, ℕ, zero, suc, ◌^◌, ◌<◌, List, [], ◌∷◌, ◌++◌, length, Result, Ok, Err, Option, refl, sym, ap, subst, ◌∙◌, append_assoc, arith, length-append, ◌≤◌, ap₂}
 use Rattle.wasm_base.proofs.Words.{Bool, true, false, eqb, when, mapped, ◌⊎◌, inl, inr, Grammar, builders, admitted, is_admitted, standard_minimal, standard, padded_of, by_mode_unambiguous}
-use Rattle.wasm_base.proofs.Words.{Then_unambiguous, DeterminesPrefix, IsIncludedIn, AreGroups, Count, Drains, size, Adds, ItemLaws, u32, byte, such, pair, vec, Format, any_bytes, choice}
+use Rattle.wasm_base.proofs.Words.{Then_unambiguous, DeterminesPrefix, IsIncludedIn, AreGroups, Count, Drains, size, ItemLaws, u32, byte, such, pair, vec, Format, any_bytes, choice}
 use Rattle.wasm_base.proofs.Words.{size_prefixed, impossible, members, Mode, minimal, unsigned_encoding, padded, IsOfBuilders, Unambiguous, Decodes, Rejects, size_prefixed_encoding, HasEncodableSize}
 use Rattle.wasm_base.proofs.Words.{vec_bytes_unambiguous, mapped_unambiguous, pair_unambiguous, such_unambiguous, DeterminesTag, choice_determines, choice_unambiguous, tagged_unambiguous}
 use Rattle.wasm_base.proofs.Words.{impossible_unambiguous, u32_unambiguous, u32_small, encodes_in, u32_in, pair_in, bytes_encodes, then_decodes, then_rejects_first, then_rejects_second}
@@ -9,6 +9,8 @@ use Rattle.wasm_base.proofs.Words.{mapped_decodes, mapped_rejects, such_decodes,
 use Rattle.wasm_base.proofs.Words.{AppendsMinimal, built_appended, builders_alone, HasEncoding, Includes, left_encoded, right_encoded, tagged_encoded, mapped_encoded, counted_encodable, u32_appended, pair_appended}
 use Rattle.wasm_base.proofs.Words.{tagged_appended, mapped_appended}
 use Rattle.wasm_base.specs.Decoding.{ShrinksTo}
+use Rattle.wasm_base.specs.Calls.{AddsTo}
+use Rattle.wasm_base.specs.Stores.{StoreModel}
 use Rattle.wasm_base.specs.declared.refused.Refused.{Refused}
 use Rattle.wasm_code.proofs.Words.{expression, expression_encoding, expression_unambiguous, expression_encodes}
 use Rattle.wasm_immediates.specs.ImmediateFormats.{HasIndex}
@@ -179,10 +181,10 @@ segments_section = counted_laws_padded data_laws data_included (data_encodes pad
 -- ---- calls
 
 -- The same entry, if its encoding has another form.
-pub same_encodings : {U S : Type 0} {becomes : U → S → Type 0} {gives : S → Option ℕ → S → Type 0} {remaining : S → Count} {elements : U} {encoding same : List ℕ → List ℕ} {old new : List (List ℕ)} (result : Result (Unit {0}) Refused)
-    → ((bytes : List ℕ) → encoding bytes ≡ same bytes) → AddsBytes becomes gives remaining elements encoding old new result → AddsBytes becomes gives remaining elements same old new result
-same_encodings {old = old} {new = new} (Ok x) e h = record {
-  ok = (h.ok.0, h.ok.1, h.ok.2, h.ok.3, h.ok.4, subst (λ t. new ≡ old ++ t ∷ []) (e h.ok.1) h.ok.5);
+pub same_encodings : {M U S : Type 0} {model : StoreModel M} {becomes : U → S → Type 0} {gives : S → Option ℕ → S → Type 0} {remaining : S → Count} {elements : U} {encoding same : List ℕ → List ℕ} {old new : M} (result : Result (Unit {0}) Refused)
+    → ((bytes : List ℕ) → encoding bytes ≡ same bytes) → AddsBytes model becomes gives remaining elements encoding old new result → AddsBytes model becomes gives remaining elements same old new result
+same_encodings {model = model} {old = old} {new = new} (Ok x) e h = record {
+  ok = (h.ok.0, h.ok.1, h.ok.2, h.ok.3, h.ok.4, subst (λ t. model.gains t old new) (e h.ok.1) h.ok.5);
   err = h.err;
   counted = h.counted;
   too_long = h.too_long;
@@ -192,14 +194,14 @@ same_encodings {old = old} {new = new} (Ok x) e h = record {
 same_encodings (Err x) e h = record { ok = h.ok; err = h.err; counted = h.counted; too_long = h.too_long; too_many = h.too_many; full = h.full }
 
 -- The effect of a call whose iterator yields these bytes.
-pub adds_these : {U S : Type 0} {becomes : U → S → Type 0} {gives : S → Option ℕ → S → Type 0} {remaining : S → Count} {elements : U} {encoding : List ℕ → List ℕ} {old new : List (List ℕ)} (result : Result (Unit {0}) Refused) (bytes : List ℕ)
-    → ((it : S) (xs : List ℕ) → becomes elements it → Drains gives it xs → xs ≡ bytes) → ((it : S) → becomes elements it → size (remaining it) ≡ length bytes) → AddsBytes becomes gives remaining elements encoding old new result
-    → Adds (encoding bytes) (HasEncodableSize bytes) old new result
-adds_these {encoding = encoding} {old = old} {new = new} (Ok x) bytes same counts h =
+pub adds_these : {M U S : Type 0} {model : StoreModel M} {becomes : U → S → Type 0} {gives : S → Option ℕ → S → Type 0} {remaining : S → Count} {elements : U} {encoding : List ℕ → List ℕ} {old new : M} (result : Result (Unit {0}) Refused) (bytes : List ℕ)
+    → ((it : S) (xs : List ℕ) → becomes elements it → Drains gives it xs → xs ≡ bytes) → ((it : S) → becomes elements it → size (remaining it) ≡ length bytes) → AddsBytes model becomes gives remaining elements encoding old new result
+    → AddsTo model (encoding bytes) (HasEncodableSize bytes) old new result
+adds_these {model = model} {encoding = encoding} {old = old} {new = new} (Ok x) bytes same counts h =
     let given = h.ok in
     let is = same given.0 given.1 given.2 given.3 in
     record {
-      ok = subst (λ bs. new ≡ old ++ encoding bs ∷ []) is given.5;
+      ok = subst (λ bs. model.gains (encoding bs) old new) is given.5;
       err = h.err;
       was_encodable = subst HasEncodableSize is given.4;
       counted = h.counted;

@@ -1,7 +1,7 @@
 // The data section: its builder and its reader.
 ghost use Rattle.std.specs.Prelude.{◌≡◌, ◌≢◌, ℕ, List, ◌++◌, IfOk, ⊤, IfErr, Err, OnOk, map};
 ghost use Rattle.std.specs.Bool.{Decides};
-ghost use Rattle.wasm_base.specs.Calls.{Adds};
+ghost use Rattle.wasm_base.specs.Calls.{AddsTo};
 ghost use Rattle.wasm_base.specs.Formats.{byte, pair, vec};
 ghost use Rattle.wasm_base.specs.Continuing.{RejectsWhole};
 ghost use Rattle.wasm_base.specs.Iterators.{HasKnownLength};
@@ -19,8 +19,8 @@ ghost use Rattle.wasm_sections.specs.DataSegments.{data_items, DataItem, active,
 use crate::counted_section::{CountedSection, ItemKind};
 use std::alloc::{Allocator, Global};
 use wasm_base::{
-    DecodeError, Encode, Grammar, Kind, Layout, Lent, ReadFault, Readable, Result, SectionId,
-    Shorten, bytes_of, encode_size_prefixed, read_whole,
+    DecodeError, Encode, Grammar, Kind, Layout, Lent, Pieces, ReadFault, Readable, Result,
+    SectionId, Shorten, Store, bytes_of, encode_size_prefixed, read_whole,
 };
 use wasm_code::{ConstExpr, Expression};
 
@@ -32,7 +32,7 @@ use wasm_code::{ConstExpr, Expression};
 /// data.passive(bytes)?;
 /// module.section(&data)?;
 /// ```
-pub type DataSection<A = Global> = CountedSection<DataItems, A>;
+pub type DataSection<A = Global> = CountedSection<DataItems, Pieces<A>>;
 
 /// The kind of a data section's items: segments of bytes.
 #[derive(Clone, Copy, Debug)]
@@ -117,7 +117,7 @@ impl ItemKind for DataItems {
 
 /// Adding calls. A segment is a flag, the memory if it is not 0, the offset of an active segment,
 /// and the bytes. Core specification, Binary Format, Modules, Data Section.
-impl<A: Allocator> DataSection<A> {
+impl<S: Store> CountedSection<DataItems, S> {
     ghost use Rattle.wasm_sections.specs.DataSegments.{segment_encoding, active_encoding, passive_encoding, AddsBytes};
 
     /// Adds a segment.
@@ -131,7 +131,7 @@ impl<A: Allocator> DataSection<A> {
     where
         D::IntoIter: ExactSizeIterator + Drop,
         requires { HasKnownLength D.into_iter_gives D.IntoIter.can_next D.IntoIter.next_gives D.IntoIter.remaining segment.bytes }
-        ensures { AddsBytes D.into_iter_gives D.IntoIter.next_gives D.IntoIter.remaining segment.entry.bytes (segment_encoding segment.entry.mode) self.old self.new result }
+        ensures { AddsBytes S.model D.into_iter_gives D.IntoIter.next_gives D.IntoIter.remaining segment.entry.bytes (segment_encoding segment.entry.mode) self.old self.new result }
     {
         let DataSegment { mode, bytes } = segment;
         match mode {
@@ -155,7 +155,7 @@ impl<A: Allocator> DataSection<A> {
     where
         D::IntoIter: ExactSizeIterator + Drop,
         requires { HasKnownLength D.into_iter_gives D.IntoIter.can_next D.IntoIter.next_gives D.IntoIter.remaining bytes }
-        ensures { AddsBytes D.into_iter_gives D.IntoIter.next_gives D.IntoIter.remaining bytes (active_encoding memory_index offset.now) self.old self.new result }
+        ensures { AddsBytes S.model D.into_iter_gives D.IntoIter.next_gives D.IntoIter.remaining bytes (active_encoding memory_index offset.now) self.old self.new result }
     {
         if memory_index == 0 {
             self.add_bytes((ACTIVE, Lent(offset)), bytes)
@@ -171,29 +171,29 @@ impl<A: Allocator> DataSection<A> {
     where
         D::IntoIter: ExactSizeIterator + Drop,
         requires { HasKnownLength D.into_iter_gives D.IntoIter.can_next D.IntoIter.next_gives D.IntoIter.remaining bytes }
-        ensures { AddsBytes D.into_iter_gives D.IntoIter.next_gives D.IntoIter.remaining bytes passive_encoding self.old self.new result }
+        ensures { AddsBytes S.model D.into_iter_gives D.IntoIter.next_gives D.IntoIter.remaining bytes passive_encoding self.old self.new result }
     {
         self.add_bytes(PASSIVE, bytes)
     }
 
     /// Adds a segment that is already encoded. The call does not check that it is one.
     pub fn raw(&mut self, segment: &[u8]) -> Result<()>
-        ensures { Adds segment.now ⊤ self.old self.new result }
+        ensures { AddsTo S.model segment.now ⊤ self.old self.new result }
     {
         self.add_piece(segment)
     }
 
     /// Adds a segment that is encoded as `front` and the size-prefixed bytes.
-    fn add_bytes<S: Encode + Drop, D: IntoIterator<Item = u8>>(
+    fn add_bytes<F: Encode + Drop, D: IntoIterator<Item = u8>>(
         &mut self,
-        front: S,
+        front: F,
         bytes: D,
     ) -> Result<()>
     where
         D::IntoIter: ExactSizeIterator + Drop,
         requires length { HasKnownLength D.into_iter_gives D.IntoIter.can_next D.IntoIter.next_gives D.IntoIter.remaining bytes }
-        requires encodable { S.encodable front }
-        ensures { AddsBytes D.into_iter_gives D.IntoIter.next_gives D.IntoIter.remaining bytes (λ b. S.encoding front ++ size_prefixed_encoding b) self.old self.new result }
+        requires encodable { F.encodable front }
+        ensures { AddsBytes S.model D.into_iter_gives D.IntoIter.next_gives D.IntoIter.remaining bytes (λ b. F.encoding front ++ size_prefixed_encoding b) self.old self.new result }
     {
         let bytes = bytes_of(bytes)?;
         self.add_once((front, bytes))

@@ -1,6 +1,6 @@
 // The builder of the element section.
 ghost use Rattle.std.specs.Prelude.{◌≡◌, ◌≢◌, ◌≤◌, IfOk, ⊤};
-ghost use Rattle.wasm_base.specs.Calls.{Adds};
+ghost use Rattle.wasm_base.specs.Calls.{AddsTo};
 ghost use Rattle.wasm_base.specs.declared.refused.Refused.TheVariants.{TooLong};
 ghost use Rattle.wasm_code.specs.Expressions.{expression_encoding};
 ghost use Rattle.wasm_immediates.specs.Immediates.{where_set};
@@ -10,7 +10,8 @@ use crate::counted_section::{CountedSection, ItemKind};
 use crate::flags::where_set;
 use std::alloc::{Allocator, Global};
 use wasm_base::{
-    AbstractHeapType, CowSlice, Encode, HeapType, Kind, Lent, RefType, Result, SectionId,
+    AbstractHeapType, CowSlice, Encode, HeapType, Kind, Lent, Pieces, RefType, Result, SectionId,
+    Store,
 };
 use wasm_code::ConstExpr;
 
@@ -22,7 +23,7 @@ use wasm_code::ConstExpr;
 /// elements.active(None, &offset, Elements::Functions(CowSlice::Borrowed(&[0, 1])))?;
 /// module.section(&elements)?;
 /// ```
-pub type ElementSection<A = Global> = CountedSection<ElementItems, A>;
+pub type ElementSection<A = Global> = CountedSection<ElementItems, Pieces<A>>;
 
 /// The kind of an element section's items: segments of references.
 #[derive(Clone, Copy, Debug)]
@@ -283,13 +284,13 @@ impl ItemKind for ElementItems {
 }
 
 /// Adding calls. Core specification, Binary Format, Modules, Element Section.
-impl<A: Allocator> ElementSection<A> {
+impl<S: Store> CountedSection<ElementItems, S> {
     ghost use Rattle.wasm_sections.specs.declared.element.ElementMode.TheVariants as modes;
     ghost use Rattle.wasm_sections.specs.GivenElements.{given_encoding, list_in};
 
     /// Adds a segment.
     pub fn segment<B: Allocator>(&mut self, segment: ElementSegment<'_, B>) -> Result<()>
-        ensures { Adds (given_encoding segment.entry) (AreEncodableElements (list_in segment.entry.elements)) self.old self.new result }
+        ensures { AddsTo S.model (given_encoding segment.entry) (AreEncodableElements (list_in segment.entry.elements)) self.old self.new result }
     {
         self.add_record(&segment)
     }
@@ -301,7 +302,7 @@ impl<A: Allocator> ElementSection<A> {
         offset: &'a ConstExpr<B>,
         elements: Elements<'a, B>,
     ) -> Result<()>
-        ensures { Adds (given_encoding (record { mode = modes.Active table offset.entry; elements = elements.entry })) (AreEncodableElements (list_in elements.entry)) self.old self.new result }
+        ensures { AddsTo S.model (given_encoding (record { mode = modes.Active table offset.entry; elements = elements.entry })) (AreEncodableElements (list_in elements.entry)) self.old self.new result }
     {
         self.segment(ElementSegment {
             mode: ElementMode::Active { table, offset },
@@ -311,7 +312,7 @@ impl<A: Allocator> ElementSection<A> {
 
     /// Adds a segment whose references are copied to a table by an instruction.
     pub fn passive<B: Allocator>(&mut self, elements: Elements<'_, B>) -> Result<()>
-        ensures { Adds (given_encoding (record { mode = modes.Passive; elements = elements.entry })) (AreEncodableElements (list_in elements.entry)) self.old self.new result }
+        ensures { AddsTo S.model (given_encoding (record { mode = modes.Passive; elements = elements.entry })) (AreEncodableElements (list_in elements.entry)) self.old self.new result }
     {
         self.segment(ElementSegment {
             mode: ElementMode::Passive,
@@ -321,7 +322,7 @@ impl<A: Allocator> ElementSection<A> {
 
     /// Adds a segment that declares that code may refer to its functions.
     pub fn declared<B: Allocator>(&mut self, elements: Elements<'_, B>) -> Result<()>
-        ensures { Adds (given_encoding (record { mode = modes.Declared; elements = elements.entry })) (AreEncodableElements (list_in elements.entry)) self.old self.new result }
+        ensures { AddsTo S.model (given_encoding (record { mode = modes.Declared; elements = elements.entry })) (AreEncodableElements (list_in elements.entry)) self.old self.new result }
     {
         self.segment(ElementSegment {
             mode: ElementMode::Declared,
@@ -331,7 +332,7 @@ impl<A: Allocator> ElementSection<A> {
 
     /// Adds a segment that is already encoded. The call does not check that it is one.
     pub fn raw(&mut self, segment: &[u8]) -> Result<()>
-        ensures { Adds segment.now ⊤ self.old self.new result }
+        ensures { AddsTo S.model segment.now ⊤ self.old self.new result }
     {
         self.add_piece(segment)
     }

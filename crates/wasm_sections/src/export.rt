@@ -1,6 +1,6 @@
 // The export section: its builder and its reader.
 ghost use Rattle.std.specs.Prelude.{◌∷◌, ◌++◌, [], ⊤};
-ghost use Rattle.wasm_base.specs.Calls.{Adds};
+ghost use Rattle.wasm_base.specs.Calls.{AddsTo};
 ghost use Rattle.wasm_base.specs.Formats.{coded};
 ghost use Rattle.wasm_base.specs.Numbers.{unsigned_encoding};
 ghost use Rattle.wasm_base.specs.Decoding.{Unambiguous};
@@ -12,7 +12,8 @@ ghost use Rattle.wasm_sections.specs.declared.export.ExportKind.{ExportKind as K
 use crate::counted_section::{CountedSection, ItemKind, RecordOf};
 use std::alloc::{Allocator, Global};
 use wasm_base::{
-    DecodeError, Encode, Grammar, Kind, Layout, ReadFault, Readable, Result, SectionId,
+    DecodeError, Encode, Grammar, Kind, Layout, Pieces, ReadFault, Readable, Result, SectionId,
+    Store,
 };
 
 /// The export section: the items that a module exports.
@@ -22,7 +23,7 @@ use wasm_base::{
 /// exports.export("foo", ExportKind::Func, 0)?;
 /// module.section(&exports)?;
 /// ```
-pub type ExportSection<A = Global> = CountedSection<ExportItems, A>;
+pub type ExportSection<A = Global> = CountedSection<ExportItems, Pieces<A>>;
 
 /// The kind of an export section's items: exports.
 #[derive(Clone, Copy, Debug)]
@@ -94,10 +95,10 @@ impl ItemKind for ExportItems {
 
 impl RecordOf<ExportItems> for Export<'_> {}
 
-impl<A: Allocator> ExportSection<A> {
+impl<S: Store> CountedSection<ExportItems, S> {
     /// Adds an export.
     pub fn export(&mut self, name: &str, kind: ExportKind, index: u32) -> Result<()>
-        ensures { Adds (size_prefixed_encoding name.now ++ (kind_code kind ∷ [] ++ unsigned_encoding index)) (HasEncodableSize name.now) self.old self.new result }
+        ensures { AddsTo S.model (size_prefixed_encoding name.now ++ (kind_code kind ∷ [] ++ unsigned_encoding index)) (HasEncodableSize name.now) self.old self.new result }
     {
         self.add_record(&Export { name, kind, index })
     }

@@ -1,12 +1,12 @@
 // The function section.
 ghost use Rattle.std.specs.Prelude.{ℕ, ⊤};
-ghost use Rattle.wasm_base.specs.Calls.{Adds};
+ghost use Rattle.wasm_base.specs.Calls.{AddsTo};
 ghost use Rattle.wasm_base.specs.Numbers.{unsigned_encoding};
 ghost use Rattle.wasm_sections.specs.Functions.{function_items};
 
 use crate::counted_section::{CountedSection, ItemKind, RecordOf};
 use std::alloc::{Allocator, Global};
-use wasm_base::{Encode, Kind, Result, SectionId};
+use wasm_base::{Encode, Kind, Pieces, Result, SectionId, Store};
 
 /// The function section: the types of the functions that a module defines, in the order of their
 /// bodies.
@@ -16,7 +16,7 @@ use wasm_base::{Encode, Kind, Result, SectionId};
 /// functions.function(0)?;
 /// module.section(&functions)?;
 /// ```
-pub type FunctionSection<A = Global> = CountedSection<FunctionItems, A>;
+pub type FunctionSection<A = Global> = CountedSection<FunctionItems, Pieces<A>>;
 
 /// The kind of a function section's items: the index of a type for each function.
 #[derive(Clone, Copy, Debug)]
@@ -73,10 +73,10 @@ impl Encode for TypeIndex {
     }
 }
 
-impl<A: Allocator> FunctionSection<A> {
+impl<S: Store> CountedSection<FunctionItems, S> {
     /// Adds a function of the type of this index.
     pub fn function(&mut self, type_index: u32) -> Result<()>
-        ensures { Adds (unsigned_encoding type_index) ⊤ self.old self.new result }
+        ensures { AddsTo S.model (unsigned_encoding type_index) ⊤ self.old self.new result }
     {
         self.add_record(&TypeIndex { index: type_index })
     }

@@ -1,6 +1,6 @@
 // The global section: its builder and its reader.
 ghost use Rattle.std.specs.Prelude.{◌≡◌, ◌++◌, ⊤};
-ghost use Rattle.wasm_base.specs.Calls.{Adds};
+ghost use Rattle.wasm_base.specs.Calls.{AddsTo};
 ghost use Rattle.wasm_base.specs.Formats.{coded};
 ghost use Rattle.wasm_code.specs.Expressions.{expression_encoding};
 ghost use Rattle.wasm_sections.specs.Globals.{global_items, global_flags, global_code, global_encoding, GivenGlobal, GlobalItem as GlobalModel, global_item, GlobalFlags as GlobalBits, global_type, global_flags_view, global_view};
@@ -11,8 +11,8 @@ use crate::counted_section::{CountedSection, ItemKind};
 use crate::flags::where_set;
 use std::alloc::{Allocator, Global};
 use wasm_base::{
-    DecodeError, Encode, Grammar, Kind, Layout, Lent, ReadFault, Readable, Result, SectionId,
-    Shorten, ValType,
+    DecodeError, Encode, Grammar, Kind, Layout, Lent, Pieces, ReadFault, Readable, Result,
+    SectionId, Shorten, Store, ValType,
 };
 use wasm_code::{ConstExpr, Expression};
 
@@ -24,7 +24,7 @@ use wasm_code::{ConstExpr, Expression};
 /// globals.global(global_type, &ConstExpr::i32_const(alloc, 42)?)?;
 /// module.section(&globals)?;
 /// ```
-pub type GlobalSection<A = Global> = CountedSection<GlobalItems, A>;
+pub type GlobalSection<A = Global> = CountedSection<GlobalItems, Pieces<A>>;
 
 /// The kind of a global section's items: types of globals, each with an initializer expression.
 #[derive(Clone, Copy, Debug)]
@@ -84,21 +84,21 @@ impl ItemKind for GlobalItems {
     }
 }
 
-impl<A: Allocator> GlobalSection<A> {
+impl<S: Store> CountedSection<GlobalItems, S> {
     /// Adds a global of this type, initialized by the expression.
     pub fn global<B: Allocator>(
         &mut self,
         global_type: GlobalType,
         init: &ConstExpr<B>,
     ) -> Result<()>
-        ensures { Adds (global_encoding global_type ++ expression_encoding init.now) ⊤ self.old self.new result }
+        ensures { AddsTo S.model (global_encoding global_type ++ expression_encoding init.now) ⊤ self.old self.new result }
     {
         self.add_record(&(global_type, Lent(init)))
     }
 
     /// Adds a global that is already encoded. The call does not check that it is one.
     pub fn raw(&mut self, global: &[u8]) -> Result<()>
-        ensures { Adds global.now ⊤ self.old self.new result }
+        ensures { AddsTo S.model global.now ⊤ self.old self.new result }
     {
         self.add_piece(global)
     }

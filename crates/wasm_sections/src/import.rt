@@ -1,6 +1,6 @@
 // The import section: its builder and its reader.
 ghost use Rattle.std.specs.Prelude.{◌≡◌, ◌≢◌, ◌++◌, IfOk, ⊤, ◌≤◌, ◌∷◌, [], List, ℕ, IfErr, MatchOption, Err, OnOk, OnErr, map};
-ghost use Rattle.wasm_base.specs.Calls.{Adds};
+ghost use Rattle.wasm_base.specs.Calls.{AddsTo};
 ghost use Rattle.wasm_base.specs.Formats.{name, pair, prefixed, vec};
 ghost use Rattle.wasm_base.specs.Continuing.{RejectsWhole};
 ghost use Rattle.wasm_base.specs.Numbers.{padded_of};
@@ -21,8 +21,8 @@ use crate::tag::TagType;
 use std::alloc::{Allocator, Global};
 use wasm_base::{
     CORE_FUNCTION_EXACT_SORT, CORE_FUNCTION_SORT, CORE_GLOBAL_SORT, CORE_MEMORY_SORT,
-    CORE_TABLE_SORT, CORE_TAG_SORT, CowSlice, DecodeError, Encode, Grammar, Kind, Layout,
-    ReadFault, Readable, Result, SectionId, read_whole,
+    CORE_TABLE_SORT, CORE_TAG_SORT, CowSlice, DecodeError, Encode, Grammar, Kind, Layout, Pieces,
+    ReadFault, Readable, Result, SectionId, Store, read_whole,
 };
 
 /// The import section: the items that a module imports.
@@ -32,7 +32,7 @@ use wasm_base::{
 /// imports.import("env", "f", EntityType::Function(0))?;
 /// module.section(&imports)?;
 /// ```
-pub type ImportSection<A = Global> = CountedSection<ImportItems, A>;
+pub type ImportSection<A = Global> = CountedSection<ImportItems, Pieces<A>>;
 
 /// The kind of an import section's items: imports and groups of imports, each of which is one
 /// entry.
@@ -226,17 +226,17 @@ impl ItemKind for ImportItems {
 
 impl RecordOf<ImportItems> for Import<'_> {}
 
-impl<A: Allocator> ImportSection<A> {
+impl<S: Store> CountedSection<ImportItems, S> {
     /// Adds an import.
     pub fn import(&mut self, module: &str, name: &str, ty: EntityType) -> Result<()>
-        ensures { Adds (size_prefixed_encoding «module».now ++ (size_prefixed_encoding name.now ++ entity_encoding ty)) (HasEncodableSize «module».now × HasEncodableSize name.now) self.old self.new result }
+        ensures { AddsTo S.model (size_prefixed_encoding «module».now ++ (size_prefixed_encoding name.now ++ entity_encoding ty)) (HasEncodableSize «module».now × HasEncodableSize name.now) self.old self.new result }
     {
         self.add_record(&Import { module, name, ty })
     }
 
     /// Adds an import or a group of imports, as one entry.
-    pub fn imports(&mut self, imports: Imports<'_, A>) -> Result<()>
-        ensures { Adds (import_encoding (imports_item imports.entry)) (IsEncodableImport (imports_item imports.entry)) self.old self.new result }
+    pub fn imports(&mut self, imports: Imports<'_, S::Alloc>) -> Result<()>
+        ensures { AddsTo S.model (import_encoding (imports_item imports.entry)) (IsEncodableImport (imports_item imports.entry)) self.old self.new result }
     {
         self.add_record(&imports)
     }

@@ -14,6 +14,7 @@ mod flags;
 mod function;
 mod global;
 mod import;
+pub mod joined;
 pub mod laws;
 mod memory;
 mod start;

@@ -1,6 +1,6 @@
 // The memory section: its builder and its reader.
 ghost use Rattle.std.specs.Prelude.{◌≡◌, ◌^◌, ◌<◌, ⊤};
-ghost use Rattle.wasm_base.specs.Calls.{Adds};
+ghost use Rattle.wasm_base.specs.Calls.{AddsTo};
 ghost use Rattle.wasm_sections.specs.Flags.{flags_code, Flags as FlagBits, flags as flags_format, flags_view};
 ghost use Rattle.wasm_sections.specs.Memories.{memory_items, memory_flags, memory_encoding, memory_type, page_exponent};
 ghost use Rattle.wasm_sections.specs.declared.memory.MemoryType.{MemoryType as Memory};
@@ -9,8 +9,8 @@ use crate::counted_section::{CountedSection, ItemKind, RecordOf};
 use crate::flags::where_set;
 use std::alloc::{Allocator, Global};
 use wasm_base::{
-    DecodeError, Encode, Grammar, Kind, Layout, Optional, ReadFault, Readable, Result, SectionId,
-    read_optional,
+    DecodeError, Encode, Grammar, Kind, Layout, Optional, Pieces, ReadFault, Readable, Result,
+    SectionId, Store, read_optional,
 };
 
 /// The memory section: the memories that a module defines.
@@ -26,7 +26,7 @@ use wasm_base::{
 /// })?;
 /// module.section(&memories)?;
 /// ```
-pub type MemorySection<A = Global> = CountedSection<MemoryItems, A>;
+pub type MemorySection<A = Global> = CountedSection<MemoryItems, Pieces<A>>;
 
 /// The kind of a memory section's items: memory types.
 #[derive(Clone, Copy, Debug)]
@@ -115,10 +115,10 @@ impl ItemKind for MemoryItems {
 
 impl RecordOf<MemoryItems> for MemoryType {}
 
-impl<A: Allocator> MemorySection<A> {
+impl<S: Store> CountedSection<MemoryItems, S> {
     /// Adds a memory of this type.
     pub fn memory(&mut self, memory_type: MemoryType) -> Result<()>
-        ensures { Adds (memory_encoding memory_type) ⊤ self.old self.new result }
+        ensures { AddsTo S.model (memory_encoding memory_type) ⊤ self.old self.new result }
     {
         self.add_record(&memory_type)
     }

@@ -1,6 +1,6 @@
 // The table section: its builder and its reader.
 ghost use Rattle.std.specs.Prelude.{◌≡◌, ◌++◌, ⊤};
-ghost use Rattle.wasm_base.specs.Calls.{Adds};
+ghost use Rattle.wasm_base.specs.Calls.{AddsTo};
 ghost use Rattle.wasm_code.specs.Expressions.{expression_encoding};
 ghost use Rattle.wasm_sections.specs.Flags.{flags_code};
 ghost use Rattle.wasm_sections.specs.Tables.{table_items, table_flags, table_encoding, GivenTable, TableItem as TableModel, before_init, table_item, index_type_of, Limits as LimitsModel, limits, table_type, limits_view, table_view};
@@ -12,8 +12,8 @@ use crate::flags::where_set;
 use crate::memory::Flags;
 use std::alloc::{Allocator, Global};
 use wasm_base::{
-    DecodeError, Encode, Grammar, Kind, Layout, Lent, Optional, ReadFault, Readable, RefType,
-    Result, SectionId, Shorten, ValType, read_optional,
+    DecodeError, Encode, Grammar, Kind, Layout, Lent, Optional, Pieces, ReadFault, Readable,
+    RefType, Result, SectionId, Shorten, Store, ValType, read_optional,
 };
 use wasm_code::{ConstExpr, Expression};
 
@@ -32,7 +32,7 @@ use wasm_code::{ConstExpr, Expression};
 /// tables.table_with_init(table_type, &ConstExpr::ref_null(alloc, HeapType::FUNC)?)?;
 /// module.section(&tables)?;
 /// ```
-pub type TableSection<A = Global> = CountedSection<TableItems, A>;
+pub type TableSection<A = Global> = CountedSection<TableItems, Pieces<A>>;
 
 /// The kind of a table section's items: table types, some with an initializer expression.
 #[derive(Clone, Copy, Debug)]
@@ -111,10 +111,10 @@ impl ItemKind for TableItems {
 
 impl RecordOf<TableItems> for TableType {}
 
-impl<A: Allocator> TableSection<A> {
+impl<S: Store> CountedSection<TableItems, S> {
     /// Adds a table of this type, whose elements are initially null.
     pub fn table(&mut self, table_type: TableType) -> Result<()>
-        ensures { Adds (table_encoding table_type) ⊤ self.old self.new result }
+        ensures { AddsTo S.model (table_encoding table_type) ⊤ self.old self.new result }
     {
         self.add_record(&table_type)
     }
@@ -125,7 +125,7 @@ impl<A: Allocator> TableSection<A> {
         table_type: TableType,
         init: &ConstExpr<B>,
     ) -> Result<()>
-        ensures { Adds (before_init ++ (table_encoding table_type ++ expression_encoding init.now)) ⊤ self.old self.new result }
+        ensures { AddsTo S.model (before_init ++ (table_encoding table_type ++ expression_encoding init.now)) ⊤ self.old self.new result }
     {
         self.add_record(&([0x40u8, 0x00], table_type, Lent(init)))
     }

@@ -1,6 +1,6 @@
 // The tag section: its builder and its reader.
 ghost use Rattle.std.specs.Prelude.{◌≡◌, ⊤};
-ghost use Rattle.wasm_base.specs.Calls.{Adds};
+ghost use Rattle.wasm_base.specs.Calls.{AddsTo};
 ghost use Rattle.wasm_base.specs.Formats.{coded};
 ghost use Rattle.wasm_sections.specs.Tags.{tag_items, tag_code, tag_encoding, tag_type};
 ghost use Rattle.wasm_sections.specs.declared.tag.TagKind.{TagKind as Kind};
@@ -9,7 +9,8 @@ ghost use Rattle.wasm_sections.specs.declared.tag.TagType.{TagType as Tag};
 use crate::counted_section::{CountedSection, ItemKind, RecordOf};
 use std::alloc::{Allocator, Global};
 use wasm_base::{
-    DecodeError, Encode, Grammar, Kind, Layout, ReadFault, Readable, Result, SectionId,
+    DecodeError, Encode, Grammar, Kind, Layout, Pieces, ReadFault, Readable, Result, SectionId,
+    Store,
 };
 
 /// The tag section: the tags that a module defines.
@@ -19,7 +20,7 @@ use wasm_base::{
 /// tags.tag(TagType { kind: TagKind::Exception, func_type_idx: 0 })?;
 /// module.section(&tags)?;
 /// ```
-pub type TagSection<A = Global> = CountedSection<TagItems, A>;
+pub type TagSection<A = Global> = CountedSection<TagItems, Pieces<A>>;
 
 /// The kind of a tag section's items: tag types.
 #[derive(Clone, Copy, Debug)]
@@ -87,10 +88,10 @@ impl ItemKind for TagItems {
 
 impl RecordOf<TagItems> for TagType {}
 
-impl<A: Allocator> TagSection<A> {
+impl<S: Store> CountedSection<TagItems, S> {
     /// Adds a tag of this type.
     pub fn tag(&mut self, tag_type: TagType) -> Result<()>
-        ensures { Adds (tag_encoding tag_type) ⊤ self.old self.new result }
+        ensures { AddsTo S.model (tag_encoding tag_type) ⊤ self.old self.new result }
     {
         self.add_record(&tag_type)
     }

@@ -90,7 +90,7 @@ fn export_kind(word: &str) -> Option<ExportKind>
 
 /// Appends a section to the module, if it has an item.
 fn put_counted<K: ItemKind, A: Allocator, B: Allocator>(
-    section: &CountedSection<K, A>,
+    section: &CountedSection<K, Pieces<A>>,
     target: &mut Module<B>,
 ) -> Result<()>
     ensures { Puts (section_of K.section_id section.now) (IsEncodableSection section.now) target.old target.new result }

@@ -5,6 +5,7 @@ use Rattle.wasm_base.proofs.Words.{IsEncodableSection, section_encoding, longest
 use Rattle.std.specs.declared.array.IntoIter.{IntoIter}
 use Rattle.std.specs.declared.vec.Vec.{Vec}
 use Rattle.wasm_base.specs.declared.refused.Refused.{Refused}
+use Rattle.wasm_base.specs.Stores.{StoreModel}
 use Rattle.wasm_types.specs.{AddsListed, AddsTwoListed, Shape, TypeItem, type_encoding, shape_encoding, IsShape, IsType, type_item, ContainsTypes, plain_type}
 use Rattle.wasm_base.proofs.SectionLaws.{payloads}
 use Rattle.wasm_types.proofs.TypeLaws.{types_section}
@@ -35,19 +36,19 @@ adds_shape before shape e plain =
     adds_type before (plain_type shape) e (record { supertypes = record { count = omega arith; members = All-nil _ }; composite = record { describes = tt; descriptor = tt; shape = plain } })
 
 -- The section gains an entry whose items are the elements of arrays.
-pub listed_array : {U T : Type 0} {n : ℕ} {becomes : U → IntoIter T n → Type 0} {remaining : IntoIter T n → Count} {Encodable : T → Type 0} {elements : U} {encoding : List T → List ℕ} {old new : List (List ℕ)}
-    → AddsListed becomes array_steps remaining Encodable elements encoding old new (Ok (tt {0})) → (items : List T) → ((it : IntoIter T n) → becomes elements it → array_into_iter_items it ≡ items) → new ≡ old ++ encoding items ∷ []
-listed_array {encoding = encoding} {old = old} {new = new} added items are =
+pub listed_array : {M U T : Type 0} {model : StoreModel M} {n : ℕ} {becomes : U → IntoIter T n → Type 0} {remaining : IntoIter T n → Count} {Encodable : T → Type 0} {elements : U} {encoding : List T → List ℕ} {old new : M}
+    → AddsListed model becomes array_steps remaining Encodable elements encoding old new (Ok (tt {0})) → (items : List T) → ((it : IntoIter T n) → becomes elements it → array_into_iter_items it ≡ items) → model.gains (encoding items) old new
+listed_array {model = model} {encoding = encoding} {old = old} {new = new} added items are =
     let given = added.ok in
-    subst (λ xs. new ≡ old ++ encoding xs ∷ []) (array_items given.0 given.1 given.3 ∙ are given.0 given.2) given.5
+    subst (λ xs. model.gains (encoding xs) old new) (array_items given.0 given.1 given.3 ∙ are given.0 given.2) given.5
 
-pub listed_arrays : {U V T : Type 0} {n m : ℕ} {becomes : U → IntoIter T n → Type 0} {remaining : IntoIter T n → Count} {becomes₂ : V → IntoIter T m → Type 0} {remaining₂ : IntoIter T m → Count} {first : U} {second : V} {encoding : List T → List T → List ℕ} {old new : List (List ℕ)}
-    → AddsTwoListed becomes array_steps remaining becomes₂ array_steps remaining₂ first second encoding old new (Ok (tt {0})) → (xs ys : List T) → ((it : IntoIter T n) → becomes first it → array_into_iter_items it ≡ xs) → ((it : IntoIter T m) → becomes₂ second it → array_into_iter_items it ≡ ys)
-    → new ≡ old ++ encoding xs ys ∷ []
-listed_arrays {encoding = encoding} {old = old} {new = new} added xs ys are are₂ =
+pub listed_arrays : {M U V T : Type 0} {model : StoreModel M} {n m : ℕ} {becomes : U → IntoIter T n → Type 0} {remaining : IntoIter T n → Count} {becomes₂ : V → IntoIter T m → Type 0} {remaining₂ : IntoIter T m → Count} {first : U} {second : V} {encoding : List T → List T → List ℕ} {old new : M}
+    → AddsTwoListed model becomes array_steps remaining becomes₂ array_steps remaining₂ first second encoding old new (Ok (tt {0})) → (xs ys : List T) → ((it : IntoIter T n) → becomes first it → array_into_iter_items it ≡ xs) → ((it : IntoIter T m) → becomes₂ second it → array_into_iter_items it ≡ ys)
+    → model.gains (encoding xs ys) old new
+listed_arrays {model = model} {encoding = encoding} {old = old} {new = new} added xs ys are are₂ =
     let given = added.ok in
-    subst (λ zs. new ≡ old ++ encoding zs ys ∷ []) (array_items given.0 given.2 given.6 ∙ are given.0 given.4)
-    (subst (λ zs. new ≡ old ++ encoding given.2 zs ∷ []) (array_items given.1 given.3 given.7 ∙ are₂ given.1 given.5) given.10)
+    subst (λ zs. model.gains (encoding zs ys) old new) (array_items given.0 given.2 given.6 ∙ are given.0 given.4)
+    (subst (λ zs. model.gains (encoding given.2 zs) old new) (array_items given.1 given.3 given.7 ∙ are₂ given.1 given.5) given.10)
 
 -- The module gains a type section.
 pub gains_types : {decodings : List SectionDecoding} {id : ℕ} {old new : List ℕ} {entries : List (List ℕ)} {items : List TypeItem} → DecodesSections decodings old → DecodesOneMore (SectionPayload entries) id old new → IsEncodableSection entries

@@ -7,6 +7,7 @@
 
 mod fields;
 mod items;
+pub mod joined;
 pub mod laws;
 mod shapes;
 mod type_section;
@@ -14,7 +15,10 @@ mod types;
 mod walk;
 
 pub use items::{SubItem, TypeEntry};
-pub use type_section::{CoreTypeEncoder, TypeItems, TypeSection, append_types, read_types};
+pub use type_section::{
+    CoreTypeEncoder, CoreTypeEncoderIn, TypeItems, TypeSection, TypeSectionIn, append_types,
+    read_types,
+};
 pub use types::{
     ArrayType, CompositeInnerType, CompositeType, ContType, FieldType, FuncType, StorageType,
     StructType, SubType,

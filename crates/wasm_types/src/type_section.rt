@@ -2,13 +2,12 @@
 ghost use Rattle.std.specs.Prelude.{◌≡◌, ◌≢◌, ℕ, List, [], ◌∷◌, length, map, IfErr, IfOk, IsTrue, Err, OnOk, OnErr, ◌↔◌, slice_get, ⊤};
 ghost use Rattle.std.proofs.Common.{refl};
 ghost use Rattle.std.specs.Option.{option_copied};
-ghost use Rattle.wasm_base.specs.Calls.{Adds, DecodesBackBoth};
+ghost use Rattle.wasm_base.specs.Calls.{AddsTo, DecodesBackBoth};
 ghost use Rattle.wasm_base.specs.Entries.{ContainsPadded, counted_format};
 ghost use Rattle.wasm_base.specs.Formats.{vec};
 ghost use Rattle.wasm_base.specs.Continuing.{RejectsWhole};
 ghost use Rattle.wasm_base.specs.Iterators.{HasKnownLength};
 ghost use Rattle.wasm_base.specs.Numbers.{padded_of};
-ghost use Rattle.wasm_base.specs.Pieces.{section_encoding, IsEncodableSection, IsOverlong};
 ghost use Rattle.wasm_base.specs.Encodings.{IsEncodableVec};
 ghost use Rattle.wasm_base.specs.declared.refused.Refused.TheVariants.{TooLong};
 ghost use Rattle.wasm_base.specs.Minimal.{AppendsMinimal, HasEncoding, builders_alone};
@@ -22,8 +21,8 @@ use crate::types::{ARRAY, ContType, FUNC, FieldType, FuncType, STRUCT, StorageTy
 use std::alloc::{Allocator, Global};
 use std::marker::Model;
 use wasm_base::{
-    Counted, DecodeError, Encode, Grammar, Kind, Pieces, Result, Section, SectionId, ValType,
-    read_whole, vec_of,
+    Counted, DecodeError, Encode, Grammar, ItemsOf, Kind, NewStore, PaddedOf, Pieces, Result,
+    Section, SectionId, Store, ValType, read_whole, vec_of,
 };
 
 /// The type section: the types that a module defines, modelled as the bytes of each entry.
@@ -33,20 +32,23 @@ use wasm_base::{
 /// types.ty().function([ValType::I32, ValType::I32], [ValType::I32])?;
 /// module.section(&types)?;
 /// ```
+pub type TypeSection<A = Global> = TypeSectionIn<Pieces<A>>;
+
+/// A type section, whose entries a store of the type `S` keeps.
 ///
 /// # Errors
 ///
 /// An adding call that returns an error leaves the section unchanged. The error is `TooLong` only
 /// if the section is full or a list is too long, and `Memory` only if an allocation fails.
 #[derive(Drop, Debug)]
-pub struct TypeSection<A: Allocator = Global> {
-    pieces: Pieces<A>,
+pub struct TypeSectionIn<S: Store = Pieces> {
+    entries: S,
 }
 
-impl<A: Allocator> Model for TypeSection<A> {
-    ghost Value = { List (List ℕ) };
+impl<S: Store> Model for TypeSectionIn<S> {
+    ghost Value = { S };
 
-    ghost view = { λ s. s.pieces };
+    ghost view = { λ s. s.entries };
 }
 
 /// The kind of a type section's items: subtypes and recursion groups.
@@ -64,52 +66,54 @@ impl Kind for TypeItems {
     fn laws() {}
 }
 
-impl<A: Allocator> TypeSection<A> {
+impl<S: Store> TypeSectionIn<S> {
     /// Returns the number of entries.
     pub fn len(&self) -> u32
-        ensures { result ≡ length self.now }
+        ensures { result ≡ (S.model.joins self.now).number }
     {
-        self.pieces.len()
+        self.entries.count()
     }
 
     /// Returns `true` if there are no entries.
     pub fn is_empty(&self) -> bool
-        ensures { IsTrue result ↔ (length self.now ≡ 0) }
+        ensures { IsTrue result ↔ ((S.model.joins self.now).number ≡ 0) }
     {
-        self.pieces.is_empty()
-    }
-
-    /// Returns the bytes of the entry at `index`, or `None` if there is no such entry.
-    pub fn piece(&self, index: u32) -> Option<&[u8]>
-        ensures { option_copied result ≡ slice_get self.now index }
-    {
-        self.pieces.get(index)
+        self.entries.count() == 0
     }
 
     /// Adds an entry that is already encoded. The call does not check that it is a type or a
     /// recursion group.
     pub fn raw(&mut self, entry: &[u8]) -> Result<()>
-        ensures { Adds entry.now ⊤ self.old self.new result }
+        ensures { AddsTo S.model entry.now ⊤ self.old self.new result }
     {
-        self.pieces.add(entry)
+        self.entries.add_bytes(entry)
     }
 
     /// Returns an encoder that adds one type. If none of its methods is called, nothing is added.
-    pub fn ty(&mut self) -> CoreTypeEncoder<'_, A>
+    pub fn ty(&mut self) -> CoreTypeEncoderIn<'_, S>
         ensures same_reference { result.section.ghost_name ≡ self.entry.ghost_name }
         ensures same { result.section.now ≡ self.old }
     {
-        CoreTypeEncoder { section: self }
+        CoreTypeEncoderIn { section: self }
     }
 }
 
-impl<A: Allocator + Copy> TypeSection<A> {
-    /// Returns a section without entries, and allocates nothing.
-    pub fn new(alloc: A) -> Self
-        ensures { result ≡ [] }
+impl<A: Allocator> TypeSection<A> {
+    /// Returns the bytes of the entry at `index`, or `None` if there is no such entry.
+    pub fn piece(&self, index: u32) -> Option<&[u8]>
+        ensures { option_copied result ≡ slice_get self.now index }
     {
-        TypeSection {
-            pieces: Pieces::new(alloc),
+        self.entries.get(index)
+    }
+}
+
+impl<S: NewStore> TypeSectionIn<S> {
+    /// Returns a section without entries, and allocates nothing.
+    pub fn new(alloc: S::Alloc) -> Self
+        ensures { result ≡ S.none }
+    {
+        TypeSectionIn {
+            entries: S::new_in(alloc),
         }
     }
 
@@ -118,30 +122,32 @@ impl<A: Allocator + Copy> TypeSection<A> {
         ensures same { IfOk result (λ section. section ≡ self.now) }
         ensures memory { result ≢ Err TooLong }
     {
-        Ok(TypeSection {
-            pieces: self.pieces.clone()?,
+        Ok(TypeSectionIn {
+            entries: self.entries.copy()?,
         })
     }
 }
 
 /// Encodes the size prefix, the number of entries, and the entries.
-impl<A: Allocator> Encode for TypeSection<A> {
-    ghost encoding = { section_encoding };
+impl<S: Store> Encode for TypeSectionIn<S> {
+    ghost encoding = { S.encoding };
 
-    ghost encodable = { IsEncodableSection };
+    ghost encodable = { S.encodable };
 
-    ghost overlong = { IsOverlong };
+    ghost overlong = { S.overlong };
 
-    ghost decoding = { λ section. DecodesBackBoth (counted_format type_item) (ContainsTypes section) (ContainsPadded type_item section) (section_encoding section) };
+    ghost decoding = { λ section. DecodesBackBoth (counted_format type_item) (λ items. S.model.holds (λ pieces. ContainsTypes pieces items) section) (λ items. S.model.holds (λ pieces. ContainsPadded type_item pieces items) section) (S.encoding section) };
 
     fn encode<B: Allocator>(&self, sink: &mut Vec<u8, B>) -> Result<()> {
         TypeItems::laws();
-        self.pieces.encode(sink)
+        self.entries.cut::<ItemsOf<TypeItems>>();
+        self.entries.cut::<PaddedOf<TypeItems>>();
+        self.entries.encode(sink)
     }
 }
 
-impl<A: Allocator> Section for TypeSection<A> {
-    ghost use Rattle.wasm_base.specs.Pieces.{SectionPayload, section_sized};
+impl<S: Store> Section for TypeSectionIn<S> {
+    ghost use Rattle.wasm_base.specs.Stores.{joined_payload, joined_sized};
     ghost use Rattle.wasm_base.specs.SectionId.{number_of};
     ghost use Rattle.wasm_base.specs.declared.section_id.SectionId.TheVariants as ids;
 
@@ -151,15 +157,15 @@ impl<A: Allocator> Section for TypeSection<A> {
 
     ghost format = { counted_format type_item };
 
-    ghost says = { ContainsTypes };
+    ghost says = { λ section items. S.model.holds (λ pieces. ContainsTypes pieces items) section };
 
-    ghost payload = { SectionPayload };
+    ghost payload = { λ section bytes. bytes ≡ joined_payload (S.model.joins section) };
 
     fn id(&self) -> u8 {
         SectionId::Types.into()
     }
 
-    ghost sized = { section_sized };
+    ghost sized = { λ section bytes encodable e. joined_sized (S.model.joins section) (S.encoding section) bytes (S.encodes section) (S.fits section encodable) e };
 
     ghost decodes_back = { λ section promised. promised.plain };
 }
@@ -175,7 +181,7 @@ impl<A: Allocator, B: Allocator> Counted<TypeEntry<B>> for TypeSection<A> {
     ghost item_encodable = { IsEncodableEntry };
 
     fn add(&mut self, item: &TypeEntry<B>) -> Result<()> {
-        self.pieces.add_encoded(item)
+        self.entries.add_encoded(item)
     }
 
     ghost counted = { λ section. refl };
@@ -184,47 +190,50 @@ impl<A: Allocator, B: Allocator> Counted<TypeEntry<B>> for TypeSection<A> {
 /// Adds one type to a section that it borrows. A call that returns an error leaves the section
 /// unchanged.
 #[derive(Drop, Debug)]
-pub struct CoreTypeEncoder<'a, A: Allocator = Global> {
-    section: &'a mut TypeSection<A>,
+pub struct CoreTypeEncoderIn<'a, S: Store = Pieces> {
+    section: &'a mut TypeSectionIn<S>,
 }
 
-impl<'a, A: Allocator> CoreTypeEncoder<'a, A> {
+/// Adds one type to a [`TypeSection`] that it borrows.
+pub type CoreTypeEncoder<'a, A = Global> = CoreTypeEncoderIn<'a, Pieces<A>>;
+
+impl<'a, S: Store> CoreTypeEncoderIn<'a, S> {
     ghost use Rattle.wasm_types.specs.Given.{sub_in, shape_in, IsEncodableShape, group_encoding};
 
     /// Adds a function type.
     pub fn func_type<B: Allocator>(self, ty: &FuncType<B>) -> Result<()>
-        ensures { Adds (func_encoding ty.now.params.items ty.now.results.items) (IsEncodableVec (λ _. ⊤) ty.now.params.items × IsEncodableVec (λ _. ⊤) ty.now.results.items) self.entry.section.now self.exit.0.now result }
+        ensures { AddsTo S.model (func_encoding ty.now.params.items ty.now.results.items) (IsEncodableVec (λ _. ⊤) ty.now.params.items × IsEncodableVec (λ _. ⊤) ty.now.results.items) self.entry.section.now self.exit.0.now result }
     {
         let section = self.section;
-        section.pieces.add_encoded(ty)
+        section.entries.add_item(ty)
     }
 
     /// Adds an array type.
     pub fn array(self, ty: &StorageType, mutable: bool) -> Result<()>
-        ensures { Adds (0x5E ∷ field_encoding (record { element_type = ty.now; mutable = mutable })) ⊤ self.entry.section.now self.exit.0.now result }
+        ensures { AddsTo S.model (0x5E ∷ field_encoding (record { element_type = ty.now; mutable = mutable })) ⊤ self.entry.section.now self.exit.0.now result }
     {
         let element = FieldType {
             element_type: *ty,
             mutable,
         };
         let section = self.section;
-        section.pieces.add_encoded(&(ARRAY, element))
+        section.entries.add_item(&(ARRAY, element))
     }
 
     /// Adds a continuation type.
     pub fn cont(self, ty: &ContType) -> Result<()>
-        ensures { Adds (cont_encoding ty.now.0) ⊤ self.entry.section.now self.exit.0.now result }
+        ensures { AddsTo S.model (cont_encoding ty.now.0) ⊤ self.entry.section.now self.exit.0.now result }
     {
         let section = self.section;
-        section.pieces.add_encoded(ty)
+        section.entries.add_item(ty)
     }
 
     /// Adds a subtype.
     pub fn subtype<B: Allocator>(self, ty: &SubType<B>) -> Result<()>
-        ensures { Adds (sub_encoding (sub_in ty.now)) (IsEncodableShape (shape_in ty.now.composite_type.inner)) self.entry.section.now self.exit.0.now result }
+        ensures { AddsTo S.model (sub_encoding (sub_in ty.now)) (IsEncodableShape (shape_in ty.now.composite_type.inner)) self.entry.section.now self.exit.0.now result }
     {
         let section = self.section;
-        section.pieces.add_encoded(ty)
+        section.entries.add_item(ty)
     }
 
     /// Adds a function type of these parameters and results. If an iterator reports more than
@@ -239,12 +248,12 @@ impl<'a, A: Allocator> CoreTypeEncoder<'a, A> {
         Q::IntoIter: ExactSizeIterator + Drop,
         requires params { HasKnownLength P.into_iter_gives P.IntoIter.can_next P.IntoIter.next_gives P.IntoIter.remaining params }
         requires results { HasKnownLength Q.into_iter_gives Q.IntoIter.can_next Q.IntoIter.next_gives Q.IntoIter.remaining results }
-        ensures { AddsTwoListed P.into_iter_gives P.IntoIter.next_gives P.IntoIter.remaining Q.into_iter_gives Q.IntoIter.next_gives Q.IntoIter.remaining params results func_encoding self.entry.section.now self.exit.0.now result }
+        ensures { AddsTwoListed S.model P.into_iter_gives P.IntoIter.next_gives P.IntoIter.remaining Q.into_iter_gives Q.IntoIter.next_gives Q.IntoIter.remaining params results func_encoding self.entry.section.now self.exit.0.now result }
     {
         let section = self.section;
         let params = vec_of(params);
         let results = vec_of(results);
-        section.pieces.add_once((FUNC, params?, results?))
+        section.entries.add_item_once((FUNC, params?, results?))
     }
 
     /// Adds a structure type of these fields. If the iterator reports more than 4294967295 fields,
@@ -253,11 +262,11 @@ impl<'a, A: Allocator> CoreTypeEncoder<'a, A> {
     where
         F::IntoIter: ExactSizeIterator + Drop,
         requires { HasKnownLength F.into_iter_gives F.IntoIter.can_next F.IntoIter.next_gives F.IntoIter.remaining fields }
-        ensures { AddsListed F.into_iter_gives F.IntoIter.next_gives F.IntoIter.remaining (λ _. ⊤) fields struct_encoding self.entry.section.now self.exit.0.now result }
+        ensures { AddsListed S.model F.into_iter_gives F.IntoIter.next_gives F.IntoIter.remaining (λ _. ⊤) fields struct_encoding self.entry.section.now self.exit.0.now result }
     {
         let section = self.section;
         let fields = vec_of(fields)?;
-        section.pieces.add_once((STRUCT, fields))
+        section.entries.add_item_once((STRUCT, fields))
     }
 
     /// Adds a recursion group: subtypes that may refer to one another. If the iterator reports more
@@ -266,11 +275,11 @@ impl<'a, A: Allocator> CoreTypeEncoder<'a, A> {
     where
         T::IntoIter: ExactSizeIterator + Drop,
         requires { HasKnownLength T.into_iter_gives T.IntoIter.can_next T.IntoIter.next_gives T.IntoIter.remaining types }
-        ensures { AddsListed T.into_iter_gives T.IntoIter.next_gives T.IntoIter.remaining (λ s. IsEncodableShape (shape_in s.composite_type.inner)) types group_encoding self.entry.section.now self.exit.0.now result }
+        ensures { AddsListed S.model T.into_iter_gives T.IntoIter.next_gives T.IntoIter.remaining (λ s. IsEncodableShape (shape_in s.composite_type.inner)) types group_encoding self.entry.section.now self.exit.0.now result }
     {
         let section = self.section;
         let types = vec_of(types)?;
-        section.pieces.add_once((REC, types))
+        section.entries.add_item_once((REC, types))
     }
 }
 

@@ -49,7 +49,7 @@ pub trait Counted<T>: Section {
     ///
     /// # Proved
     ///
-    /// The builder gains one entry with this encoding, or the call returns an error and changes nothing. A full builder, with 2^32 - 1 entries, returns `TooLong`.
+    /// `AddsTo` of a builder whose entries are a list of pieces.
     ///
     /// ```text
     /// ensures { Adds (item_encoding item.now) (item_encodable item.now) (pieces self.old)

@@ -12,7 +12,7 @@
 /// use dolzhytik::fallible::{CountedSection, FunctionItems, FunctionSection, Global};
 ///
 /// let functions: FunctionSection =
-///     CountedSection::<FunctionItems, Global>::new(Global);
+///     CountedSection::<FunctionItems>::new(Global);
 /// assert!(functions.is_empty());
 /// ```
 ///

@@ -27,6 +27,7 @@ mod refused;
 mod section_id;
 mod sections;
 mod shorten;
+mod store;
 mod tuples;
 mod types;
 mod vectors;
@@ -63,6 +64,8 @@ pub use section_id::{
 };
 pub use sections::{RawSection, Section};
 pub(crate) use shorten::Shorten;
+pub use store::{Entries, NewStore, Property, Store};
+pub(crate) use store::{ItemsOf, PaddedOf};
 pub use types::{AbstractHeapType, HeapType, RefType, ValType};
 pub(crate) use types::read_val_after;
 pub use vectors::encode_vec;

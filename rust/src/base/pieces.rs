@@ -43,8 +43,7 @@ use crate::alloc::{Allocator, Global};
 /// Contracts model it as the list of their bytes.
 #[derive(Debug)]
 pub struct Pieces<A: Allocator = Global> {
-    bytes: Vec<u8, A>,
-    ends: Vec<usize, A>,
+    pub(crate) bytes: Vec<u8, A>, pub(crate) ends: Vec<usize, A>,
 }
 
 /// Returns the offset at which the entry at `index` begins.
@@ -144,7 +143,7 @@ impl<A: Allocator> Pieces<A> {
     ///
     /// # Proved
     ///
-    /// The builder gains one entry with this encoding, or the call returns an error and changes nothing. A full builder, with 2^32 - 1 entries, returns `TooLong`.
+    /// `AddsTo` of a builder whose entries are a list of pieces.
     ///
     /// ```text
     /// ensures { Adds entry.now ⊤ self.old self.new result }
@@ -174,7 +173,7 @@ impl<A: Allocator> Pieces<A> {
     ///
     /// # Proved
     ///
-    /// The builder gains one entry with this encoding, or the call returns an error and changes nothing. A full builder, with 2^32 - 1 entries, returns `TooLong`.
+    /// `AddsTo` of a builder whose entries are a list of pieces.
     ///
     /// ```text
     /// ensures { Adds (T.encoding item.now) (T.encodable item.now) self.old self.new result }
@@ -215,7 +214,7 @@ impl<A: Allocator> Pieces<A> {
     ///
     /// # Proved
     ///
-    /// The builder gains one entry with one of these encodings, or the call returns an error and changes nothing. A full builder, with 2^32 - 1 entries, returns `TooLong`.
+    /// `AddsOnceTo` of a builder whose entries are a list of pieces.
     ///
     /// ```text
     /// ensures { AddsOnce (T.gives item) (T.encodable item) self.old self.new result }

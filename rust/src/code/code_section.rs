@@ -4,7 +4,7 @@
 use crate::vec::Sink;
 use crate::code::function::Function;
 use crate::alloc::{Allocator, Global};
-use crate::base::{Counted, Encode, Pieces, Result, Section, SectionId, encode_size_prefixed};
+use crate::base::{Counted, Encode, NewStore, Pieces, Property, Result, Section, SectionId, Store, encode_size_prefixed};
 
 /// The code section: the bodies of a module's functions.
 ///
@@ -26,18 +26,38 @@ use crate::base::{Counted, Encode, Pieces, Result, Section, SectionId, encode_si
 /// the same order. Where its calls return an error, those of the root's
 /// [`CodeSection`](crate::CodeSection) panic or abort.
 ///
+/// # Model
+///
+/// Contracts model it as the bytes of each entry. An entry is a raw body with its size prefix.
+pub type CodeSection<A = Global> = CodeSectionIn<Pieces<A>>;
+
+/// A code section, whose entries a store of the type `S` keeps.
+///
+/// [`CodeSection`](crate::fallible::CodeSection) is the one that also keeps where its entries
+/// end.
+///
 /// # Errors
 ///
 /// An adding call that returns an error leaves the section unchanged. The error is `TooLong` only
 /// if the section is full or the body is longer than 4294967295 bytes, and `Memory` only if an
 /// allocation fails.
 ///
-/// # Model
+/// # Examples
 ///
-/// Contracts model it as the bytes of each entry. An entry is a raw body with its size prefix.
+/// ```
+/// use dolzhytik::fallible::{CodeSectionIn, Encode, Entries, Global};
+///
+/// let mut code = CodeSectionIn::<Entries>::new(Global);
+/// code.raw(&[0x00, 0x0B])?; // No locals; end.
+/// let mut bytes = Vec::new();
+/// code.encode(&mut bytes)?;
+/// // Size 4, one body, of size 2.
+/// assert_eq!(bytes, [4, 1, 2, 0x00, 0x0B]);
+/// # Ok::<(), dolzhytik::fallible::Refused>(())
+/// ```
 #[derive(Debug)]
-pub struct CodeSection<A: Allocator = Global> {
-    pieces: Pieces<A>,
+pub struct CodeSectionIn<S: Store = Pieces> {
+    pub(crate) entries: S,
 }
 
 /// A raw body that the caller passes as bytes.
@@ -61,18 +81,60 @@ impl Encode for RawBody<'_> {
     }
 }
 
-impl<A: Allocator> CodeSection<A> {
+/// The entries are raw bodies with their size prefixes.
+#[derive(Clone, Copy, Debug)]
+struct RawBodies;
+
+/// # Defined
+///
+/// ```text
+/// Items = { List (List ℕ) }
+/// says = { ContainsBodies }
+/// ```
+///
+/// Definitions: [`ContainsBodies`](crate::definitions::code::code::ContainsBodies). [How to read clauses](crate::definitions).
+impl Property for RawBodies {}
+
+/// The entries minimally encode bodies.
+#[derive(Clone, Copy, Debug)]
+struct Bodies;
+
+/// # Defined
+///
+/// ```text
+/// Items = { List Body }
+/// says = { EncodesBodies }
+/// ```
+///
+/// Definitions: [`Body`](crate::definitions::code::bodies::Body), [`EncodesBodies`](crate::definitions::code::code::EncodesBodies). [How to read clauses](crate::definitions).
+impl Property for Bodies {}
+
+/// The entries encode bodies, possibly padded.
+#[derive(Clone, Copy, Debug)]
+struct PaddedBodies;
+
+/// # Defined
+///
+/// ```text
+/// Items = { List Body }
+/// says = { EncodesBodiesPadded }
+/// ```
+///
+/// Definitions: [`Body`](crate::definitions::code::bodies::Body), [`EncodesBodiesPadded`](crate::definitions::code::code::EncodesBodiesPadded). [How to read clauses](crate::definitions).
+impl Property for PaddedBodies {}
+
+impl<S: Store> CodeSectionIn<S> {
     /// Returns the number of bodies.
     ///
     /// # Proved
     ///
     /// ```text
-    /// ensures { result ≡ length self.now }
+    /// ensures { result ≡ (S.model.joins self.now).number }
     /// ```
     ///
     /// [How to read clauses](crate::definitions).
     pub fn len(&self) -> u32 {
-        self.pieces.len()
+        self.entries.count()
     }
 
     /// Returns the length of all entries together, in bytes, without their count.
@@ -80,43 +142,25 @@ impl<A: Allocator> CodeSection<A> {
     /// # Proved
     ///
     /// ```text
-    /// ensures { result ≡ length (joined self.now) }
+    /// ensures { result ≡ length (S.model.joins self.now).content }
     /// ```
     ///
-    /// Definitions: [`joined`](crate::definitions::base::pieces::joined). [How to read clauses](crate::definitions).
+    /// [How to read clauses](crate::definitions).
     pub fn byte_len(&self) -> usize {
-        self.pieces.raw_len()
+        self.entries.content().len()
     }
 
     /// Returns `true` if there are no bodies.
     ///
     /// # Proved
     ///
-    /// The result is true exactly if there are no entries.
-    ///
     /// ```text
-    /// ensures { IsTrue result ↔ (length self.now ≡ 0) }
+    /// ensures { IsTrue result ↔ ((S.model.joins self.now).number ≡ 0) }
     /// ```
     ///
     /// [How to read clauses](crate::definitions).
     pub fn is_empty(&self) -> bool {
-        self.pieces.is_empty()
-    }
-
-    /// Returns the bytes of the entry at `index`, a raw body with its size prefix, or `None` if
-    /// there is no such entry.
-    ///
-    /// # Proved
-    ///
-    /// The result is the entry at `index`, if there is one.
-    ///
-    /// ```text
-    /// ensures { option_copied result ≡ slice_get self.now index }
-    /// ```
-    ///
-    /// [How to read clauses](crate::definitions).
-    pub fn piece(&self, index: u32) -> Option<&[u8]> {
-        self.pieces.get(index)
+        self.entries.count() == 0
     }
 
     /// Adds a function body.
@@ -133,13 +177,13 @@ impl<A: Allocator> CodeSection<A> {
     /// The builder gains one entry with this encoding, or the call returns an error and changes nothing. A full builder, with 2^32 - 1 entries, returns `TooLong`.
     ///
     /// ```text
-    /// ensures { Adds (size_prefixed_encoding function.now)
+    /// ensures { AddsTo S.model (size_prefixed_encoding function.now)
     ///     (HasEncodableSize function.now) self.old self.new result }
     /// ```
     ///
-    /// Definitions: [`Adds`](crate::definitions::base::calls::Adds), [`size_prefixed_encoding`](crate::definitions::base::encodings::size_prefixed_encoding), [`HasEncodableSize`](crate::definitions::base::encodings::HasEncodableSize). [How to read clauses](crate::definitions).
+    /// Definitions: [`AddsTo`](crate::definitions::base::calls::AddsTo), [`size_prefixed_encoding`](crate::definitions::base::encodings::size_prefixed_encoding), [`HasEncodableSize`](crate::definitions::base::encodings::HasEncodableSize). [How to read clauses](crate::definitions).
     pub fn function<B: Allocator>(&mut self, function: &Function<B>) -> Result<()> {
-        self.pieces.add_encoded(function)
+        self.entries.add_item(function)
     }
 
     /// Adds a raw body, as [`Function::into_raw_body`](crate::code::Function::into_raw_body) returns it.
@@ -156,31 +200,47 @@ impl<A: Allocator> CodeSection<A> {
     /// The builder gains one entry with this encoding, or the call returns an error and changes nothing. A full builder, with 2^32 - 1 entries, returns `TooLong`.
     ///
     /// ```text
-    /// ensures { Adds (size_prefixed_encoding body.now)
+    /// ensures { AddsTo S.model (size_prefixed_encoding body.now)
     ///     (HasEncodableSize body.now) self.old self.new result }
     /// ```
     ///
-    /// Definitions: [`Adds`](crate::definitions::base::calls::Adds), [`size_prefixed_encoding`](crate::definitions::base::encodings::size_prefixed_encoding), [`HasEncodableSize`](crate::definitions::base::encodings::HasEncodableSize). [How to read clauses](crate::definitions).
+    /// Definitions: [`AddsTo`](crate::definitions::base::calls::AddsTo), [`size_prefixed_encoding`](crate::definitions::base::encodings::size_prefixed_encoding), [`HasEncodableSize`](crate::definitions::base::encodings::HasEncodableSize). [How to read clauses](crate::definitions).
     pub fn raw(&mut self, body: &[u8]) -> Result<()> {
-        self.pieces.add_encoded(&RawBody { bytes: body })
+        self.entries.add_item(&RawBody { bytes: body })
     }
 }
 
-impl<A: Allocator + Copy> CodeSection<A> {
+impl<A: Allocator> CodeSection<A> {
+    /// Returns the bytes of the entry at `index`, a raw body with its size prefix, or `None` if
+    /// there is no such entry.
+    ///
+    /// # Proved
+    ///
+    /// The result is the entry at `index`, if there is one.
+    ///
+    /// ```text
+    /// ensures { option_copied result ≡ slice_get self.now index }
+    /// ```
+    ///
+    /// [How to read clauses](crate::definitions).
+    pub fn piece(&self, index: u32) -> Option<&[u8]> {
+        self.entries.get(index)
+    }
+}
+
+impl<S: NewStore> CodeSectionIn<S> {
     /// Returns a section without bodies, and allocates nothing.
     ///
     /// # Proved
     ///
-    /// The result has no entries.
-    ///
     /// ```text
-    /// ensures { result ≡ [] }
+    /// ensures { result ≡ S.none }
     /// ```
     ///
     /// [How to read clauses](crate::definitions).
-    pub fn new(alloc: A) -> Self {
-        CodeSection {
-            pieces: Pieces::new(alloc),
+    pub fn new(alloc: S::Alloc) -> Self {
+        CodeSectionIn {
+            entries: S::new_in(alloc),
         }
     }
 
@@ -201,8 +261,8 @@ impl<A: Allocator + Copy> CodeSection<A> {
     ///
     /// [How to read clauses](crate::definitions).
     pub fn clone(&self) -> Result<Self> {
-        Ok(CodeSection {
-            pieces: self.pieces.clone()?,
+        Ok(CodeSectionIn {
+            entries: self.entries.copy()?,
         })
     }
 }
@@ -212,16 +272,19 @@ impl<A: Allocator + Copy> CodeSection<A> {
 /// # Defined
 ///
 /// ```text
-/// encoding = { section_encoding }
-/// encodable = { IsEncodableSection }
-/// overlong = { IsOverlong }
-/// decoding = { λ section. DecodesCode section (section_encoding section) }
+/// encoding = { S.encoding }
+/// encodable = { S.encodable }
+/// overlong = { S.overlong }
+/// decoding = { λ section. DecodesCode S.model.holds section (S.encoding section) }
 /// ```
 ///
-/// Definitions: [`section_encoding`](crate::definitions::base::pieces::section_encoding), [`IsEncodableSection`](crate::definitions::base::pieces::IsEncodableSection), [`IsOverlong`](crate::definitions::base::pieces::IsOverlong), [`DecodesCode`](crate::definitions::code::code::DecodesCode). [How to read clauses](crate::definitions).
-impl<A: Allocator> Encode for CodeSection<A> {
+/// Definitions: [`DecodesCode`](crate::definitions::code::code::DecodesCode). [How to read clauses](crate::definitions).
+impl<S: Store> Encode for CodeSectionIn<S> {
     fn encode<B: Sink>(&self, sink: &mut B) -> Result<()> {
-        self.pieces.encode(sink)
+        self.entries.cut::<RawBodies>();
+        self.entries.cut::<Bodies>();
+        self.entries.cut::<PaddedBodies>();
+        self.entries.encode(sink)
     }
 }
 
@@ -231,14 +294,16 @@ impl<A: Allocator> Encode for CodeSection<A> {
 /// id_of = { λ _. number_of ids.Code }
 /// Items = { List Body }
 /// format = { code_section }
-/// says = { EncodesBodies }
-/// payload = { SectionPayload }
-/// sized = { section_sized }
+/// says = { λ section bodies. S.model.holds
+///     (λ pieces. EncodesBodies pieces bodies) section }
+/// payload = { λ section bytes. bytes ≡ joined_payload (S.model.joins section) }
+/// sized = { λ section bytes encodable e. joined_sized (S.model.joins section)
+///     (S.encoding section) bytes (S.encodes section) (S.fits section encodable) e }
 /// decodes_back = { λ section promised. promised.bodies }
 /// ```
 ///
-/// Definitions: [`number_of`](crate::definitions::base::section_id::number_of), [`Body`](crate::definitions::code::bodies::Body), [`code_section`](crate::definitions::code::code::code_section), [`EncodesBodies`](crate::definitions::code::code::EncodesBodies), [`SectionPayload`](crate::definitions::base::pieces::SectionPayload), [`section_sized`](crate::definitions::base::pieces::section_sized). [How to read clauses](crate::definitions).
-impl<A: Allocator> Section for CodeSection<A> {
+/// Definitions: [`number_of`](crate::definitions::base::section_id::number_of), [`Body`](crate::definitions::code::bodies::Body), [`code_section`](crate::definitions::code::code::code_section), [`EncodesBodies`](crate::definitions::code::code::EncodesBodies), [`joined_payload`](crate::definitions::base::stores::joined_payload), [`joined_sized`](crate::definitions::base::stores::joined_sized). [How to read clauses](crate::definitions).
+impl<S: Store> Section for CodeSectionIn<S> {
     fn id(&self) -> u8 {
         SectionId::Code.into()
     }

@@ -8,12 +8,14 @@ pub(crate) mod const_expr;
 pub(crate) mod expression;
 pub(crate) mod first;
 pub(crate) mod function;
+pub mod joined;
 pub mod laws;
 pub(crate) mod locals;
 pub(crate) mod members;
 pub(crate) mod walk;
 
 pub(crate) use body::{Body, read_body, read_code, shorten_body};
+pub use code_section::CodeSectionIn;
 #[doc(alias = "bodies")]
 pub use code_section::CodeSection;
 #[doc(alias = "initializer")]

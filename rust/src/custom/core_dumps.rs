@@ -8,7 +8,7 @@ use crate::custom::entries::{CustomEntries, CustomKind};
 use crate::custom::marked::{MarkedName, read_marked};
 use crate::custom::named::after_name;
 use crate::alloc::{Allocator, Global};
-use crate::base::{DecodeError, Encode, Grammar, Kind, Layout, Readable, Result, Section, SectionId, Shorten, read_whole, vec_of};
+use crate::base::{DecodeError, Encode, Grammar, Kind, Layout, Pieces, Readable, Result, Section, SectionId, Shorten, Store, read_whole, vec_of};
 
 /// The `core` section of a dumped process.
 ///
@@ -145,7 +145,7 @@ impl<A: Allocator> Section for CoreDumpSection<A> {
 /// # }
 /// # example().unwrap();
 /// ```
-pub type CoreDumpModulesSection<A = Global> = CustomEntries<ModuleItems, A>;
+pub type CoreDumpModulesSection<A = Global> = CustomEntries<ModuleItems, Pieces<A>>;
 
 /// The kind of the items of a modules section: their names.
 ///
@@ -199,7 +199,7 @@ impl CustomKind for ModuleItems {
     fn layout_laws() {}
 }
 
-impl<A: Allocator> CoreDumpModulesSection<A> {
+impl<S: Store> CustomEntries<ModuleItems, S> {
     /// Adds a module.
     ///
     /// # Errors
@@ -214,11 +214,11 @@ impl<A: Allocator> CoreDumpModulesSection<A> {
     /// The builder gains one entry with this encoding, or the call returns an error and changes nothing. A full builder, with 2^32 - 1 entries, returns `TooLong`.
     ///
     /// ```text
-    /// ensures { Adds (marked_encoding name.now)
+    /// ensures { AddsTo S.model (marked_encoding name.now)
     ///     (⊤ × HasEncodableSize name.now) self.old self.new result }
     /// ```
     ///
-    /// Definitions: [`Adds`](crate::definitions::base::calls::Adds), [`marked_encoding`](crate::definitions::custom::core_dumps::marked_encoding), [`HasEncodableSize`](crate::definitions::base::encodings::HasEncodableSize). [How to read clauses](crate::definitions).
+    /// Definitions: [`AddsTo`](crate::definitions::base::calls::AddsTo), [`marked_encoding`](crate::definitions::custom::core_dumps::marked_encoding), [`HasEncodableSize`](crate::definitions::base::encodings::HasEncodableSize). [How to read clauses](crate::definitions).
     pub fn module(&mut self, name: &str) -> Result<()> {
         self.add_record(&(0x00u8, name))
     }
@@ -231,16 +231,16 @@ impl<A: Allocator> CoreDumpModulesSection<A> {
     ///
     /// # Proved
     ///
-    /// After `Ok`: `same`, the result has the name and the data of the section. In any case: `memory`, no error is `TooLong`.
+    /// In any case: `memory`, no error is `TooLong`.
     ///
     /// ```text
     /// ensures same { IfOk result
     ///     (λ s. (utf8_of s.name ≡ modules_name)
-    ///         × (items_of s.bytes ≡ entries_encoding [] true self.now)) }
+    ///         × (items_of s.bytes ≡ joined_data [] true (S.model.joins self.now))) }
     /// ensures memory { result ≢ Err TooLong }
     /// ```
     ///
-    /// Definitions: [`utf8_of`](crate::definitions::base::cow::utf8_of), [`modules_name`](crate::definitions::custom::core_dumps::modules_name), [`items_of`](crate::definitions::base::cow::items_of), [`entries_encoding`](crate::definitions::custom::entries::entries_encoding). [How to read clauses](crate::definitions).
+    /// Definitions: [`utf8_of`](crate::definitions::base::cow::utf8_of), [`modules_name`](crate::definitions::custom::core_dumps::modules_name), [`items_of`](crate::definitions::base::cow::items_of), [`joined_data`](crate::definitions::custom::entries::joined_data). [How to read clauses](crate::definitions).
     pub fn as_custom<B: Allocator>(&self, alloc: B) -> Result<CustomSection<'_, B>> {
         self.owned(alloc)
     }
@@ -261,7 +261,7 @@ impl<A: Allocator> CoreDumpModulesSection<A> {
 /// # }
 /// # example().unwrap();
 /// ```
-pub type CoreDumpInstancesSection<A = Global> = CustomEntries<InstanceItems, A>;
+pub type CoreDumpInstancesSection<A = Global> = CustomEntries<InstanceItems, Pieces<A>>;
 
 /// The kind of the items of an instances section.
 ///
@@ -317,7 +317,7 @@ impl CustomKind for InstanceItems {
     fn layout_laws() {}
 }
 
-impl<A: Allocator> CoreDumpInstancesSection<A> {
+impl<S: Store> CustomEntries<InstanceItems, S> {
     /// Adds an instance of the module, with these memories and globals.
     ///
     /// If there are more than 4294967295 memories or globals, the call returns `TooLong` and
@@ -348,9 +348,9 @@ impl<A: Allocator> CoreDumpInstancesSection<A> {
     /// The builder gains one entry of the items that both iterators yield, or the call returns an error and changes nothing. It returns `TooLong` if either has too many items, and never if all items fit and items and entries are few enough.
     ///
     /// ```text
-    /// ensures { AddsTwoLists M.into_iter_gives M.IntoIter.next_gives M.IntoIter.remaining
-    ///     memories G.into_iter_gives G.IntoIter.next_gives G.IntoIter.remaining globals
-    ///     (λ _. ⊤) (λ _. ⊤)
+    /// ensures { AddsTwoLists S.model M.into_iter_gives M.IntoIter.next_gives
+    ///     M.IntoIter.remaining memories G.into_iter_gives G.IntoIter.next_gives
+    ///     G.IntoIter.remaining globals (λ _. ⊤) (λ _. ⊤)
     ///     (λ xs ys. (0x00 ∷ unsigned_encoding module_index)
     ///         ++ (vec_encoding unsigned_encoding xs ++ vec_encoding unsigned_encoding ys))
     ///         self.old self.new result }
@@ -380,16 +380,16 @@ impl<A: Allocator> CoreDumpInstancesSection<A> {
     ///
     /// # Proved
     ///
-    /// After `Ok`: `same`, the result has the name and the data of the section. In any case: `memory`, no error is `TooLong`.
+    /// In any case: `memory`, no error is `TooLong`.
     ///
     /// ```text
     /// ensures same { IfOk result
     ///     (λ s. (utf8_of s.name ≡ instances_name)
-    ///         × (items_of s.bytes ≡ entries_encoding [] true self.now)) }
+    ///         × (items_of s.bytes ≡ joined_data [] true (S.model.joins self.now))) }
     /// ensures memory { result ≢ Err TooLong }
     /// ```
     ///
-    /// Definitions: [`utf8_of`](crate::definitions::base::cow::utf8_of), [`instances_name`](crate::definitions::custom::core_dumps::instances_name), [`items_of`](crate::definitions::base::cow::items_of), [`entries_encoding`](crate::definitions::custom::entries::entries_encoding). [How to read clauses](crate::definitions).
+    /// Definitions: [`utf8_of`](crate::definitions::base::cow::utf8_of), [`instances_name`](crate::definitions::custom::core_dumps::instances_name), [`items_of`](crate::definitions::base::cow::items_of), [`joined_data`](crate::definitions::custom::entries::joined_data). [How to read clauses](crate::definitions).
     pub fn as_custom<B: Allocator>(&self, alloc: B) -> Result<CustomSection<'_, B>> {
         self.owned(alloc)
     }

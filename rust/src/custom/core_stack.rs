@@ -127,9 +127,9 @@ impl<A: Allocator> CoreDumpStackSection<A> {
     /// - `same_thread`: the part before the entries is unchanged.
     ///
     /// ```text
-    /// ensures adds { AddsTwoLists L.into_iter_gives L.IntoIter.next_gives L.IntoIter.remaining
-    ///     locals S.into_iter_gives S.IntoIter.next_gives S.IntoIter.remaining stack (λ _. ⊤)
-    ///     (λ _. ⊤)
+    /// ensures adds { AddsTwoLists pieces_model L.into_iter_gives L.IntoIter.next_gives
+    ///     L.IntoIter.remaining locals S.into_iter_gives S.IntoIter.next_gives
+    ///     S.IntoIter.remaining stack (λ _. ⊤) (λ _. ⊤)
     ///     (λ xs ys. (0x00 ∷ (unsigned_encoding instanceidx
     ///                 ++ (unsigned_encoding funcidx ++ unsigned_encoding codeoffset)))
     ///         ++ (vec_encoding value_encoding xs ++ vec_encoding value_encoding ys))
@@ -137,7 +137,7 @@ impl<A: Allocator> CoreDumpStackSection<A> {
     /// ensures same_thread { self.new.0 ≡ self.old.0 }
     /// ```
     ///
-    /// Definitions: [`AddsTwoLists`](crate::definitions::custom::adding::AddsTwoLists), [`unsigned_encoding`](crate::definitions::base::numbers::unsigned_encoding), [`vec_encoding`](crate::definitions::base::encodings::vec_encoding), [`value_encoding`](crate::definitions::custom::core_values::value_encoding). [How to read clauses](crate::definitions).
+    /// Definitions: [`AddsTwoLists`](crate::definitions::custom::adding::AddsTwoLists), [`pieces_model`](crate::definitions::base::stores::pieces_model), [`unsigned_encoding`](crate::definitions::base::numbers::unsigned_encoding), [`vec_encoding`](crate::definitions::base::encodings::vec_encoding), [`value_encoding`](crate::definitions::custom::core_values::value_encoding). [How to read clauses](crate::definitions).
     pub fn frame<
         L: IntoIterator<Item = CoreDumpValue>,
         S: IntoIterator<Item = CoreDumpValue>,

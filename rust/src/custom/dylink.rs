@@ -9,7 +9,7 @@ use crate::custom::named::after_name;
 use crate::custom::standard::require_standard;
 use crate::custom::subsections::Subsection;
 use crate::alloc::{Allocator, Global};
-use crate::base::{DecodeError, Encode, Grammar, Kind, Layout, Readable, Result, Shorten, SizePrefixed, append_all, read_to_end};
+use crate::base::{DecodeError, Encode, Grammar, Kind, Layout, Pieces, Readable, Result, Shorten, SizePrefixed, Store, append_all, read_to_end};
 
 /// The `dylink.0` section: the requirements of a dynamic library at load time. It is the first
 /// section of a module. Each call adds a subsection, and `new` allocates nothing.
@@ -41,7 +41,7 @@ use crate::base::{DecodeError, Encode, Grammar, Kind, Layout, Readable, Result, 
 /// The tool conventions define it in [Dynamic
 /// linking](https://github.com/WebAssembly/tool-conventions/blob/main/DynamicLinking.md).
 /// [`Items::Dylink`](crate::reader::Items::Dylink) has the subsections of a decoded section.
-pub type DylinkSection<A = Global> = CustomEntries<DylinkItems, A>;
+pub type DylinkSection<A = Global> = CustomEntries<DylinkItems, Pieces<A>>;
 
 /// The kind of the items of a dynamic library's section: subsections.
 ///
@@ -95,7 +95,7 @@ impl CustomKind for DylinkItems {
     fn layout_laws() {}
 }
 
-impl<A: Allocator> DylinkSection<A> {
+impl<S: Store> CustomEntries<DylinkItems, S> {
     /// Adds the memory and the table that the library needs.
     ///
     /// # Errors
@@ -130,11 +130,11 @@ impl<A: Allocator> DylinkSection<A> {
     /// The builder gains one entry with this encoding, or the call returns an error and changes nothing. A full builder, with 2^32 - 1 entries, returns `TooLong`.
     ///
     /// ```text
-    /// ensures { Adds (subsection_encoding 1 (needs_encoding memory))
+    /// ensures { AddsTo S.model (subsection_encoding 1 (needs_encoding memory))
     ///     (HasEncodableSize (needs_encoding memory) × ⊤) self.old self.new result }
     /// ```
     ///
-    /// Definitions: [`Adds`](crate::definitions::base::calls::Adds), [`subsection_encoding`](crate::definitions::custom::customs::subsection_encoding), [`needs_encoding`](crate::definitions::custom::dylink::needs_encoding), [`HasEncodableSize`](crate::definitions::base::encodings::HasEncodableSize). [How to read clauses](crate::definitions).
+    /// Definitions: [`AddsTo`](crate::definitions::base::calls::AddsTo), [`subsection_encoding`](crate::definitions::custom::customs::subsection_encoding), [`needs_encoding`](crate::definitions::custom::dylink::needs_encoding), [`HasEncodableSize`](crate::definitions::base::encodings::HasEncodableSize). [How to read clauses](crate::definitions).
     pub fn memory(&mut self, memory: DylinkMemory) -> Result<()> {
         self.add_record(&Subsection {
             id: 1,
@@ -172,11 +172,11 @@ impl<A: Allocator> DylinkSection<A> {
     /// The builder gains one entry with this encoding, or the call returns an error and changes nothing. A full builder, with 2^32 - 1 entries, returns `TooLong`.
     ///
     /// ```text
-    /// ensures { Adds (subsection_encoding 2 (list_encoding libraries.now))
+    /// ensures { AddsTo S.model (subsection_encoding 2 (list_encoding libraries.now))
     ///     (HasEncodableSize (list_encoding libraries.now) × ⊤) self.old self.new result }
     /// ```
     ///
-    /// Definitions: [`Adds`](crate::definitions::base::calls::Adds), [`subsection_encoding`](crate::definitions::custom::customs::subsection_encoding), [`list_encoding`](crate::definitions::custom::lists::list_encoding), [`HasEncodableSize`](crate::definitions::base::encodings::HasEncodableSize). [How to read clauses](crate::definitions).
+    /// Definitions: [`AddsTo`](crate::definitions::base::calls::AddsTo), [`subsection_encoding`](crate::definitions::custom::customs::subsection_encoding), [`list_encoding`](crate::definitions::custom::lists::list_encoding), [`HasEncodableSize`](crate::definitions::base::encodings::HasEncodableSize). [How to read clauses](crate::definitions).
     pub fn needed<B: Allocator>(&mut self, libraries: &DylinkNeeded<B>) -> Result<()> {
         self.add_record(libraries)
     }
@@ -195,11 +195,11 @@ impl<A: Allocator> DylinkSection<A> {
     /// The builder gains one entry with this encoding, or the call returns an error and changes nothing. A full builder, with 2^32 - 1 entries, returns `TooLong`.
     ///
     /// ```text
-    /// ensures { Adds (subsection_encoding 3 (list_encoding exports.now))
+    /// ensures { AddsTo S.model (subsection_encoding 3 (list_encoding exports.now))
     ///     (HasEncodableSize (list_encoding exports.now) × ⊤) self.old self.new result }
     /// ```
     ///
-    /// Definitions: [`Adds`](crate::definitions::base::calls::Adds), [`subsection_encoding`](crate::definitions::custom::customs::subsection_encoding), [`list_encoding`](crate::definitions::custom::lists::list_encoding), [`HasEncodableSize`](crate::definitions::base::encodings::HasEncodableSize). [How to read clauses](crate::definitions).
+    /// Definitions: [`AddsTo`](crate::definitions::base::calls::AddsTo), [`subsection_encoding`](crate::definitions::custom::customs::subsection_encoding), [`list_encoding`](crate::definitions::custom::lists::list_encoding), [`HasEncodableSize`](crate::definitions::base::encodings::HasEncodableSize). [How to read clauses](crate::definitions).
     pub fn exports<B: Allocator>(&mut self, exports: &DylinkExports<B>) -> Result<()> {
         self.add_record(exports)
     }
@@ -218,11 +218,11 @@ impl<A: Allocator> DylinkSection<A> {
     /// The builder gains one entry with this encoding, or the call returns an error and changes nothing. A full builder, with 2^32 - 1 entries, returns `TooLong`.
     ///
     /// ```text
-    /// ensures { Adds (subsection_encoding 4 (list_encoding imports.now))
+    /// ensures { AddsTo S.model (subsection_encoding 4 (list_encoding imports.now))
     ///     (HasEncodableSize (list_encoding imports.now) × ⊤) self.old self.new result }
     /// ```
     ///
-    /// Definitions: [`Adds`](crate::definitions::base::calls::Adds), [`subsection_encoding`](crate::definitions::custom::customs::subsection_encoding), [`list_encoding`](crate::definitions::custom::lists::list_encoding), [`HasEncodableSize`](crate::definitions::base::encodings::HasEncodableSize). [How to read clauses](crate::definitions).
+    /// Definitions: [`AddsTo`](crate::definitions::base::calls::AddsTo), [`subsection_encoding`](crate::definitions::custom::customs::subsection_encoding), [`list_encoding`](crate::definitions::custom::lists::list_encoding), [`HasEncodableSize`](crate::definitions::base::encodings::HasEncodableSize). [How to read clauses](crate::definitions).
     pub fn imports<B: Allocator>(&mut self, imports: &DylinkImports<B>) -> Result<()> {
         self.add_record(imports)
     }
@@ -257,11 +257,11 @@ impl<A: Allocator> DylinkSection<A> {
     /// The builder gains one entry with this encoding, or the call returns an error and changes nothing. A full builder, with 2^32 - 1 entries, returns `TooLong`.
     ///
     /// ```text
-    /// ensures { Adds (subsection_encoding 5 (list_encoding folders.now))
+    /// ensures { AddsTo S.model (subsection_encoding 5 (list_encoding folders.now))
     ///     (HasEncodableSize (list_encoding folders.now) × ⊤) self.old self.new result }
     /// ```
     ///
-    /// Definitions: [`Adds`](crate::definitions::base::calls::Adds), [`subsection_encoding`](crate::definitions::custom::customs::subsection_encoding), [`list_encoding`](crate::definitions::custom::lists::list_encoding), [`HasEncodableSize`](crate::definitions::base::encodings::HasEncodableSize). [How to read clauses](crate::definitions).
+    /// Definitions: [`AddsTo`](crate::definitions::base::calls::AddsTo), [`subsection_encoding`](crate::definitions::custom::customs::subsection_encoding), [`list_encoding`](crate::definitions::custom::lists::list_encoding), [`HasEncodableSize`](crate::definitions::base::encodings::HasEncodableSize). [How to read clauses](crate::definitions).
     #[doc(alias = "rpath")]
     pub fn runtime_path<B: Allocator>(&mut self, folders: &DylinkPath<B>) -> Result<()> {
         self.add_record(folders)

@@ -181,7 +181,7 @@ impl<A: Allocator> DylinkNeeded<A> {
     ///
     /// # Proved
     ///
-    /// The builder gains one entry with this encoding, or the call returns an error and changes nothing. A full builder, with 2^32 - 1 entries, returns `TooLong`.
+    /// `AddsTo` of a builder whose entries are a list of pieces.
     ///
     /// ```text
     /// ensures { Adds (size_prefixed_encoding name.now)
@@ -255,7 +255,7 @@ impl<A: Allocator> DylinkPath<A> {
     ///
     /// # Proved
     ///
-    /// The builder gains one entry with this encoding, or the call returns an error and changes nothing. A full builder, with 2^32 - 1 entries, returns `TooLong`.
+    /// `AddsTo` of a builder whose entries are a list of pieces.
     ///
     /// ```text
     /// ensures { Adds (size_prefixed_encoding path.now)
@@ -330,7 +330,7 @@ impl<A: Allocator> DylinkExports<A> {
     ///
     /// # Proved
     ///
-    /// The builder gains one entry with this encoding, or the call returns an error and changes nothing. A full builder, with 2^32 - 1 entries, returns `TooLong`.
+    /// `AddsTo` of a builder whose entries are a list of pieces.
     ///
     /// ```text
     /// ensures { Adds (size_prefixed_encoding name.now ++ unsigned_encoding flags)
@@ -479,7 +479,7 @@ impl<A: Allocator> DylinkImports<A> {
     ///
     /// # Proved
     ///
-    /// The builder gains one entry with this encoding, or the call returns an error and changes nothing. A full builder, with 2^32 - 1 entries, returns `TooLong`.
+    /// `AddsTo` of a builder whose entries are a list of pieces.
     ///
     /// ```text
     /// ensures { Adds (size_prefixed_encoding module_name.now

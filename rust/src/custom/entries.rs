@@ -3,9 +3,9 @@
 
 use crate::vec::{Sink, Vec};
 use crate::custom::custom_section::{CustomSection, begin_custom};
-use crate::alloc::{Allocator, Global};
+use crate::alloc::Allocator;
 use core::marker::PhantomData;
-use crate::base::{CowSlice, CowStr, Encode, EncodeOnce, Kind, Pieces, Result, Section, SectionId, encoding_size};
+use crate::base::{CowSlice, CowStr, Encode, EncodeOnce, ItemsOf, Kind, NewStore, PaddedOf, Pieces, Result, Section, SectionId, Store, encoding_size};
 
 /// A kind of custom section: its items, its name, the bytes before its entries, and whether the
 /// entries are counted.
@@ -89,10 +89,12 @@ pub trait CustomKind: Kind {
     fn layout_laws();
 }
 
-/// A custom section of entries of the kind `K`.
+/// A custom section of entries of the kind `K`, which a store of the type `S` keeps.
 ///
 /// It is the builder of custom sections, such as [`NameSection`](crate::fallible::NameSection).
-/// The calls that add entries are those of the kind `K`.
+/// The calls that add entries are those of the kind `K`. The store `S` is
+/// [`Pieces`](crate::fallible::Pieces), or [`Entries`](crate::fallible::Entries) in
+/// [`joined`](crate::fallible::joined).
 ///
 /// # Errors
 ///
@@ -102,10 +104,10 @@ pub trait CustomKind: Kind {
 /// # Examples
 ///
 /// ```
-/// use dolzhytik::fallible::{CoreDumpModulesSection, CustomEntries, Global};
+/// use dolzhytik::fallible::{CoreDumpModulesSection, CustomEntries, Global, Store};
 ///
 /// /// Returns whether a section of any kind has entries.
-/// fn has_entries<K>(section: &CustomEntries<K>) -> bool {
+/// fn has_entries<K, S: Store>(section: &CustomEntries<K, S>) -> bool {
 ///     !section.is_empty()
 /// }
 ///
@@ -114,76 +116,67 @@ pub trait CustomKind: Kind {
 /// assert!(has_entries(&modules));
 /// # Ok::<(), dolzhytik::fallible::Refused>(())
 /// ```
-///
-/// # Model
-///
-/// Contracts model it as the bytes of each entry.
 #[derive(Debug)]
-pub struct CustomEntries<K, A: Allocator = Global> {
-    pieces: Pieces<A>,
-    kind: PhantomData<K>,
+pub struct CustomEntries<K, S: Store = Pieces> {
+    pub(crate) entries: S, pub(crate) kind: PhantomData<K>,
 }
 
-impl<K, A: Allocator> CustomEntries<K, A> {
+impl<K, S: Store> CustomEntries<K, S> {
     /// Returns the number of entries.
     ///
     /// # Proved
     ///
     /// ```text
-    /// ensures { result ≡ length self.now }
+    /// ensures { result ≡ (S.model.joins self.now).number }
     /// ```
     ///
     /// [How to read clauses](crate::definitions).
     pub fn len(&self) -> u32 {
-        self.pieces.len()
+        self.entries.count()
     }
 
     /// Returns `true` if there are no entries.
     ///
     /// # Proved
     ///
-    /// The result is true exactly if there are no entries.
-    ///
     /// ```text
-    /// ensures { IsTrue result ↔ (length self.now ≡ 0) }
+    /// ensures { IsTrue result ↔ ((S.model.joins self.now).number ≡ 0) }
     /// ```
     ///
     /// [How to read clauses](crate::definitions).
     pub fn is_empty(&self) -> bool {
-        self.pieces.is_empty()
+        self.entries.count() == 0
     }
 
     /// Adds the encoding of the record as an entry.
     pub(crate) fn add_record<T: Encode>(&mut self, given: &T) -> Result<()> {
-        self.pieces.add_encoded(given)
+        self.entries.add_item(given)
     }
 
     /// Adds an encoding of the item as an entry, and consumes the item.
     pub(crate) fn add_once<T: EncodeOnce>(&mut self, item: T) -> Result<()> {
-        self.pieces.add_once(item)
+        self.entries.add_item_once(item)
     }
 
     /// Returns the bytes of the entries, one entry after another.
     pub(crate) fn content(&self) -> &[u8] {
-        self.pieces.bytes()
+        self.entries.content()
     }
 }
 
-impl<K, A: Allocator + Copy> CustomEntries<K, A> {
+impl<K, S: NewStore> CustomEntries<K, S> {
     /// Returns a section without entries, and allocates nothing.
     ///
     /// # Proved
     ///
-    /// The result has no entries.
-    ///
     /// ```text
-    /// ensures { result ≡ [] }
+    /// ensures { result ≡ S.none }
     /// ```
     ///
     /// [How to read clauses](crate::definitions).
-    pub fn new(alloc: A) -> Self {
+    pub fn new(alloc: S::Alloc) -> Self {
         CustomEntries {
-            pieces: Pieces::new(alloc),
+            entries: S::new_in(alloc),
             kind: PhantomData,
         }
     }
@@ -206,16 +199,16 @@ impl<K, A: Allocator + Copy> CustomEntries<K, A> {
     /// [How to read clauses](crate::definitions).
     pub fn clone(&self) -> Result<Self> {
         Ok(CustomEntries {
-            pieces: self.pieces.clone()?,
+            entries: self.entries.copy()?,
             kind: PhantomData,
         })
     }
 }
 
-impl<K: CustomKind, A: Allocator> CustomEntries<K, A> {
+impl<K: CustomKind, S: Store> CustomEntries<K, S> {
     /// Returns the section as a custom section, which owns a copy of the data.
     pub(crate) fn owned<B: Allocator>(&self, alloc: B) -> Result<CustomSection<'_, B>> {
-        let data = data_of(alloc, K::front(), K::counted(), &self.pieces)?;
+        let data = data_of(alloc, K::front(), K::counted(), &self.entries)?;
         Ok(CustomSection {
             name: CowStr::Borrowed(K::name()),
             bytes: CowSlice::Owned(data),
@@ -263,48 +256,48 @@ impl Encode for Count {
 
 /// Returns the length of the data in bytes if a size prefix can represent it, and a number above
 /// 4294967295 otherwise.
-fn data_size<B: Allocator>(front: &[u8], count: Count, pieces: &Pieces<B>) -> usize {
+fn data_size<S: Store>(front: &[u8], count: Count, entries: &S) -> usize {
     front
         .len()
         .saturating_add(count.size())
-        .saturating_add(pieces.raw_len())
+        .saturating_add(entries.content().len())
 }
 
 /// Appends a custom section without its id: the size prefix, the name, the bytes `front`, the
 /// number of entries if they are counted, and the entries.
-pub(crate) fn encode_entries<A: Sink, B: Allocator>(
+pub(crate) fn encode_entries<A: Sink, S: Store>(
     sink: &mut A,
     name: &str,
     front: &[u8],
     counted: bool,
-    pieces: &Pieces<B>,
+    entries: &S,
 ) -> Result<()> {
     let count = Count {
         counted,
-        number: pieces.len(),
+        number: entries.count(),
     };
-    let size = data_size(front, count, pieces);
+    let size = data_size(front, count, entries);
     begin_custom(sink, name, size)?;
     sink.extend_from_slice(front).unwrap();
     count.encode(sink).unwrap();
-    sink.extend_from_slice(pieces.bytes()).unwrap();
+    sink.extend_from_slice(entries.content()).unwrap();
     Ok(())
 }
 
 /// Returns a copy of the data of a section.
-pub(crate) fn data_of<A: Allocator, B: Allocator>(
+pub(crate) fn data_of<A: Allocator, S: Store>(
     alloc: A,
     front: &[u8],
     counted: bool,
-    pieces: &Pieces<B>,
+    entries: &S,
 ) -> Result<Vec<u8, A>> {
     let count = Count {
         counted,
-        number: pieces.len(),
+        number: entries.count(),
     };
     let mut sink = Vec::from_slice(alloc, front)?;
     count.encode(&mut sink)?;
-    sink.extend_from_slice(pieces.bytes())?;
+    sink.extend_from_slice(entries.content())?;
     Ok(sink)
 }
 
@@ -314,24 +307,28 @@ pub(crate) fn data_of<A: Allocator, B: Allocator>(
 ///
 /// ```text
 /// encoding = { λ section. named_encoding K.name
-///     (entries_encoding K.front K.counted section) }
+///     (joined_data K.front K.counted (S.model.joins section)) }
 /// encodable = { λ section. IsEncodableNamed K.name
-///     (entries_encoding K.front K.counted section) }
+///     (joined_data K.front K.counted (S.model.joins section)) }
 /// overlong = { λ section. longest
 ///     < length (size_prefixed_encoding K.name)
-///     + length (entries_encoding K.front K.counted section) }
+///     + length (joined_data K.front K.counted (S.model.joins section)) }
 /// decoding = { λ section. DecodesBackBoth
 ///     (named_section K.name (entries K.front_format K.counted K.kind.format))
-///     (ContainsItems K.kind section) (ContainsPadded K.kind.format section)
-///     (named_encoding K.name (entries_encoding K.front K.counted section)) }
+///     (λ items. S.model.holds (λ pieces. ContainsItems K.kind pieces items) section)
+///     (λ items. S.model.holds (λ pieces. ContainsPadded K.kind.format pieces items)
+///         section) (named_encoding K.name
+///         (joined_data K.front K.counted (S.model.joins section))) }
 /// ```
 ///
-/// Definitions: [`named_encoding`](crate::definitions::custom::customs::named_encoding), [`entries_encoding`](crate::definitions::custom::entries::entries_encoding), [`IsEncodableNamed`](crate::definitions::custom::customs::IsEncodableNamed), [`longest`](crate::definitions::base::encodings::longest), [`size_prefixed_encoding`](crate::definitions::base::encodings::size_prefixed_encoding), [`DecodesBackBoth`](crate::definitions::base::calls::DecodesBackBoth), [`named_section`](crate::definitions::custom::customs::named_section), [`entries`](crate::definitions::custom::entries::entries), [`ContainsItems`](crate::definitions::base::entries::ContainsItems), [`ContainsPadded`](crate::definitions::base::entries::ContainsPadded). [How to read clauses](crate::definitions).
-impl<K: CustomKind, A: Allocator> Encode for CustomEntries<K, A> {
+/// Definitions: [`named_encoding`](crate::definitions::custom::customs::named_encoding), [`joined_data`](crate::definitions::custom::entries::joined_data), [`IsEncodableNamed`](crate::definitions::custom::customs::IsEncodableNamed), [`longest`](crate::definitions::base::encodings::longest), [`size_prefixed_encoding`](crate::definitions::base::encodings::size_prefixed_encoding), [`DecodesBackBoth`](crate::definitions::base::calls::DecodesBackBoth), [`named_section`](crate::definitions::custom::customs::named_section), [`entries`](crate::definitions::custom::entries::entries), [`ContainsItems`](crate::definitions::base::entries::ContainsItems), [`ContainsPadded`](crate::definitions::base::entries::ContainsPadded). [How to read clauses](crate::definitions).
+impl<K: CustomKind, S: Store> Encode for CustomEntries<K, S> {
     fn encode<B: Sink>(&self, sink: &mut B) -> Result<()> {
         K::laws();
         K::layout_laws();
-        encode_entries(sink, K::name(), K::front(), K::counted(), &self.pieces)
+        self.entries.cut::<ItemsOf<K>>();
+        self.entries.cut::<PaddedOf<K>>();
+        encode_entries(sink, K::name(), K::front(), K::counted(), &self.entries)
     }
 }
 
@@ -341,16 +338,17 @@ impl<K: CustomKind, A: Allocator> Encode for CustomEntries<K, A> {
 /// id_of = { λ _. number_of ids.Custom }
 /// Items = { List K.Item }
 /// format = { named_section K.name (entries K.front_format K.counted K.kind.format) }
-/// says = { ContainsItems K.kind }
+/// says = { λ section items. S.model.holds
+///     (λ pieces. ContainsItems K.kind pieces items) section }
 /// payload = { λ section. NamedPayload K.name
-///     (entries_encoding K.front K.counted section) }
+///     (joined_data K.front K.counted (S.model.joins section)) }
 /// sized = { λ section bytes encodable pays. named_sized K.name
-///     (entries_encoding K.front K.counted section) bytes encodable pays }
+///     (joined_data K.front K.counted (S.model.joins section)) bytes encodable pays }
 /// decodes_back = { λ section promised. promised.plain }
 /// ```
 ///
-/// Definitions: [`number_of`](crate::definitions::base::section_id::number_of), [`named_section`](crate::definitions::custom::customs::named_section), [`entries`](crate::definitions::custom::entries::entries), [`ContainsItems`](crate::definitions::base::entries::ContainsItems), [`NamedPayload`](crate::definitions::custom::customs::NamedPayload), [`entries_encoding`](crate::definitions::custom::entries::entries_encoding), [`named_sized`](crate::definitions::custom::customs::named_sized). [How to read clauses](crate::definitions).
-impl<K: CustomKind, A: Allocator> Section for CustomEntries<K, A> {
+/// Definitions: [`number_of`](crate::definitions::base::section_id::number_of), [`named_section`](crate::definitions::custom::customs::named_section), [`entries`](crate::definitions::custom::entries::entries), [`ContainsItems`](crate::definitions::base::entries::ContainsItems), [`NamedPayload`](crate::definitions::custom::customs::NamedPayload), [`joined_data`](crate::definitions::custom::entries::joined_data), [`named_sized`](crate::definitions::custom::customs::named_sized). [How to read clauses](crate::definitions).
+impl<K: CustomKind, S: Store> Section for CustomEntries<K, S> {
     fn id(&self) -> u8 {
         SectionId::Custom.into()
     }

@@ -6,7 +6,7 @@ use crate::custom::counted::{DecodesItems, ItemsAs, append_counted, read_counted
 use crate::custom::entries::{CustomEntries, CustomKind};
 use crate::custom::marked::read_marked;
 use crate::alloc::{Allocator, Global};
-use crate::base::{DecodeError, Encode, Grammar, Kind, Layout, ReadFault, Readable, Result, Shorten, vec_of};
+use crate::base::{DecodeError, Encode, Grammar, Kind, Layout, Pieces, ReadFault, Readable, Result, Shorten, Store, vec_of};
 
 /// The branch hint section: which branches are likely to be taken, as a list of hints for each
 /// function. It belongs before the code section.
@@ -28,7 +28,7 @@ use crate::base::{DecodeError, Encode, Grammar, Kind, Layout, ReadFault, Readabl
 /// # }
 /// # example().unwrap();
 /// ```
-pub type BranchHints<A = Global> = CustomEntries<HintItems, A>;
+pub type BranchHints<A = Global> = CustomEntries<HintItems, Pieces<A>>;
 
 /// The kind of a branch hint section's items: the hints of one function each.
 ///
@@ -122,7 +122,7 @@ impl CustomKind for HintItems {
     fn layout_laws() {}
 }
 
-impl<A: Allocator> BranchHints<A> {
+impl<S: Store> CustomEntries<HintItems, S> {
     /// Adds the hints of a function.
     ///
     /// If there are more than 4294967295 hints, the call returns `TooLong` and requests none of
@@ -151,8 +151,8 @@ impl<A: Allocator> BranchHints<A> {
     /// The builder gains one entry of the items that the iterator yields, or the call returns an error and changes nothing. It returns `TooLong` if there are too many items, and never if all items fit and items and entries are few enough.
     ///
     /// ```text
-    /// ensures { AddsList H.into_iter_gives H.IntoIter.next_gives H.IntoIter.remaining hints
-    ///     (λ _. ⊤) (λ items. unsigned_encoding func ++ vec_encoding hint_encoding items)
+    /// ensures { AddsList S.model H.into_iter_gives H.IntoIter.next_gives H.IntoIter.remaining
+    ///     hints (λ _. ⊤) (λ items. unsigned_encoding func ++ vec_encoding hint_encoding items)
     ///     self.old self.new result }
     /// ```
     ///

@@ -62,7 +62,7 @@ impl<A: Allocator> InitFunctions<A> {
     ///
     /// # Proved
     ///
-    /// The builder gains one entry with this encoding, or the call returns an error and changes nothing. A full builder, with 2^32 - 1 entries, returns `TooLong`.
+    /// `AddsTo` of a builder whose entries are a list of pieces.
     ///
     /// ```text
     /// ensures { Adds (unsigned_encoding priority ++ unsigned_encoding symbol) ⊤ self.old

@@ -11,7 +11,7 @@ use crate::custom::standard::require_standard;
 use crate::custom::subsections::Subsection;
 use crate::custom::symbols::{Symbol, SymbolTable};
 use crate::alloc::{Allocator, Global};
-use crate::base::{DecodeError, Encode, Grammar, Kind, Layout, ReadFault, Readable, Result, Shorten, SizePrefixed, append_all, prefix_size_since, read_to_end};
+use crate::base::{DecodeError, Encode, Grammar, Kind, Layout, Pieces, ReadFault, Readable, Result, Shorten, SizePrefixed, Store, append_all, prefix_size_since, read_to_end};
 
 /// The linking section: the symbols and target of a module for a linker, in version 2 of the
 /// format. Each call adds a subsection, and `new` allocates nothing.
@@ -31,7 +31,7 @@ use crate::base::{DecodeError, Encode, Grammar, Kind, Layout, ReadFault, Readabl
 /// # }
 /// # example().unwrap();
 /// ```
-pub type LinkingSection<A = Global> = CustomEntries<LinkingItems, A>;
+pub type LinkingSection<A = Global> = CustomEntries<LinkingItems, Pieces<A>>;
 
 /// The kind of a linking section's items: subsections.
 ///
@@ -85,7 +85,7 @@ impl CustomKind for LinkingItems {
     fn layout_laws() {}
 }
 
-impl<A: Allocator> LinkingSection<A> {
+impl<S: Store> CustomEntries<LinkingItems, S> {
     /// Adds the symbols.
     ///
     /// # Errors
@@ -100,11 +100,11 @@ impl<A: Allocator> LinkingSection<A> {
     /// The builder gains one entry with this encoding, or the call returns an error and changes nothing. A full builder, with 2^32 - 1 entries, returns `TooLong`.
     ///
     /// ```text
-    /// ensures { Adds (subsection_encoding 8 (list_encoding symbols.now))
+    /// ensures { AddsTo S.model (subsection_encoding 8 (list_encoding symbols.now))
     ///     (HasEncodableSize (list_encoding symbols.now) × ⊤) self.old self.new result }
     /// ```
     ///
-    /// Definitions: [`Adds`](crate::definitions::base::calls::Adds), [`subsection_encoding`](crate::definitions::custom::customs::subsection_encoding), [`list_encoding`](crate::definitions::custom::lists::list_encoding), [`HasEncodableSize`](crate::definitions::base::encodings::HasEncodableSize). [How to read clauses](crate::definitions).
+    /// Definitions: [`AddsTo`](crate::definitions::base::calls::AddsTo), [`subsection_encoding`](crate::definitions::custom::customs::subsection_encoding), [`list_encoding`](crate::definitions::custom::lists::list_encoding), [`HasEncodableSize`](crate::definitions::base::encodings::HasEncodableSize). [How to read clauses](crate::definitions).
     pub fn symbol_table<B: Allocator>(&mut self, symbols: &SymbolTable<B>) -> Result<()> {
         self.add_record(symbols)
     }
@@ -123,12 +123,12 @@ impl<A: Allocator> LinkingSection<A> {
     /// The builder gains one entry with this encoding, or the call returns an error and changes nothing. A full builder, with 2^32 - 1 entries, returns `TooLong`.
     ///
     /// ```text
-    /// ensures { Adds (subsection_encoding 9 (size_prefixed_encoding name.now))
+    /// ensures { AddsTo S.model (subsection_encoding 9 (size_prefixed_encoding name.now))
     ///     (HasEncodableSize (size_prefixed_encoding name.now) × HasEncodableSize name.now)
     ///     self.old self.new result }
     /// ```
     ///
-    /// Definitions: [`Adds`](crate::definitions::base::calls::Adds), [`subsection_encoding`](crate::definitions::custom::customs::subsection_encoding), [`size_prefixed_encoding`](crate::definitions::base::encodings::size_prefixed_encoding), [`HasEncodableSize`](crate::definitions::base::encodings::HasEncodableSize). [How to read clauses](crate::definitions).
+    /// Definitions: [`AddsTo`](crate::definitions::base::calls::AddsTo), [`subsection_encoding`](crate::definitions::custom::customs::subsection_encoding), [`size_prefixed_encoding`](crate::definitions::base::encodings::size_prefixed_encoding), [`HasEncodableSize`](crate::definitions::base::encodings::HasEncodableSize). [How to read clauses](crate::definitions).
     pub fn target_arch(&mut self, name: &str) -> Result<()> {
         self.add_record(&Subsection {
             id: 9,

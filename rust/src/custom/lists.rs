@@ -80,8 +80,7 @@ pub trait ListKind {
 /// Contracts model it as the bytes of each entry.
 #[derive(Debug)]
 pub struct CountedList<K: ListKind, A: Allocator = Global> {
-    pieces: Pieces<A>,
-    kind: PhantomData<K>,
+    pub(crate) pieces: Pieces<A>, pub(crate) kind: PhantomData<K>,
 }
 
 /// Invariant: the entries are the encodings of a list of members.

@@ -29,6 +29,7 @@ mod entries;
 mod hints;
 mod init_functions;
 mod item_walks;
+pub mod joined;
 pub mod laws;
 mod link_walks;
 mod linking;

@@ -8,7 +8,7 @@ use crate::custom::lists::{CountedList, Entries, ListKind};
 use crate::custom::named::after_name;
 use crate::custom::subsections::{RawContent, Subsection};
 use crate::alloc::{Allocator, Global};
-use crate::base::{CowSlice, CowStr, DecodeError, Encode, Grammar, Kind, Layout, Lent, Readable, Result, Shorten, append_all, prefix_size_since, read_before, read_to_end};
+use crate::base::{CowSlice, CowStr, DecodeError, Encode, Grammar, Kind, Layout, Lent, Pieces, Readable, Result, Shorten, Store, append_all, prefix_size_since, read_before, read_to_end};
 
 /// A name map: indices and their names. The calls check neither their order nor whether an index is
 /// repeated.
@@ -70,7 +70,7 @@ impl<A: Allocator> NameMap<A> {
     ///
     /// # Proved
     ///
-    /// The builder gains one entry with this encoding, or the call returns an error and changes nothing. A full builder, with 2^32 - 1 entries, returns `TooLong`.
+    /// `AddsTo` of a builder whose entries are a list of pieces.
     ///
     /// ```text
     /// ensures { Adds (unsigned_encoding index ++ size_prefixed_encoding name.now)
@@ -177,7 +177,7 @@ impl<A: Allocator> IndirectNameMap<A> {
     ///
     /// # Proved
     ///
-    /// The builder gains one entry with this encoding, or the call returns an error and changes nothing. A full builder, with 2^32 - 1 entries, returns `TooLong`.
+    /// `AddsTo` of a builder whose entries are a list of pieces.
     ///
     /// ```text
     /// ensures { Adds (unsigned_encoding index ++ list_encoding names.now) ⊤ self.old self.new
@@ -210,7 +210,7 @@ impl<A: Allocator> IndirectNameMap<A> {
 /// # }
 /// # example().unwrap();
 /// ```
-pub type NameSection<A = Global> = CustomEntries<NameItems, A>;
+pub type NameSection<A = Global> = CustomEntries<NameItems, Pieces<A>>;
 
 /// The kind of a name section's items: subsections.
 ///
@@ -264,7 +264,7 @@ impl CustomKind for NameItems {
     fn layout_laws() {}
 }
 
-impl<A: Allocator> NameSection<A> {
+impl<S: Store> CustomEntries<NameItems, S> {
     /// Adds a subsection with a name map.
     fn map<B: Allocator>(&mut self, id: u8, names: &NameMap<B>) -> Result<()> {
         let content = &Entries(names);
@@ -303,12 +303,12 @@ impl<A: Allocator> NameSection<A> {
     /// The builder gains one entry with this encoding, or the call returns an error and changes nothing. A full builder, with 2^32 - 1 entries, returns `TooLong`.
     ///
     /// ```text
-    /// ensures { Adds (subsection_encoding 0 (size_prefixed_encoding name.now))
+    /// ensures { AddsTo S.model (subsection_encoding 0 (size_prefixed_encoding name.now))
     ///     (HasEncodableSize (size_prefixed_encoding name.now) × HasEncodableSize name.now)
     ///     self.old self.new result }
     /// ```
     ///
-    /// Definitions: [`Adds`](crate::definitions::base::calls::Adds), [`subsection_encoding`](crate::definitions::custom::customs::subsection_encoding), [`size_prefixed_encoding`](crate::definitions::base::encodings::size_prefixed_encoding), [`HasEncodableSize`](crate::definitions::base::encodings::HasEncodableSize). [How to read clauses](crate::definitions).
+    /// Definitions: [`AddsTo`](crate::definitions::base::calls::AddsTo), [`subsection_encoding`](crate::definitions::custom::customs::subsection_encoding), [`size_prefixed_encoding`](crate::definitions::base::encodings::size_prefixed_encoding), [`HasEncodableSize`](crate::definitions::base::encodings::HasEncodableSize). [How to read clauses](crate::definitions).
     pub fn module(&mut self, name: &str) -> Result<()> {
         self.add_record(&Subsection {
             id: 0,
@@ -330,11 +330,11 @@ impl<A: Allocator> NameSection<A> {
     /// The builder gains one entry with this encoding, or the call returns an error and changes nothing. A full builder, with 2^32 - 1 entries, returns `TooLong`.
     ///
     /// ```text
-    /// ensures { Adds (subsection_encoding 1 (list_encoding names.now))
+    /// ensures { AddsTo S.model (subsection_encoding 1 (list_encoding names.now))
     ///     (HasEncodableSize (list_encoding names.now) × ⊤) self.old self.new result }
     /// ```
     ///
-    /// Definitions: [`Adds`](crate::definitions::base::calls::Adds), [`subsection_encoding`](crate::definitions::custom::customs::subsection_encoding), [`list_encoding`](crate::definitions::custom::lists::list_encoding), [`HasEncodableSize`](crate::definitions::base::encodings::HasEncodableSize). [How to read clauses](crate::definitions).
+    /// Definitions: [`AddsTo`](crate::definitions::base::calls::AddsTo), [`subsection_encoding`](crate::definitions::custom::customs::subsection_encoding), [`list_encoding`](crate::definitions::custom::lists::list_encoding), [`HasEncodableSize`](crate::definitions::base::encodings::HasEncodableSize). [How to read clauses](crate::definitions).
     pub fn functions<B: Allocator>(&mut self, names: &NameMap<B>) -> Result<()> {
         self.map(1, names)
     }
@@ -353,11 +353,11 @@ impl<A: Allocator> NameSection<A> {
     /// The builder gains one entry with this encoding, or the call returns an error and changes nothing. A full builder, with 2^32 - 1 entries, returns `TooLong`.
     ///
     /// ```text
-    /// ensures { Adds (subsection_encoding 4 (list_encoding names.now))
+    /// ensures { AddsTo S.model (subsection_encoding 4 (list_encoding names.now))
     ///     (HasEncodableSize (list_encoding names.now) × ⊤) self.old self.new result }
     /// ```
     ///
-    /// Definitions: [`Adds`](crate::definitions::base::calls::Adds), [`subsection_encoding`](crate::definitions::custom::customs::subsection_encoding), [`list_encoding`](crate::definitions::custom::lists::list_encoding), [`HasEncodableSize`](crate::definitions::base::encodings::HasEncodableSize). [How to read clauses](crate::definitions).
+    /// Definitions: [`AddsTo`](crate::definitions::base::calls::AddsTo), [`subsection_encoding`](crate::definitions::custom::customs::subsection_encoding), [`list_encoding`](crate::definitions::custom::lists::list_encoding), [`HasEncodableSize`](crate::definitions::base::encodings::HasEncodableSize). [How to read clauses](crate::definitions).
     pub fn types<B: Allocator>(&mut self, names: &NameMap<B>) -> Result<()> {
         self.map(4, names)
     }
@@ -376,11 +376,11 @@ impl<A: Allocator> NameSection<A> {
     /// The builder gains one entry with this encoding, or the call returns an error and changes nothing. A full builder, with 2^32 - 1 entries, returns `TooLong`.
     ///
     /// ```text
-    /// ensures { Adds (subsection_encoding 5 (list_encoding names.now))
+    /// ensures { AddsTo S.model (subsection_encoding 5 (list_encoding names.now))
     ///     (HasEncodableSize (list_encoding names.now) × ⊤) self.old self.new result }
     /// ```
     ///
-    /// Definitions: [`Adds`](crate::definitions::base::calls::Adds), [`subsection_encoding`](crate::definitions::custom::customs::subsection_encoding), [`list_encoding`](crate::definitions::custom::lists::list_encoding), [`HasEncodableSize`](crate::definitions::base::encodings::HasEncodableSize). [How to read clauses](crate::definitions).
+    /// Definitions: [`AddsTo`](crate::definitions::base::calls::AddsTo), [`subsection_encoding`](crate::definitions::custom::customs::subsection_encoding), [`list_encoding`](crate::definitions::custom::lists::list_encoding), [`HasEncodableSize`](crate::definitions::base::encodings::HasEncodableSize). [How to read clauses](crate::definitions).
     pub fn tables<B: Allocator>(&mut self, names: &NameMap<B>) -> Result<()> {
         self.map(5, names)
     }
@@ -399,11 +399,11 @@ impl<A: Allocator> NameSection<A> {
     /// The builder gains one entry with this encoding, or the call returns an error and changes nothing. A full builder, with 2^32 - 1 entries, returns `TooLong`.
     ///
     /// ```text
-    /// ensures { Adds (subsection_encoding 6 (list_encoding names.now))
+    /// ensures { AddsTo S.model (subsection_encoding 6 (list_encoding names.now))
     ///     (HasEncodableSize (list_encoding names.now) × ⊤) self.old self.new result }
     /// ```
     ///
-    /// Definitions: [`Adds`](crate::definitions::base::calls::Adds), [`subsection_encoding`](crate::definitions::custom::customs::subsection_encoding), [`list_encoding`](crate::definitions::custom::lists::list_encoding), [`HasEncodableSize`](crate::definitions::base::encodings::HasEncodableSize). [How to read clauses](crate::definitions).
+    /// Definitions: [`AddsTo`](crate::definitions::base::calls::AddsTo), [`subsection_encoding`](crate::definitions::custom::customs::subsection_encoding), [`list_encoding`](crate::definitions::custom::lists::list_encoding), [`HasEncodableSize`](crate::definitions::base::encodings::HasEncodableSize). [How to read clauses](crate::definitions).
     pub fn memories<B: Allocator>(&mut self, names: &NameMap<B>) -> Result<()> {
         self.map(6, names)
     }
@@ -422,11 +422,11 @@ impl<A: Allocator> NameSection<A> {
     /// The builder gains one entry with this encoding, or the call returns an error and changes nothing. A full builder, with 2^32 - 1 entries, returns `TooLong`.
     ///
     /// ```text
-    /// ensures { Adds (subsection_encoding 7 (list_encoding names.now))
+    /// ensures { AddsTo S.model (subsection_encoding 7 (list_encoding names.now))
     ///     (HasEncodableSize (list_encoding names.now) × ⊤) self.old self.new result }
     /// ```
     ///
-    /// Definitions: [`Adds`](crate::definitions::base::calls::Adds), [`subsection_encoding`](crate::definitions::custom::customs::subsection_encoding), [`list_encoding`](crate::definitions::custom::lists::list_encoding), [`HasEncodableSize`](crate::definitions::base::encodings::HasEncodableSize). [How to read clauses](crate::definitions).
+    /// Definitions: [`AddsTo`](crate::definitions::base::calls::AddsTo), [`subsection_encoding`](crate::definitions::custom::customs::subsection_encoding), [`list_encoding`](crate::definitions::custom::lists::list_encoding), [`HasEncodableSize`](crate::definitions::base::encodings::HasEncodableSize). [How to read clauses](crate::definitions).
     pub fn globals<B: Allocator>(&mut self, names: &NameMap<B>) -> Result<()> {
         self.map(7, names)
     }
@@ -445,11 +445,11 @@ impl<A: Allocator> NameSection<A> {
     /// The builder gains one entry with this encoding, or the call returns an error and changes nothing. A full builder, with 2^32 - 1 entries, returns `TooLong`.
     ///
     /// ```text
-    /// ensures { Adds (subsection_encoding 8 (list_encoding names.now))
+    /// ensures { AddsTo S.model (subsection_encoding 8 (list_encoding names.now))
     ///     (HasEncodableSize (list_encoding names.now) × ⊤) self.old self.new result }
     /// ```
     ///
-    /// Definitions: [`Adds`](crate::definitions::base::calls::Adds), [`subsection_encoding`](crate::definitions::custom::customs::subsection_encoding), [`list_encoding`](crate::definitions::custom::lists::list_encoding), [`HasEncodableSize`](crate::definitions::base::encodings::HasEncodableSize). [How to read clauses](crate::definitions).
+    /// Definitions: [`AddsTo`](crate::definitions::base::calls::AddsTo), [`subsection_encoding`](crate::definitions::custom::customs::subsection_encoding), [`list_encoding`](crate::definitions::custom::lists::list_encoding), [`HasEncodableSize`](crate::definitions::base::encodings::HasEncodableSize). [How to read clauses](crate::definitions).
     pub fn elements<B: Allocator>(&mut self, names: &NameMap<B>) -> Result<()> {
         self.map(8, names)
     }
@@ -468,11 +468,11 @@ impl<A: Allocator> NameSection<A> {
     /// The builder gains one entry with this encoding, or the call returns an error and changes nothing. A full builder, with 2^32 - 1 entries, returns `TooLong`.
     ///
     /// ```text
-    /// ensures { Adds (subsection_encoding 9 (list_encoding names.now))
+    /// ensures { AddsTo S.model (subsection_encoding 9 (list_encoding names.now))
     ///     (HasEncodableSize (list_encoding names.now) × ⊤) self.old self.new result }
     /// ```
     ///
-    /// Definitions: [`Adds`](crate::definitions::base::calls::Adds), [`subsection_encoding`](crate::definitions::custom::customs::subsection_encoding), [`list_encoding`](crate::definitions::custom::lists::list_encoding), [`HasEncodableSize`](crate::definitions::base::encodings::HasEncodableSize). [How to read clauses](crate::definitions).
+    /// Definitions: [`AddsTo`](crate::definitions::base::calls::AddsTo), [`subsection_encoding`](crate::definitions::custom::customs::subsection_encoding), [`list_encoding`](crate::definitions::custom::lists::list_encoding), [`HasEncodableSize`](crate::definitions::base::encodings::HasEncodableSize). [How to read clauses](crate::definitions).
     pub fn data<B: Allocator>(&mut self, names: &NameMap<B>) -> Result<()> {
         self.map(9, names)
     }
@@ -491,11 +491,11 @@ impl<A: Allocator> NameSection<A> {
     /// The builder gains one entry with this encoding, or the call returns an error and changes nothing. A full builder, with 2^32 - 1 entries, returns `TooLong`.
     ///
     /// ```text
-    /// ensures { Adds (subsection_encoding 11 (list_encoding names.now))
+    /// ensures { AddsTo S.model (subsection_encoding 11 (list_encoding names.now))
     ///     (HasEncodableSize (list_encoding names.now) × ⊤) self.old self.new result }
     /// ```
     ///
-    /// Definitions: [`Adds`](crate::definitions::base::calls::Adds), [`subsection_encoding`](crate::definitions::custom::customs::subsection_encoding), [`list_encoding`](crate::definitions::custom::lists::list_encoding), [`HasEncodableSize`](crate::definitions::base::encodings::HasEncodableSize). [How to read clauses](crate::definitions).
+    /// Definitions: [`AddsTo`](crate::definitions::base::calls::AddsTo), [`subsection_encoding`](crate::definitions::custom::customs::subsection_encoding), [`list_encoding`](crate::definitions::custom::lists::list_encoding), [`HasEncodableSize`](crate::definitions::base::encodings::HasEncodableSize). [How to read clauses](crate::definitions).
     pub fn tag<B: Allocator>(&mut self, names: &NameMap<B>) -> Result<()> {
         self.tags(names)
     }
@@ -514,11 +514,11 @@ impl<A: Allocator> NameSection<A> {
     /// The builder gains one entry with this encoding, or the call returns an error and changes nothing. A full builder, with 2^32 - 1 entries, returns `TooLong`.
     ///
     /// ```text
-    /// ensures { Adds (subsection_encoding 11 (list_encoding names.now))
+    /// ensures { AddsTo S.model (subsection_encoding 11 (list_encoding names.now))
     ///     (HasEncodableSize (list_encoding names.now) × ⊤) self.old self.new result }
     /// ```
     ///
-    /// Definitions: [`Adds`](crate::definitions::base::calls::Adds), [`subsection_encoding`](crate::definitions::custom::customs::subsection_encoding), [`list_encoding`](crate::definitions::custom::lists::list_encoding), [`HasEncodableSize`](crate::definitions::base::encodings::HasEncodableSize). [How to read clauses](crate::definitions).
+    /// Definitions: [`AddsTo`](crate::definitions::base::calls::AddsTo), [`subsection_encoding`](crate::definitions::custom::customs::subsection_encoding), [`list_encoding`](crate::definitions::custom::lists::list_encoding), [`HasEncodableSize`](crate::definitions::base::encodings::HasEncodableSize). [How to read clauses](crate::definitions).
     pub fn tags<B: Allocator>(&mut self, names: &NameMap<B>) -> Result<()> {
         self.map(11, names)
     }
@@ -537,11 +537,11 @@ impl<A: Allocator> NameSection<A> {
     /// The builder gains one entry with this encoding, or the call returns an error and changes nothing. A full builder, with 2^32 - 1 entries, returns `TooLong`.
     ///
     /// ```text
-    /// ensures { Adds (subsection_encoding 2 (list_encoding names.now))
+    /// ensures { AddsTo S.model (subsection_encoding 2 (list_encoding names.now))
     ///     (HasEncodableSize (list_encoding names.now) × ⊤) self.old self.new result }
     /// ```
     ///
-    /// Definitions: [`Adds`](crate::definitions::base::calls::Adds), [`subsection_encoding`](crate::definitions::custom::customs::subsection_encoding), [`list_encoding`](crate::definitions::custom::lists::list_encoding), [`HasEncodableSize`](crate::definitions::base::encodings::HasEncodableSize). [How to read clauses](crate::definitions).
+    /// Definitions: [`AddsTo`](crate::definitions::base::calls::AddsTo), [`subsection_encoding`](crate::definitions::custom::customs::subsection_encoding), [`list_encoding`](crate::definitions::custom::lists::list_encoding), [`HasEncodableSize`](crate::definitions::base::encodings::HasEncodableSize). [How to read clauses](crate::definitions).
     pub fn locals<B: Allocator>(&mut self, names: &IndirectNameMap<B>) -> Result<()> {
         self.indirect_map(2, names)
     }
@@ -560,11 +560,11 @@ impl<A: Allocator> NameSection<A> {
     /// The builder gains one entry with this encoding, or the call returns an error and changes nothing. A full builder, with 2^32 - 1 entries, returns `TooLong`.
     ///
     /// ```text
-    /// ensures { Adds (subsection_encoding 3 (list_encoding names.now))
+    /// ensures { AddsTo S.model (subsection_encoding 3 (list_encoding names.now))
     ///     (HasEncodableSize (list_encoding names.now) × ⊤) self.old self.new result }
     /// ```
     ///
-    /// Definitions: [`Adds`](crate::definitions::base::calls::Adds), [`subsection_encoding`](crate::definitions::custom::customs::subsection_encoding), [`list_encoding`](crate::definitions::custom::lists::list_encoding), [`HasEncodableSize`](crate::definitions::base::encodings::HasEncodableSize). [How to read clauses](crate::definitions).
+    /// Definitions: [`AddsTo`](crate::definitions::base::calls::AddsTo), [`subsection_encoding`](crate::definitions::custom::customs::subsection_encoding), [`list_encoding`](crate::definitions::custom::lists::list_encoding), [`HasEncodableSize`](crate::definitions::base::encodings::HasEncodableSize). [How to read clauses](crate::definitions).
     pub fn labels<B: Allocator>(&mut self, names: &IndirectNameMap<B>) -> Result<()> {
         self.indirect_map(3, names)
     }
@@ -583,11 +583,11 @@ impl<A: Allocator> NameSection<A> {
     /// The builder gains one entry with this encoding, or the call returns an error and changes nothing. A full builder, with 2^32 - 1 entries, returns `TooLong`.
     ///
     /// ```text
-    /// ensures { Adds (subsection_encoding 10 (list_encoding names.now))
+    /// ensures { AddsTo S.model (subsection_encoding 10 (list_encoding names.now))
     ///     (HasEncodableSize (list_encoding names.now) × ⊤) self.old self.new result }
     /// ```
     ///
-    /// Definitions: [`Adds`](crate::definitions::base::calls::Adds), [`subsection_encoding`](crate::definitions::custom::customs::subsection_encoding), [`list_encoding`](crate::definitions::custom::lists::list_encoding), [`HasEncodableSize`](crate::definitions::base::encodings::HasEncodableSize). [How to read clauses](crate::definitions).
+    /// Definitions: [`AddsTo`](crate::definitions::base::calls::AddsTo), [`subsection_encoding`](crate::definitions::custom::customs::subsection_encoding), [`list_encoding`](crate::definitions::custom::lists::list_encoding), [`HasEncodableSize`](crate::definitions::base::encodings::HasEncodableSize). [How to read clauses](crate::definitions).
     pub fn fields<B: Allocator>(&mut self, names: &IndirectNameMap<B>) -> Result<()> {
         self.indirect_map(10, names)
     }
@@ -606,11 +606,11 @@ impl<A: Allocator> NameSection<A> {
     /// The builder gains one entry with this encoding, or the call returns an error and changes nothing. A full builder, with 2^32 - 1 entries, returns `TooLong`.
     ///
     /// ```text
-    /// ensures { Adds (subsection_encoding 12 (list_encoding names.now))
+    /// ensures { AddsTo S.model (subsection_encoding 12 (list_encoding names.now))
     ///     (HasEncodableSize (list_encoding names.now) × ⊤) self.old self.new result }
     /// ```
     ///
-    /// Definitions: [`Adds`](crate::definitions::base::calls::Adds), [`subsection_encoding`](crate::definitions::custom::customs::subsection_encoding), [`list_encoding`](crate::definitions::custom::lists::list_encoding), [`HasEncodableSize`](crate::definitions::base::encodings::HasEncodableSize). [How to read clauses](crate::definitions).
+    /// Definitions: [`AddsTo`](crate::definitions::base::calls::AddsTo), [`subsection_encoding`](crate::definitions::custom::customs::subsection_encoding), [`list_encoding`](crate::definitions::custom::lists::list_encoding), [`HasEncodableSize`](crate::definitions::base::encodings::HasEncodableSize). [How to read clauses](crate::definitions).
     pub fn parameters<B: Allocator>(&mut self, names: &IndirectNameMap<B>) -> Result<()> {
         self.indirect_map(12, names)
     }
@@ -629,11 +629,11 @@ impl<A: Allocator> NameSection<A> {
     /// The builder gains one entry with this encoding, or the call returns an error and changes nothing. A full builder, with 2^32 - 1 entries, returns `TooLong`.
     ///
     /// ```text
-    /// ensures { Adds (subsection_encoding 13 (list_encoding names.now))
+    /// ensures { AddsTo S.model (subsection_encoding 13 (list_encoding names.now))
     ///     (HasEncodableSize (list_encoding names.now) × ⊤) self.old self.new result }
     /// ```
     ///
-    /// Definitions: [`Adds`](crate::definitions::base::calls::Adds), [`subsection_encoding`](crate::definitions::custom::customs::subsection_encoding), [`list_encoding`](crate::definitions::custom::lists::list_encoding), [`HasEncodableSize`](crate::definitions::base::encodings::HasEncodableSize). [How to read clauses](crate::definitions).
+    /// Definitions: [`AddsTo`](crate::definitions::base::calls::AddsTo), [`subsection_encoding`](crate::definitions::custom::customs::subsection_encoding), [`list_encoding`](crate::definitions::custom::lists::list_encoding), [`HasEncodableSize`](crate::definitions::base::encodings::HasEncodableSize). [How to read clauses](crate::definitions).
     pub fn tag_parameters<B: Allocator>(&mut self, names: &IndirectNameMap<B>) -> Result<()> {
         self.indirect_map(13, names)
     }
@@ -665,11 +665,11 @@ impl<A: Allocator> NameSection<A> {
     /// The builder gains one entry with this encoding, or the call returns an error and changes nothing. A full builder, with 2^32 - 1 entries, returns `TooLong`.
     ///
     /// ```text
-    /// ensures { Adds (subsection_encoding id content.now)
+    /// ensures { AddsTo S.model (subsection_encoding id content.now)
     ///     (HasEncodableSize content.now × ⊤) self.old self.new result }
     /// ```
     ///
-    /// Definitions: [`Adds`](crate::definitions::base::calls::Adds), [`subsection_encoding`](crate::definitions::custom::customs::subsection_encoding), [`HasEncodableSize`](crate::definitions::base::encodings::HasEncodableSize). [How to read clauses](crate::definitions).
+    /// Definitions: [`AddsTo`](crate::definitions::base::calls::AddsTo), [`subsection_encoding`](crate::definitions::custom::customs::subsection_encoding), [`HasEncodableSize`](crate::definitions::base::encodings::HasEncodableSize). [How to read clauses](crate::definitions).
     pub fn raw(&mut self, id: u8, content: &[u8]) -> Result<()> {
         self.add_record(&Subsection {
             id,
@@ -683,10 +683,10 @@ impl<A: Allocator> NameSection<A> {
     ///
     /// ```text
     /// ensures name { utf8_of result.name ≡ name_name }
-    /// ensures bytes { items_of result.bytes ≡ joined self.now }
+    /// ensures bytes { items_of result.bytes ≡ (S.model.joins self.now).content }
     /// ```
     ///
-    /// Definitions: [`utf8_of`](crate::definitions::base::cow::utf8_of), [`name_name`](crate::definitions::custom::names::name_name), [`items_of`](crate::definitions::base::cow::items_of), [`joined`](crate::definitions::base::pieces::joined). [How to read clauses](crate::definitions).
+    /// Definitions: [`utf8_of`](crate::definitions::base::cow::utf8_of), [`name_name`](crate::definitions::custom::names::name_name), [`items_of`](crate::definitions::base::cow::items_of). [How to read clauses](crate::definitions).
     pub fn as_custom(&self) -> CustomSection<'_> {
         CustomSection {
             name: CowStr::Borrowed("name"),

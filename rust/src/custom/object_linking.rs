@@ -8,7 +8,7 @@ use crate::custom::object_symbols::ObjectSymbols;
 use crate::custom::segments::SegmentInfos;
 use crate::custom::subsections::Subsection;
 use crate::alloc::{Allocator, Global};
-use crate::base::{Kind, Result};
+use crate::base::{Kind, Pieces, Result, Store};
 
 /// The linking section of an object file, in version 2 of the format: symbols of all kinds,
 /// segments, init functions, COMDAT groups and the target. Each call adds a subsection, and `new`
@@ -37,7 +37,7 @@ use crate::base::{Kind, Result};
 /// # }
 /// # example().unwrap();
 /// ```
-pub type ObjectLinking<A = Global> = CustomEntries<ObjectLinkingItems, A>;
+pub type ObjectLinking<A = Global> = CustomEntries<ObjectLinkingItems, Pieces<A>>;
 
 /// The kind of the items of an object file's linking section: subsections.
 ///
@@ -91,7 +91,7 @@ impl CustomKind for ObjectLinkingItems {
     fn layout_laws() {}
 }
 
-impl<A: Allocator> ObjectLinking<A> {
+impl<S: Store> CustomEntries<ObjectLinkingItems, S> {
     /// Adds the segments.
     ///
     /// # Errors
@@ -106,11 +106,11 @@ impl<A: Allocator> ObjectLinking<A> {
     /// The builder gains one entry with this encoding, or the call returns an error and changes nothing. A full builder, with 2^32 - 1 entries, returns `TooLong`.
     ///
     /// ```text
-    /// ensures { Adds (subsection_encoding 5 (list_encoding segments.now))
+    /// ensures { AddsTo S.model (subsection_encoding 5 (list_encoding segments.now))
     ///     (HasEncodableSize (list_encoding segments.now) × ⊤) self.old self.new result }
     /// ```
     ///
-    /// Definitions: [`Adds`](crate::definitions::base::calls::Adds), [`subsection_encoding`](crate::definitions::custom::customs::subsection_encoding), [`list_encoding`](crate::definitions::custom::lists::list_encoding), [`HasEncodableSize`](crate::definitions::base::encodings::HasEncodableSize). [How to read clauses](crate::definitions).
+    /// Definitions: [`AddsTo`](crate::definitions::base::calls::AddsTo), [`subsection_encoding`](crate::definitions::custom::customs::subsection_encoding), [`list_encoding`](crate::definitions::custom::lists::list_encoding), [`HasEncodableSize`](crate::definitions::base::encodings::HasEncodableSize). [How to read clauses](crate::definitions).
     pub fn segments<B: Allocator>(&mut self, segments: &SegmentInfos<B>) -> Result<()> {
         self.add_record(segments)
     }
@@ -129,11 +129,11 @@ impl<A: Allocator> ObjectLinking<A> {
     /// The builder gains one entry with this encoding, or the call returns an error and changes nothing. A full builder, with 2^32 - 1 entries, returns `TooLong`.
     ///
     /// ```text
-    /// ensures { Adds (subsection_encoding 6 (list_encoding functions.now))
+    /// ensures { AddsTo S.model (subsection_encoding 6 (list_encoding functions.now))
     ///     (HasEncodableSize (list_encoding functions.now) × ⊤) self.old self.new result }
     /// ```
     ///
-    /// Definitions: [`Adds`](crate::definitions::base::calls::Adds), [`subsection_encoding`](crate::definitions::custom::customs::subsection_encoding), [`list_encoding`](crate::definitions::custom::lists::list_encoding), [`HasEncodableSize`](crate::definitions::base::encodings::HasEncodableSize). [How to read clauses](crate::definitions).
+    /// Definitions: [`AddsTo`](crate::definitions::base::calls::AddsTo), [`subsection_encoding`](crate::definitions::custom::customs::subsection_encoding), [`list_encoding`](crate::definitions::custom::lists::list_encoding), [`HasEncodableSize`](crate::definitions::base::encodings::HasEncodableSize). [How to read clauses](crate::definitions).
     pub fn init_functions<B: Allocator>(&mut self, functions: &InitFunctions<B>) -> Result<()> {
         self.add_record(functions)
     }
@@ -152,11 +152,11 @@ impl<A: Allocator> ObjectLinking<A> {
     /// The builder gains one entry with this encoding, or the call returns an error and changes nothing. A full builder, with 2^32 - 1 entries, returns `TooLong`.
     ///
     /// ```text
-    /// ensures { Adds (subsection_encoding 7 (list_encoding comdats.now))
+    /// ensures { AddsTo S.model (subsection_encoding 7 (list_encoding comdats.now))
     ///     (HasEncodableSize (list_encoding comdats.now) × ⊤) self.old self.new result }
     /// ```
     ///
-    /// Definitions: [`Adds`](crate::definitions::base::calls::Adds), [`subsection_encoding`](crate::definitions::custom::customs::subsection_encoding), [`list_encoding`](crate::definitions::custom::lists::list_encoding), [`HasEncodableSize`](crate::definitions::base::encodings::HasEncodableSize). [How to read clauses](crate::definitions).
+    /// Definitions: [`AddsTo`](crate::definitions::base::calls::AddsTo), [`subsection_encoding`](crate::definitions::custom::customs::subsection_encoding), [`list_encoding`](crate::definitions::custom::lists::list_encoding), [`HasEncodableSize`](crate::definitions::base::encodings::HasEncodableSize). [How to read clauses](crate::definitions).
     pub fn comdats<B: Allocator>(&mut self, comdats: &Comdats<B>) -> Result<()> {
         self.add_record(comdats)
     }
@@ -175,11 +175,11 @@ impl<A: Allocator> ObjectLinking<A> {
     /// The builder gains one entry with this encoding, or the call returns an error and changes nothing. A full builder, with 2^32 - 1 entries, returns `TooLong`.
     ///
     /// ```text
-    /// ensures { Adds (subsection_encoding 8 (list_encoding symbols.now))
+    /// ensures { AddsTo S.model (subsection_encoding 8 (list_encoding symbols.now))
     ///     (HasEncodableSize (list_encoding symbols.now) × ⊤) self.old self.new result }
     /// ```
     ///
-    /// Definitions: [`Adds`](crate::definitions::base::calls::Adds), [`subsection_encoding`](crate::definitions::custom::customs::subsection_encoding), [`list_encoding`](crate::definitions::custom::lists::list_encoding), [`HasEncodableSize`](crate::definitions::base::encodings::HasEncodableSize). [How to read clauses](crate::definitions).
+    /// Definitions: [`AddsTo`](crate::definitions::base::calls::AddsTo), [`subsection_encoding`](crate::definitions::custom::customs::subsection_encoding), [`list_encoding`](crate::definitions::custom::lists::list_encoding), [`HasEncodableSize`](crate::definitions::base::encodings::HasEncodableSize). [How to read clauses](crate::definitions).
     pub fn symbol_table<B: Allocator>(&mut self, symbols: &ObjectSymbols<B>) -> Result<()> {
         self.add_record(symbols)
     }
@@ -198,12 +198,12 @@ impl<A: Allocator> ObjectLinking<A> {
     /// The builder gains one entry with this encoding, or the call returns an error and changes nothing. A full builder, with 2^32 - 1 entries, returns `TooLong`.
     ///
     /// ```text
-    /// ensures { Adds (subsection_encoding 9 (size_prefixed_encoding name.now))
+    /// ensures { AddsTo S.model (subsection_encoding 9 (size_prefixed_encoding name.now))
     ///     (HasEncodableSize (size_prefixed_encoding name.now) × HasEncodableSize name.now)
     ///     self.old self.new result }
     /// ```
     ///
-    /// Definitions: [`Adds`](crate::definitions::base::calls::Adds), [`subsection_encoding`](crate::definitions::custom::customs::subsection_encoding), [`size_prefixed_encoding`](crate::definitions::base::encodings::size_prefixed_encoding), [`HasEncodableSize`](crate::definitions::base::encodings::HasEncodableSize). [How to read clauses](crate::definitions).
+    /// Definitions: [`AddsTo`](crate::definitions::base::calls::AddsTo), [`subsection_encoding`](crate::definitions::custom::customs::subsection_encoding), [`size_prefixed_encoding`](crate::definitions::base::encodings::size_prefixed_encoding), [`HasEncodableSize`](crate::definitions::base::encodings::HasEncodableSize). [How to read clauses](crate::definitions).
     pub fn target_arch(&mut self, name: &str) -> Result<()> {
         self.add_record(&Subsection {
             id: 9,

@@ -78,7 +78,7 @@ impl<A: Allocator> ObjectSymbols<A> {
     ///
     /// # Proved
     ///
-    /// The builder gains one entry with this encoding, or the call returns an error and changes nothing. A full builder, with 2^32 - 1 entries, returns `TooLong`.
+    /// `AddsTo` of a builder whose entries are a list of pieces.
     ///
     /// ```text
     /// ensures { Adds (indexed_encoding kinds.Function flags index
@@ -102,7 +102,7 @@ impl<A: Allocator> ObjectSymbols<A> {
     ///
     /// # Proved
     ///
-    /// The builder gains one entry with this encoding, or the call returns an error and changes nothing. A full builder, with 2^32 - 1 entries, returns `TooLong`.
+    /// `AddsTo` of a builder whose entries are a list of pieces.
     ///
     /// ```text
     /// ensures { Adds (indexed_encoding kinds.Global flags index
@@ -126,7 +126,7 @@ impl<A: Allocator> ObjectSymbols<A> {
     ///
     /// # Proved
     ///
-    /// The builder gains one entry with this encoding, or the call returns an error and changes nothing. A full builder, with 2^32 - 1 entries, returns `TooLong`.
+    /// `AddsTo` of a builder whose entries are a list of pieces.
     ///
     /// ```text
     /// ensures { Adds (indexed_encoding kinds.Tag flags index
@@ -150,7 +150,7 @@ impl<A: Allocator> ObjectSymbols<A> {
     ///
     /// # Proved
     ///
-    /// The builder gains one entry with this encoding, or the call returns an error and changes nothing. A full builder, with 2^32 - 1 entries, returns `TooLong`.
+    /// `AddsTo` of a builder whose entries are a list of pieces.
     ///
     /// ```text
     /// ensures { Adds (indexed_encoding kinds.Table flags index
@@ -175,7 +175,7 @@ impl<A: Allocator> ObjectSymbols<A> {
     ///
     /// # Proved
     ///
-    /// The builder gains one entry with this encoding, or the call returns an error and changes nothing. A full builder, with 2^32 - 1 entries, returns `TooLong`.
+    /// `AddsTo` of a builder whose entries are a list of pieces.
     ///
     /// ```text
     /// ensures { Adds (of_data_encoding flags name.now
@@ -204,7 +204,7 @@ impl<A: Allocator> ObjectSymbols<A> {
     ///
     /// # Proved
     ///
-    /// The builder gains one entry with this encoding, or the call returns an error and changes nothing. A full builder, with 2^32 - 1 entries, returns `TooLong`.
+    /// `AddsTo` of a builder whose entries are a list of pieces.
     ///
     /// ```text
     /// ensures { Adds (of_section_encoding flags section) ⊤ self.old self.new result }

@@ -6,7 +6,7 @@ use crate::custom::counted::{DecodesItems, ItemsAs, append_counted, read_counted
 use crate::custom::entries::{CustomEntries, CustomKind};
 use crate::custom::lists::{CountedList, ListKind};
 use crate::alloc::{Allocator, Global};
-use crate::base::{DecodeError, Grammar, Kind, Lent, Readable, Result, Shorten};
+use crate::base::{DecodeError, Grammar, Kind, Lent, Pieces, Readable, Result, Shorten, Store};
 
 /// The values of a producers field: the tools that produced the module, and their versions.
 ///
@@ -68,7 +68,7 @@ impl<A: Allocator> ProducersField<A> {
     ///
     /// # Proved
     ///
-    /// The builder gains one entry with this encoding, or the call returns an error and changes nothing. A full builder, with 2^32 - 1 entries, returns `TooLong`.
+    /// `AddsTo` of a builder whose entries are a list of pieces.
     ///
     /// ```text
     /// ensures { Adds (size_prefixed_encoding name.now ++ size_prefixed_encoding version.now)
@@ -99,7 +99,7 @@ impl<A: Allocator> ProducersField<A> {
 /// # }
 /// # example().unwrap();
 /// ```
-pub type ProducersSection<A = Global> = CustomEntries<ProducerItems, A>;
+pub type ProducersSection<A = Global> = CustomEntries<ProducerItems, Pieces<A>>;
 
 /// The kind of a producers section's items: fields.
 ///
@@ -153,7 +153,7 @@ impl CustomKind for ProducerItems {
     fn layout_laws() {}
 }
 
-impl<A: Allocator> ProducersSection<A> {
+impl<S: Store> CustomEntries<ProducerItems, S> {
     /// Adds a field, such as `language`, `processed-by` or `sdk`.
     ///
     /// # Errors
@@ -168,11 +168,11 @@ impl<A: Allocator> ProducersSection<A> {
     /// The builder gains one entry with this encoding, or the call returns an error and changes nothing. A full builder, with 2^32 - 1 entries, returns `TooLong`.
     ///
     /// ```text
-    /// ensures { Adds (size_prefixed_encoding name.now ++ list_encoding values.now)
+    /// ensures { AddsTo S.model (size_prefixed_encoding name.now ++ list_encoding values.now)
     ///     (HasEncodableSize name.now × ⊤) self.old self.new result }
     /// ```
     ///
-    /// Definitions: [`Adds`](crate::definitions::base::calls::Adds), [`size_prefixed_encoding`](crate::definitions::base::encodings::size_prefixed_encoding), [`list_encoding`](crate::definitions::custom::lists::list_encoding), [`HasEncodableSize`](crate::definitions::base::encodings::HasEncodableSize). [How to read clauses](crate::definitions).
+    /// Definitions: [`AddsTo`](crate::definitions::base::calls::AddsTo), [`size_prefixed_encoding`](crate::definitions::base::encodings::size_prefixed_encoding), [`list_encoding`](crate::definitions::custom::lists::list_encoding), [`HasEncodableSize`](crate::definitions::base::encodings::HasEncodableSize). [How to read clauses](crate::definitions).
     pub fn field<B: Allocator>(&mut self, name: &str, values: &ProducersField<B>) -> Result<()> {
         self.add_record(&(name, Lent(values)))
     }

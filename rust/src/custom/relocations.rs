@@ -398,7 +398,7 @@ impl<A: Allocator> RelocationSection<A> {
     ///
     /// # Proved
     ///
-    /// - `adds`: The builder gains one entry with this encoding, or the call returns an error and changes nothing. A full builder, with 2^32 - 1 entries, returns `TooLong`.
+    /// - `adds`: `AddsTo` of a builder whose entries are a list of pieces.
     /// - `same_section`: the part before the entries is unchanged.
     ///
     /// ```text

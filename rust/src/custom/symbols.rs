@@ -226,7 +226,7 @@ impl<A: Allocator> SymbolTable<A> {
     ///
     /// # Proved
     ///
-    /// The builder gains one entry with this encoding, or the call returns an error and changes nothing. A full builder, with 2^32 - 1 entries, returns `TooLong`.
+    /// `AddsTo` of a builder whose entries are a list of pieces.
     ///
     /// ```text
     /// ensures { Adds (indexed_encoding kinds.Function flags index
@@ -250,7 +250,7 @@ impl<A: Allocator> SymbolTable<A> {
     ///
     /// # Proved
     ///
-    /// The builder gains one entry with this encoding, or the call returns an error and changes nothing. A full builder, with 2^32 - 1 entries, returns `TooLong`.
+    /// `AddsTo` of a builder whose entries are a list of pieces.
     ///
     /// ```text
     /// ensures { Adds (indexed_encoding kinds.Global flags index
@@ -274,7 +274,7 @@ impl<A: Allocator> SymbolTable<A> {
     ///
     /// # Proved
     ///
-    /// The builder gains one entry with this encoding, or the call returns an error and changes nothing. A full builder, with 2^32 - 1 entries, returns `TooLong`.
+    /// `AddsTo` of a builder whose entries are a list of pieces.
     ///
     /// ```text
     /// ensures { Adds (indexed_encoding kinds.Table flags index
@@ -299,7 +299,7 @@ impl<A: Allocator> SymbolTable<A> {
     ///
     /// # Proved
     ///
-    /// The builder gains one entry with this encoding, or the call returns an error and changes nothing. A full builder, with 2^32 - 1 entries, returns `TooLong`.
+    /// `AddsTo` of a builder whose entries are a list of pieces.
     ///
     /// ```text
     /// ensures { Adds (of_data_encoding flags name.now

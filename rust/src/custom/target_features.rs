@@ -5,7 +5,7 @@ use crate::vec::{Sink, Vec};
 use crate::custom::counted::{DecodesItems, ItemsAs, append_counted, read_counted};
 use crate::custom::entries::{CustomEntries, CustomKind};
 use crate::alloc::{Allocator, Global};
-use crate::base::{DecodeError, Encode, Grammar, Kind, Layout, ReadFault, Readable, Result, Shorten};
+use crate::base::{DecodeError, Encode, Grammar, Kind, Layout, Pieces, ReadFault, Readable, Result, Shorten, Store};
 
 /// The target features section: the features that an object file uses, and those that it must not
 /// be linked with.
@@ -29,7 +29,7 @@ use crate::base::{DecodeError, Encode, Grammar, Kind, Layout, ReadFault, Readabl
 /// [`Items::TargetFeatures`](crate::reader::Items::TargetFeatures) has the features of a
 /// decoded section. A module of the root takes the encoding as a
 /// [`RawCustomSection`](crate::RawCustomSection).
-pub type TargetFeaturesSection<A = Global> = CustomEntries<FeatureItems, A>;
+pub type TargetFeaturesSection<A = Global> = CustomEntries<FeatureItems, Pieces<A>>;
 
 /// The kind of a target features section's items: features.
 ///
@@ -127,7 +127,7 @@ impl CustomKind for FeatureItems {
     fn layout_laws() {}
 }
 
-impl<A: Allocator> TargetFeaturesSection<A> {
+impl<S: Store> CustomEntries<FeatureItems, S> {
     /// Adds a feature, such as `atomics` or `bulk-memory`.
     ///
     /// # Errors
@@ -158,11 +158,11 @@ impl<A: Allocator> TargetFeaturesSection<A> {
     /// The builder gains one entry with this encoding, or the call returns an error and changes nothing. A full builder, with 2^32 - 1 entries, returns `TooLong`.
     ///
     /// ```text
-    /// ensures { Adds (prefix_code prefix ∷ [] ++ size_prefixed_encoding name.now)
+    /// ensures { AddsTo S.model (prefix_code prefix ∷ [] ++ size_prefixed_encoding name.now)
     ///     (⊤ × HasEncodableSize name.now) self.old self.new result }
     /// ```
     ///
-    /// Definitions: [`Adds`](crate::definitions::base::calls::Adds), [`prefix_code`](crate::definitions::custom::target_features::prefix_code), [`size_prefixed_encoding`](crate::definitions::base::encodings::size_prefixed_encoding), [`HasEncodableSize`](crate::definitions::base::encodings::HasEncodableSize). [How to read clauses](crate::definitions).
+    /// Definitions: [`AddsTo`](crate::definitions::base::calls::AddsTo), [`prefix_code`](crate::definitions::custom::target_features::prefix_code), [`size_prefixed_encoding`](crate::definitions::base::encodings::size_prefixed_encoding), [`HasEncodableSize`](crate::definitions::base::encodings::HasEncodableSize). [How to read clauses](crate::definitions).
     pub fn feature(&mut self, prefix: FeaturePrefix, name: &str) -> Result<()> {
         self.add_record(&(prefix, name))
     }

@@ -23,17 +23,29 @@ pub trait calls {
     /// The builder gains one entry with this encoding, or the call returns an error and changes nothing. A full builder, with 2^32 - 1 entries, returns `TooLong`.
     ///
     /// ```text
-    /// pub record Adds (encoding : List ℕ) (encodable : Type 0) (old new : List (List ℕ))
-    ///     (result : Result (Unit {0}) Refused) : Type 0 where
-    ///   pub ok : OnOk result (new ≡ old ++ encoding ∷ [])
+    /// pub record AddsTo {M : Type 0} (model : StoreModel M) (encoding : List ℕ)
+    ///     (encodable : Type 0) (old new : M) (result : Result (Unit {0}) Refused)
+    ///     : Type 0 where
+    ///   pub ok : OnOk result (model.gains encoding old new)
     ///   pub err : OnErr result (new ≡ old)
     ///   pub was_encodable : OnOk result encodable
-    ///   pub counted : OnOk result (length old < longest)
-    ///   pub too_long : encodable → length old < longest → result ≢ Err TooLong
-    ///   pub full : length old ≡ longest → result ≡ Err TooLong
+    ///   pub counted : OnOk result ((model.joins old).number < longest)
+    ///   pub too_long : encodable → (model.joins old).number < longest → result ≢ Err TooLong
+    ///   pub full : (model.joins old).number ≡ longest → result ≡ Err TooLong
     /// ```
     ///
-    /// Definitions: [`longest`](encodings::longest).
+    /// Definitions: [`StoreModel`](stores::StoreModel), [`longest`](encodings::longest).
+    type AddsTo;
+    /// [`AddsTo`](calls::AddsTo) of a builder whose entries are a list of pieces.
+    ///
+    /// ```text
+    /// abbrev pub Adds : List ℕ → Type 0 → List (List ℕ) → List (List ℕ)
+    ///     → Result (Unit {0}) Refused → Type 0
+    /// Adds encoding encodable old new result = AddsTo pieces_model encoding encodable old new
+    ///     result
+    /// ```
+    ///
+    /// Definitions: [`AddsTo`](calls::AddsTo), [`pieces_model`](stores::pieces_model).
     type Adds;
     /// The builder gains one entry for each of these items, in order.
     ///
@@ -1759,17 +1771,29 @@ pub trait once {
     /// The builder gains one entry with one of these encodings, or the call returns an error and changes nothing. A full builder, with 2^32 - 1 entries, returns `TooLong`.
     ///
     /// ```text
-    /// pub record AddsOnce (Gives : List ℕ → Type 0) (encodable : Type 0)
-    ///     (old new : List (List ℕ)) (result : Result (Unit {0}) Refused) : Type 0 where
+    /// pub record AddsOnceTo {M : Type 0} (model : StoreModel M) (Gives : List ℕ → Type 0)
+    ///     (encodable : Type 0) (old new : M) (result : Result (Unit {0}) Refused)
+    ///     : Type 0 where
     ///   pub ok : OnOk result ((encoding : List ℕ) × Gives encoding
-    ///       × (new ≡ old ++ encoding ∷ []))
+    ///       × model.gains encoding old new)
     ///   pub err : OnErr result (new ≡ old)
-    ///   pub counted : OnOk result (length old < longest)
-    ///   pub too_long : encodable → length old < longest → result ≢ Err TooLong
-    ///   pub full : length old ≡ longest → result ≡ Err TooLong
+    ///   pub counted : OnOk result ((model.joins old).number < longest)
+    ///   pub too_long : encodable → (model.joins old).number < longest → result ≢ Err TooLong
+    ///   pub full : (model.joins old).number ≡ longest → result ≡ Err TooLong
     /// ```
     ///
-    /// Definitions: [`longest`](encodings::longest).
+    /// Definitions: [`StoreModel`](stores::StoreModel), [`longest`](encodings::longest).
+    type AddsOnceTo;
+    /// [`AddsOnceTo`](once::AddsOnceTo) of a builder whose entries are a list of pieces.
+    ///
+    /// ```text
+    /// abbrev pub AddsOnce : (List ℕ → Type 0) → Type 0 → List (List ℕ) → List (List ℕ)
+    ///     → Result (Unit {0}) Refused → Type 0
+    /// AddsOnce Gives encodable old new result = AddsOnceTo pieces_model Gives encodable old
+    ///     new result
+    /// ```
+    ///
+    /// Definitions: [`AddsOnceTo`](once::AddsOnceTo), [`pieces_model`](stores::pieces_model).
     type AddsOnce;
     /// The iterator may be called, ends, and yields exactly `count` items. The count is at most 2^32 - 1.
     ///
@@ -1965,6 +1989,146 @@ pub trait section_id {
     /// number_of Tag = 13
     /// ```
     type number_of;
+}
+
+/// Stores of entries: lists of pieces, and states that keep the bytes of all entries and their number, but not where each entry ends.
+///
+/// [How to read definitions](super). The file is [`Stores.antt`](https://github.com/dolzhytik/dolzhytik/blob/main/crates/wasm_base/specs/Stores.antt).
+pub trait stores {
+    /// The number of entries, and their encodings one after another.
+    ///
+    /// ```text
+    /// pub record Joined : Type 0 where
+    ///   pub number : ℕ
+    ///   pub content : List ℕ
+    /// ```
+    type Joined;
+    /// Some pieces, as many as there are entries, join to the content and have the property.
+    ///
+    /// ```text
+    /// pub record Cut (P : List (List ℕ) → Type 0) (j : Joined) : Type 0 where
+    ///   pub pieces : List (List ℕ)
+    ///   pub number : length pieces ≡ j.number
+    ///   pub content : joined pieces ≡ j.content
+    ///   pub are : P pieces
+    /// ```
+    ///
+    /// Definitions: [`Joined`](stores::Joined), [`joined`](pieces::joined).
+    type Cut;
+    /// How a state holds entries: their number and bytes, whether `new` has the entries of `old` and then one of this encoding, and whether the entries have a property of pieces.
+    ///
+    /// ```text
+    /// pub record StoreModel (M : Type 0) : Type 1 where
+    ///   pub joins : M → Joined
+    ///   pub gains : List ℕ → M → M → Type 0
+    ///   pub holds : (List (List ℕ) → Type 0) → M → Type 0
+    /// ```
+    ///
+    /// Definitions: [`Joined`](stores::Joined).
+    type StoreModel;
+    /// A list of pieces, each of which is an entry.
+    ///
+    /// ```text
+    /// abbrev pub pieces_model : StoreModel (List (List ℕ))
+    /// pieces_model = record {
+    ///   joins = λ pieces. record { number = length pieces; content = joined pieces };
+    ///   gains = λ encoding old new. new ≡ old ++ encoding ∷ [];
+    ///   holds = λ P pieces. P pieces;
+    /// }
+    /// ```
+    ///
+    /// Definitions: [`StoreModel`](stores::StoreModel), [`joined`](pieces::joined).
+    type pieces_model;
+    /// The content grows by one encoding, and the number by one.
+    ///
+    /// ```text
+    /// pub record Gains (encoding : List ℕ) (old new : Joined) : Type 0 where
+    ///   pub content : new.content ≡ old.content ++ encoding
+    ///   pub number : new.number ≡ old.number + 1
+    /// ```
+    ///
+    /// Definitions: [`Joined`](stores::Joined).
+    type Gains;
+    /// A number of entries and their bytes. They have a property if they can be cut into pieces that have it.
+    ///
+    /// ```text
+    /// abbrev pub joined_model : StoreModel Joined
+    /// joined_model = record { joins = λ j. j; gains = Gains; holds = Cut }
+    /// ```
+    ///
+    /// Definitions: [`StoreModel`](stores::StoreModel), [`Joined`](stores::Joined), [`Gains`](stores::Gains), [`Cut`](stores::Cut).
+    type joined_model;
+    /// The payload of a counted section: the number of entries, and the entries.
+    ///
+    /// ```text
+    /// abbrev pub joined_payload : Joined → List ℕ
+    /// joined_payload j = unsigned_encoding j.number ++ j.content
+    /// ```
+    ///
+    /// Definitions: [`Joined`](stores::Joined), [`unsigned_encoding`](numbers::unsigned_encoding).
+    type joined_payload;
+    /// The encoding of a counted section without its id: a size prefix and the payload.
+    ///
+    /// ```text
+    /// unfoldable pub joined_encoding : Joined → List ℕ
+    /// joined_encoding j = size_prefixed_encoding (joined_payload j)
+    /// ```
+    ///
+    /// Definitions: [`Joined`](stores::Joined), [`size_prefixed_encoding`](encodings::size_prefixed_encoding), [`joined_payload`](stores::joined_payload).
+    type joined_encoding;
+    /// The count and the size of the section are at most 2^32 - 1.
+    ///
+    /// ```text
+    /// pub record IsEncodableJoined (j : Joined) : Type 0 where
+    ///   pub count : j.number ≤ longest
+    ///   pub size : HasEncodableSize (joined_payload j)
+    /// ```
+    ///
+    /// Definitions: [`Joined`](stores::Joined), [`longest`](encodings::longest), [`HasEncodableSize`](encodings::HasEncodableSize), [`joined_payload`](stores::joined_payload).
+    type IsEncodableJoined;
+    /// The size of the section is more than 2^32 - 1.
+    ///
+    /// ```text
+    /// abbrev pub IsOverlongJoined : Joined → Type 0
+    /// IsOverlongJoined j = longest < length (joined_payload j)
+    /// ```
+    ///
+    /// Definitions: [`Joined`](stores::Joined), [`longest`](encodings::longest), [`joined_payload`](stores::joined_payload).
+    type IsOverlongJoined;
+    /// The encoding of a list of pieces is that of their number and their bytes.
+    ///
+    /// ```text
+    /// pub pieces_encode : (pieces : List (List ℕ))
+    ///     → section_encoding pieces ≡ joined_encoding (pieces_model.joins pieces)
+    /// unfolding section_encoding joined_encoding
+    /// pieces_encode pieces = refl
+    /// ```
+    ///
+    /// Definitions: [`section_encoding`](pieces::section_encoding), [`joined_encoding`](stores::joined_encoding), [`pieces_model`](stores::pieces_model).
+    type pieces_encode;
+    /// Pieces that fit in a section have a number and a size that fit.
+    ///
+    /// ```text
+    /// pub pieces_fit : (pieces : List (List ℕ)) → IsEncodableSection pieces
+    ///     → IsEncodableJoined (pieces_model.joins pieces)
+    /// pieces_fit pieces fits = record { count = fits.count; size = fits.size }
+    /// ```
+    ///
+    /// Definitions: [`IsEncodableSection`](pieces::IsEncodableSection), [`IsEncodableJoined`](stores::IsEncodableJoined), [`pieces_model`](stores::pieces_model).
+    type pieces_fit;
+    /// The encoding of entries that fit is their size-prefixed payload.
+    ///
+    /// ```text
+    /// pub joined_sized : (j : Joined) (encoding bytes : List ℕ) → encoding ≡ joined_encoding j
+    ///     → IsEncodableJoined j → bytes ≡ joined_payload j → IsSizePrefixed encoding bytes
+    /// unfolding joined_encoding
+    /// joined_sized j encoding bytes is fits e = record
+    ///     { is = is ∙ ap size_prefixed_encoding (sym e);
+    ///     encodable = subst HasEncodableSize (sym e) fits.size }
+    /// ```
+    ///
+    /// Definitions: [`Joined`](stores::Joined), [`joined_encoding`](stores::joined_encoding), [`IsEncodableJoined`](stores::IsEncodableJoined), [`joined_payload`](stores::joined_payload), [`IsSizePrefixed`](encodings::IsSizePrefixed), [`size_prefixed_encoding`](encodings::size_prefixed_encoding), [`HasEncodableSize`](encodings::HasEncodableSize).
+    type joined_sized;
 }
 
 /// The encodings and the formats of heap types, reference types and value types. Core specification, Binary Format, Types.

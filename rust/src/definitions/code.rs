@@ -345,13 +345,17 @@ pub trait code {
     ///
     /// Definitions: [`Body`](bodies::Body), [`EncodesBodiesIn`](code::EncodesBodiesIn), [`padded`](super::base::numbers::Mode).
     type EncodesBodiesPadded;
-    /// The headline: the bytes decode to the raw bodies alone. If the raw bodies encode some bodies, minimally or padded, the bytes decode to those bodies alone.
+    /// The headline: the bytes decode to the raw bodies that the section holds alone. If these encode some bodies, minimally or padded, the bytes decode to those bodies alone.
     ///
     /// ```text
-    /// pub record DecodesCode (entries : List (List ℕ)) (encoding : List ℕ) : Type 0 where
-    ///   pub raw : DecodesBack raw_code (ContainsBodies entries) encoding
-    ///   pub bodies : DecodesBack code_section (EncodesBodies entries) encoding
-    ///   pub padded : DecodesBackPadded code_section (EncodesBodiesPadded entries) encoding
+    /// pub record DecodesCode {M : Type 0} (holds : (List (List ℕ) → Type 0) → M → Type 0)
+    ///     (section : M) (encoding : List ℕ) : Type 0 where
+    ///   pub raw : DecodesBack raw_code
+    ///       (λ raw. holds (λ entries. ContainsBodies entries raw) section) encoding
+    ///   pub bodies : DecodesBack code_section
+    ///       (λ bodies. holds (λ entries. EncodesBodies entries bodies) section) encoding
+    ///   pub padded : DecodesBackPadded code_section
+    ///       (λ bodies. holds (λ entries. EncodesBodiesPadded entries bodies) section) encoding
     /// ```
     ///
     /// Definitions: [`DecodesBack`](super::base::calls::DecodesBack), [`raw_code`](code::raw_code), [`ContainsBodies`](code::ContainsBodies), [`code_section`](code::code_section), [`EncodesBodies`](code::EncodesBodies), [`DecodesBackPadded`](super::base::calls::DecodesBackPadded), [`EncodesBodiesPadded`](code::EncodesBodiesPadded).

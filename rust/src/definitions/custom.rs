@@ -10,52 +10,53 @@ pub trait adding {
     /// The builder gains one entry of the items that the iterator yields, or the call returns an error and changes nothing. It returns `TooLong` if there are too many items, and never if all items fit and items and entries are few enough.
     ///
     /// ```text
-    /// pub record AddsList {U S T : Type 0} (becomes : U → S → Type 0)
+    /// pub record AddsList {M U S T : Type 0} (model : StoreModel M) (becomes : U → S → Type 0)
     ///     (gives : S → Option T → S → Type 0) (remaining : S → Count) (elements : U)
     ///     (Encodable : T → Type 0) (encoding : List T → List ℕ)
-    ///     (old new : List (List ℕ)) (result : Result (Unit {0}) Refused) : Type 0 where
+    ///     (old new : M) (result : Result (Unit {0}) Refused) : Type 0 where
     ///   pub ok : OnOk result ((it : S) × (items : List T) × becomes elements it
     ///       × Drains gives it items × IsEncodableVec Encodable items
-    ///       × (new ≡ old ++ encoding items ∷ []))
+    ///       × model.gains (encoding items) old new)
     ///   pub err : OnErr result (new ≡ old)
-    ///   pub counted : OnOk result (length old < longest)
+    ///   pub counted : OnOk result ((model.joins old).number < longest)
     ///   pub too_long : ((it : S) → becomes elements it → size (remaining it) ≤ longest)
     ///       → ((it left : S) (xs : List T) → becomes elements it → Yields gives it xs left
-    ///       → All Encodable xs) → length old < longest → result ≢ Err TooLong
+    ///       → All Encodable xs) → (model.joins old).number < longest → result ≢ Err TooLong
     ///   pub too_many : ((it : S) → becomes elements it → longest < size (remaining it))
     ///       → result ≡ Err TooLong
     /// ```
     ///
-    /// Definitions: [`IsEncodableVec`](super::base::encodings::IsEncodableVec), [`longest`](super::base::encodings::longest).
+    /// Definitions: [`StoreModel`](super::base::stores::StoreModel), [`IsEncodableVec`](super::base::encodings::IsEncodableVec), [`longest`](super::base::encodings::longest).
     type AddsList;
     /// As [`AddsList`](adding::AddsList), for an entry of two lists.
     ///
     /// ```text
-    /// pub record AddsTwoLists {U S V R T W : Type 0} (becomes : U → S → Type 0)
-    ///     (gives : S → Option T → S → Type 0) (remaining : S → Count) (first : U)
+    /// pub record AddsTwoLists {M U S V R T W : Type 0} (model : StoreModel M)
+    ///     (becomes : U → S → Type 0) (gives : S → Option T → S → Type 0)
+    ///     (remaining : S → Count) (first : U)
     ///     (turns : V → R → Type 0) (hands : R → Option W → R → Type 0) (left : R → Count)
     ///         (second : V) (Encodable : T → Type 0) (Suits : W → Type 0)
     ///         (encoding : List T → List W → List ℕ)
-    ///     (old new : List (List ℕ)) (result : Result (Unit {0}) Refused) : Type 0 where
+    ///     (old new : M) (result : Result (Unit {0}) Refused) : Type 0 where
     ///   pub ok : OnOk result ((it : S) × (xs : List T) × (jt : R) × (ys : List W)
     ///       × becomes first it × Drains gives it xs × IsEncodableVec Encodable xs
     ///       × turns second jt × Drains hands jt ys × IsEncodableVec Suits ys
-    ///       × (new ≡ old ++ encoding xs ys ∷ []))
+    ///       × model.gains (encoding xs ys) old new)
     ///   pub err : OnErr result (new ≡ old)
-    ///   pub counted : OnOk result (length old < longest)
+    ///   pub counted : OnOk result ((model.joins old).number < longest)
     ///   pub too_long : ((it : S) → becomes first it → size (remaining it) ≤ longest)
     ///       → ((jt : R) → turns second jt → size (left jt) ≤ longest)
     ///       → ((it end : S) (xs : List T) → becomes first it → Yields gives it xs end
     ///           → All Encodable xs) → ((jt end : R) (ys : List W) → turns second jt
     ///           → Yields hands jt ys end → All Suits ys)
-    ///       → length old < longest → result ≢ Err TooLong
+    ///       → (model.joins old).number < longest → result ≢ Err TooLong
     ///   pub too_many : ((it : S) → becomes first it → longest < size (remaining it))
     ///       → result ≡ Err TooLong
     ///   pub too_many_then : ((jt : R) → turns second jt → longest < size (left jt))
     ///       → result ≡ Err TooLong
     /// ```
     ///
-    /// Definitions: [`IsEncodableVec`](super::base::encodings::IsEncodableVec), [`longest`](super::base::encodings::longest).
+    /// Definitions: [`StoreModel`](super::base::stores::StoreModel), [`IsEncodableVec`](super::base::encodings::IsEncodableVec), [`longest`](super::base::encodings::longest).
     type AddsTwoLists;
 }
 
@@ -1196,12 +1197,21 @@ pub trait entries {
     /// The data of a section: a front, the number of entries if they are counted, and the entries.
     ///
     /// ```text
-    /// abbrev pub entries_encoding : List ℕ → Bool → List (List ℕ) → List ℕ
-    /// entries_encoding front counted pieces = front
-    ///     ++ (count_encoding counted (length pieces) ++ joined pieces)
+    /// abbrev pub joined_data : List ℕ → Bool → Joined → List ℕ
+    /// joined_data front counted j = front ++ (count_encoding counted j.number ++ j.content)
     /// ```
     ///
-    /// Definitions: [`count_encoding`](entries::count_encoding), [`joined`](super::base::pieces::joined).
+    /// Definitions: [`Joined`](super::base::stores::Joined), [`count_encoding`](entries::count_encoding).
+    type joined_data;
+    /// [`joined_data`](entries::joined_data) of entries that are a list of pieces.
+    ///
+    /// ```text
+    /// abbrev pub entries_encoding : List ℕ → Bool → List (List ℕ) → List ℕ
+    /// entries_encoding front counted pieces = joined_data front counted
+    ///     (pieces_model.joins pieces)
+    /// ```
+    ///
+    /// Definitions: [`joined_data`](entries::joined_data), [`pieces_model`](super::base::stores::pieces_model).
     type entries_encoding;
     /// A list of items: a vector if they are counted, or one after another up to the last byte.
     ///

@@ -236,23 +236,23 @@ pub trait data_segments {
     /// The section gains one entry with the bytes that the iterator yields, or the call returns an error and changes nothing. It returns `TooLong` if the section is full or the iterator reports more than 2^32 - 1 remaining bytes, and otherwise not.
     ///
     /// ```text
-    /// pub record AddsBytes {U S : Type 0} (becomes : U → S → Type 0)
+    /// pub record AddsBytes {M U S : Type 0} (model : StoreModel M) (becomes : U → S → Type 0)
     ///     (gives : S → Option ℕ → S → Type 0) (remaining : S → Count) (elements : U)
     ///     (encoding : List ℕ → List ℕ)
-    ///     (old new : List (List ℕ)) (result : Result (Unit {0}) Refused) : Type 0 where
+    ///     (old new : M) (result : Result (Unit {0}) Refused) : Type 0 where
     ///   pub ok : OnOk result ((it : S) × (bytes : List ℕ) × becomes elements it
     ///       × Drains gives it bytes × HasEncodableSize bytes
-    ///       × (new ≡ old ++ encoding bytes ∷ []))
+    ///       × model.gains (encoding bytes) old new)
     ///   pub err : OnErr result (new ≡ old)
-    ///   pub counted : OnOk result (length old < longest)
+    ///   pub counted : OnOk result ((model.joins old).number < longest)
     ///   pub too_long : ((it : S) → becomes elements it → size (remaining it) ≤ longest)
-    ///       → length old < longest → result ≢ Err TooLong
+    ///       → (model.joins old).number < longest → result ≢ Err TooLong
     ///   pub too_many : ((it : S) → becomes elements it → longest < size (remaining it))
     ///       → result ≡ Err TooLong
-    ///   pub full : length old ≡ longest → result ≡ Err TooLong
+    ///   pub full : (model.joins old).number ≡ longest → result ≡ Err TooLong
     /// ```
     ///
-    /// Definitions: [`HasEncodableSize`](super::base::encodings::HasEncodableSize), [`longest`](super::base::encodings::longest).
+    /// Definitions: [`StoreModel`](super::base::stores::StoreModel), [`HasEncodableSize`](super::base::encodings::HasEncodableSize), [`longest`](super::base::encodings::longest).
     type AddsBytes;
     /// The view of a decoded data segment.
     ///

@@ -1,10 +1,11 @@
 //! Functions, the code section, and the named calls for instructions.
-use super::entries::{Entries, FEW, Growing, append, append_once, grow};
+use super::bytes::{append, append_once};
 use super::short::{EMPTY_BLOCK, Short, put_short};
-use super::{Encode, Instruction, done, listed};
+use super::{Encode, Instruction, NONE, done, listed};
 use crate::alloc::Global;
 use crate::base::{self, Encode as _, Result, ValType, vec_of};
-use crate::code::code_section::RawBody;
+use crate::code::{CodeSectionIn, joined};
+use crate::ending::{FEW, Growing, Root, grow};
 use crate::immediates::BlockType;
 use crate::{code, insn};
 use alloc_crate::vec::Vec;
@@ -285,9 +286,9 @@ impl Encode for Function {
 /// order. [`Module::section`](super::Module::section) takes the section. The encoding is defined in
 /// the core specification, Modules, Code Section.
 ///
-/// Its bodies are encoded by the calls that the proved
-/// [`fallible::CodeSection`](crate::fallible::CodeSection) makes too. To decode a code section, see
-/// [`reader::Section::bodies`](crate::reader::Section::bodies).
+/// Its calls are those of the proved
+/// [`fallible::joined::CodeSection`](crate::fallible::joined::CodeSection). To decode a code
+/// section, see [`reader::Section::bodies`](crate::reader::Section::bodies).
 ///
 /// ```
 /// use dolzhytik::{CodeSection, Function, Module};
@@ -307,16 +308,15 @@ impl Encode for Function {
 ///
 /// Its calls panic where the number of bodies, or the size of one, would pass 4294967295. A failed
 /// allocation ends the program.
-#[derive(Clone)]
-pub struct CodeSection(Entries);
+pub struct CodeSection(joined::CodeSection<Root>);
 
-listed!(CodeSection of code Code);
+listed!(CodeSection of code Code: CodeSectionIn { entries: NONE });
 
 impl CodeSection {
     /// Returns the length of all bodies in bytes, with their size prefixes. The number of bodies,
     /// which is encoded before them, is not included.
     pub fn byte_len(&self) -> usize {
-        self.0.bytes.len()
+        self.0.byte_len()
     }
 
     /// Appends a body.
@@ -347,7 +347,7 @@ impl CodeSection {
     /// Panics if there are more than 4294967295 bytes, or the section has 4294967295 bodies.
     #[inline]
     pub fn raw(&mut self, data: &[u8]) -> &mut Self {
-        self.0.add(&RawBody { bytes: data });
+        done(self.0.raw(data));
         self
     }
 }

@@ -1,11 +1,12 @@
 //! Constant expressions.
-use super::entries::{Bytes, FEW, Growing};
+use super::bytes::Bytes;
 use super::{Encode, Instruction, done};
 use crate::base::{self, HeapType, Result};
 use crate::code;
 use crate::code::const_expr::{Stored, function_at_front};
 use crate::code::expression::END;
 use crate::code::first::First;
+use crate::ending::{FEW, Growing};
 use crate::immediates::{Ieee32, Ieee64};
 use crate::insn::InstructionSink;
 use crate::vec::Sink;

@@ -1,6 +1,6 @@
 //! Custom sections, and the lists that they hold.
+use super::bytes::append;
 use super::debug::{self, Before, debugged};
-use super::entries::append;
 use super::later::Later;
 use super::{
     BranchHint, CoreDumpValue, DataSymbolDefinition, Encode, Section, SectionId, copied, default,
@@ -8,7 +8,8 @@ use super::{
 };
 use crate::alloc::Global;
 use crate::base::{CowSlice, CowStr};
-use crate::custom;
+use crate::custom::{self, joined};
+use crate::ending::Root;
 use alloc_crate::borrow::Cow;
 use alloc_crate::string::String;
 use alloc_crate::vec::Vec;
@@ -70,9 +71,10 @@ impl<'a> From<custom::CustomSection<'a>> for CustomSection<'a> {
     }
 }
 
-/// Defines a list or a section over the proved one of its name.
+/// Defines a list or a section over the proved one of its name: a struct of that, whose field of
+/// entries is also named here.
 macro_rules! over_proved {
-    ($($(#[$doc:meta])* $name:ident)*) => {
+    ($($(#[$doc:meta])* $name:ident of $proved:path { $entries:ident })*) => {
         $(
             $(#[$doc])*
             #[doc = concat!("\n\nIt is built by the calls of the proved [`fallible::", stringify!($name), "`](crate::fallible::", stringify!($name), "), which converts to this type.")]
@@ -81,17 +83,24 @@ macro_rules! over_proved {
             ///
             /// Its calls panic where a count or length would pass 4294967295. A failed allocation
             /// ends the program.
-            pub struct $name(custom::$name);
+            pub struct $name($proved);
 
             #[allow(clippy::new_without_default, reason = "two sections of core dumps have no default")]
             impl $name {
                 /// Creates a value without entries.
                 pub fn new() -> Self {
-                    $name(custom::$name::new(Global))
+                    $name(<$proved>::new(Root))
                 }
             }
 
-            taken!($name of custom);
+            #[doc = concat!("Converts a value built by the calls of [`fallible::", stringify!($name), "`](crate::fallible::", stringify!($name), ").")]
+            impl From<custom::$name> for $name {
+                fn from(built: custom::$name) -> Self {
+                    let mut value = $name::new();
+                    value.0.$entries = built.$entries.into();
+                    value
+                }
+            }
         )*
     };
 }
@@ -113,7 +122,7 @@ over_proved! {
     /// // One name: index 5, "f".
     /// assert_eq!(bytes, [1, 5, 1, b'f']);
     /// ```
-    NameMap
+    NameMap of custom::NameMap<Root> { pieces }
     /// An indirect name map: indices of items, each with a [`NameMap`] of items in it, such as the
     /// locals of a function.
     ///
@@ -132,7 +141,7 @@ over_proved! {
     /// // One map: index 0, one name: index 1, "x".
     /// assert_eq!(bytes, [1, 0, 1, 1, 1, b'x']);
     /// ```
-    IndirectNameMap
+    IndirectNameMap of custom::IndirectNameMap<Root> { pieces }
     /// The custom section `name`: names of the module and of its items, for debuggers and stack
     /// traces.
     ///
@@ -152,7 +161,7 @@ over_proved! {
     /// // Size 15, "name"; subsection 0, size 2, "m"; subsection 1, size 4, one name, 0, "f".
     /// assert_eq!(bytes, *b"\x0F\x04name\0\x02\x01m\x01\x04\x01\0\x01f");
     /// ```
-    NameSection
+    NameSection of joined::NameSection<Root> { entries }
     /// The custom section `linking`, version 2: symbols and other data of an object file, for a
     /// linker.
     ///
@@ -174,7 +183,7 @@ over_proved! {
     /// // flags 0, index 1, "f".
     /// assert_eq!(bytes, *b"\x11\x07linking\x02\x08\x06\x01\0\0\x01\x01f");
     /// ```
-    LinkingSection
+    LinkingSection of joined::LinkingSection<Root> { entries }
     /// A symbol table: the functions, globals, tables and data that a linker knows by name.
     ///
     /// [`LinkingSection::symbol_table`] takes it. The flags of a symbol are a sum of the constants
@@ -194,7 +203,7 @@ over_proved! {
     /// // flags 0, "d", segment 1, offset 2, size 3.
     /// assert_eq!(bytes, [8, 11, 2, 0, 0x10, 0, 1, 0, 1, b'd', 1, 2, 3]);
     /// ```
-    SymbolTable
+    SymbolTable of custom::SymbolTable<Root> { pieces }
     /// The custom section `producers`: the languages and tools that made the module.
     ///
     /// The tool conventions define it in
@@ -213,7 +222,7 @@ over_proved! {
     /// // Size 31, "producers", one field: "language", one value, "Rust", "1.88".
     /// assert_eq!(bytes, *b"\x1F\x09producers\x01\x08language\x01\x04Rust\x041.88");
     /// ```
-    ProducersSection
+    ProducersSection of joined::ProducersSection<Root> { entries }
     /// The values of a field of the producers section: names and versions.
     ///
     /// [`ProducersSection::field`] takes it.
@@ -228,7 +237,7 @@ over_proved! {
     /// // One value: "ld", "1".
     /// assert_eq!(bytes, *b"\x01\x02ld\x011");
     /// ```
-    ProducersField
+    ProducersField of custom::ProducersField<Root> { pieces }
     /// The custom section `metadata.code.branch_hint`: which branches of functions are likely.
     ///
     /// Add it before the code section. The branch hinting proposal defines it.
@@ -248,7 +257,7 @@ over_proved! {
     /// // Size 32, the name; one function, 7, with one hint: offset 3, one byte, likely.
     /// assert_eq!(bytes, *b"\x20\x19metadata.code.branch_hint\x01\x07\x01\x03\x01\x01");
     /// ```
-    BranchHints
+    BranchHints of joined::BranchHints<Root> { entries }
     /// The custom section `coremodules` of a core dump: the names of modules.
     ///
     /// The tool conventions define it in
@@ -262,7 +271,7 @@ over_proved! {
     /// // One module: 00, "m".
     /// assert_eq!(modules.as_custom().data, [1, 0, 1, b'm'].as_slice());
     /// ```
-    CoreDumpModulesSection
+    CoreDumpModulesSection of joined::CoreDumpModulesSection<Root> { entries }
     /// The custom section `coreinstances` of a core dump: instances of its modules.
     ///
     /// The tool conventions define it in
@@ -276,7 +285,7 @@ over_proved! {
     /// // One instance: 00, module 0, one memory, 42, one global, 17.
     /// assert_eq!(instances.as_custom().data, [1, 0, 0, 1, 42, 1, 17].as_slice());
     /// ```
-    CoreDumpInstancesSection
+    CoreDumpInstancesSection of joined::CoreDumpInstancesSection<Root> { entries }
 }
 
 copied!(NameMap, IndirectNameMap, NameSection, LinkingSection);

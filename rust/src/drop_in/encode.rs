@@ -1,10 +1,11 @@
 //! The traits of values and sections that have an encoding.
-use super::entries::{Growing, append};
+use super::bytes::append;
 use super::short::{put_number, put_short};
 use super::{SectionId, done};
 use crate::base;
 use crate::base::{AbstractHeapType, HeapType, RefType, ValType};
 use crate::custom::{CoreDumpValue, RawCustomSection};
+use crate::ending::Growing;
 use crate::immediates::{
     BlockType, Catch, Handle, Ieee32, Ieee64, MemArg, MemArgOrdering, Ordering,
 };

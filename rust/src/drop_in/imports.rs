@@ -1,5 +1,5 @@
 //! The import section, and the types of imported items.
-use super::{ImportSection, TagType, by_proved, handed};
+use super::{ImportSection, TagType, by_proved, done, handed};
 use crate::base::CowSlice;
 use crate::sections;
 use crate::sections::{GlobalType, MemoryType, TableType};
@@ -134,7 +134,7 @@ impl ImportSection {
     /// Panics if the length of a name, the number of items or the number of entries would pass
     /// 4294967295.
     pub fn imports<'a>(&mut self, imports: Imports<'a>) -> &mut Self {
-        self.0.add(&imports.proved());
+        done(self.0.add_record(&imports.proved()));
         self
     }
 
@@ -151,9 +151,7 @@ impl ImportSection {
 
     /// Appends an import. It is compiled here, and not in the user's crate for each type.
     fn single(&mut self, module: &str, name: &str, ty: EntityType) {
-        let ty = ty.into();
-        self.0
-            .add_spare(move || sections::Import { module, name, ty });
+        done(self.0.import(module, name, ty.into()));
     }
 }
 

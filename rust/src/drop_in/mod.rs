@@ -1,24 +1,23 @@
 //! The names of the Rust crate `wasm-encoder`, over proved encoders.
 //!
-//! A core section holds the bytes of its entries and their number (`entries`). Entries and sections
-//! are appended by the proved `encode` and `encode_section` that the section of the same name in
-//! [`fallible`](crate::fallible) calls too. That section also keeps the end of each entry, which
-//! takes eight bytes an entry, and time. A list of a custom section is the proved list.
+//! A core section is the proved builder of [`fallible::joined`](crate::fallible::joined), over a
+//! vector for which a failed allocation ends the program (`ending`). So is a custom section of
+//! entries. A list in one is the proved list, over such vectors.
 //!
 //! An instruction is appended as its opcode, and the proved `encode` of each immediate. Short ones
 //! are encoded on the stack (`short`). A body and a module are lists of bytes here, since the crate
 //! lends these before they are complete. So [`Function::raw`] and [`Module::section`] append by
-//! themselves. So do the calls `raw` of sections, the ids of sections, and [`encode_vec`] and
-//! `encode` of lists and options, whose items may be of any type. Nothing of this is proved; it is
-//! tested.
+//! themselves. So do the ids of sections, and [`encode_vec`] and `encode` of lists and options,
+//! whose items may be of any type. Nothing of this is proved; it is tested.
 //!
 //! Values that the proved calls take are the same types here. The enums of `kinds` and `imports`
 //! are not: they have the crate's cases and sizes, and `From` both ways.
 //!
 //! An error of a proved call ends here as in the crate: a panic where a count, run or length would
 //! pass 4294967295, and [`handle_alloc_error`] where an allocation fails. Sinks whose calls never
-//! fail (`entries`) leave the proved encoders no path for an error.
+//! fail (`ending`) leave the proved encoders no path for an error.
 
+mod bytes;
 #[rustfmt::skip]
 mod calls;
 mod code;
@@ -26,7 +25,6 @@ mod const_expr;
 mod custom;
 mod debug;
 mod encode;
-mod entries;
 mod imports;
 #[rustfmt::skip]
 mod instruction;
@@ -214,7 +212,9 @@ pub use types::SubType;
 pub use types::TypeSection;
 pub use types::{CompositeInnerType, CompositeType, CoreTypeEncoder};
 
-use crate::base::{CowSlice, Refused, Result};
+use crate::base::{CowSlice, Entries, Pieces, Refused, Result};
+use crate::ending::Root;
+use crate::vec;
 use alloc_crate::alloc::{Layout, handle_alloc_error};
 use alloc_crate::borrow::Cow;
 
@@ -235,6 +235,32 @@ fn done<T>(answer: Result<T>) -> T {
     match answer {
         Ok(done) => done,
         Err(refused) => refuse(refused),
+    }
+}
+
+/// The entries of a new builder.
+const NONE: Entries<Root> = Entries {
+    bytes: vec::Vec::new(Root),
+    count: 0,
+};
+
+/// Takes the bytes of entries that also keep their ends.
+impl From<Pieces> for Entries<Root> {
+    fn from(pieces: Pieces) -> Self {
+        Entries {
+            count: pieces.len(),
+            bytes: pieces.bytes.into_ending(),
+        }
+    }
+}
+
+/// Takes the entries with their ends.
+impl From<Pieces> for Pieces<Root> {
+    fn from(pieces: Pieces) -> Self {
+        Pieces {
+            bytes: pieces.bytes.into_ending(),
+            ends: pieces.ends.into_ending(),
+        }
     }
 }
 
@@ -293,7 +319,7 @@ macro_rules! encoded {
             impl $crate::drop_in::Encode for $name {
                 #[inline]
                 fn encode(&self, sink: &mut alloc_crate::vec::Vec<u8>) {
-                    $crate::drop_in::entries::append(&self.0, sink)
+                    $crate::drop_in::bytes::append(&self.0, sink)
                 }
             }
         )*
@@ -308,7 +334,7 @@ macro_rules! by_proved {
                 #[inline]
                 fn encode(&self, sink: &mut alloc_crate::vec::Vec<u8>) {
                     let proved = $crate::$module::$name::from(self.clone());
-                    $crate::drop_in::entries::append(&proved, sink)
+                    $crate::drop_in::bytes::append(&proved, sink)
                 }
             }
         )*
@@ -332,60 +358,47 @@ macro_rules! section {
 }
 
 /// Implements what all sections of counted entries have: `new`, `len`, `is_empty`, `Encode`,
-/// `Section`, `Debug`, and the conversion from the proved section of the same name.
+/// `Section`, `Clone`, `Debug`, and the conversion from the proved section of the same name, which
+/// also keeps where its entries end.
 macro_rules! listed {
-    ($name:ident of $module:ident $id:ident) => {
+    ($name:ident of $module:ident $id:ident: $new:expr) => {
         impl $name {
             /// Creates a section without entries.
             pub const fn new() -> Self {
-                $name($crate::drop_in::entries::Entries::new())
+                $name($new)
             }
 
             /// Returns the number of entries.
             #[inline]
             pub fn len(&self) -> u32 {
-                self.0.count
+                self.0.len()
             }
 
             /// Returns `true` if there are no entries.
             #[inline]
             pub fn is_empty(&self) -> bool {
-                self.0.count == 0
+                self.0.is_empty()
             }
         }
 
-        impl Default for $name {
-            fn default() -> Self {
-                $name::new()
-            }
-        }
+        $crate::drop_in::default!($name);
+        $crate::drop_in::copied!($name);
+        $crate::drop_in::section!($name of $id);
 
-        #[doc = concat!("Converts a section built by the calls of [`fallible::", stringify!($name), "`](crate::fallible::", stringify!($name), "). The entries are copied.")]
+        #[doc = concat!("Converts a section built by the calls of [`fallible::", stringify!($name), "`](crate::fallible::", stringify!($name), ").")]
         impl From<$crate::$module::$name> for $name {
             fn from(built: $crate::$module::$name) -> Self {
-                $name($crate::drop_in::entries::Entries::taken(built.len(), |i| built.piece(i)))
-            }
-        }
-
-        impl $crate::drop_in::Encode for $name {
-            #[inline]
-            fn encode(&self, sink: &mut alloc_crate::vec::Vec<u8>) {
-                self.0.encode(sink)
-            }
-        }
-
-        impl $crate::drop_in::Section for $name {
-            #[inline]
-            fn id(&self) -> u8 {
-                $crate::SectionId::$id.into()
+                let mut section = $name::new();
+                section.0.entries = built.entries.into();
+                section
             }
         }
 
         impl core::fmt::Debug for $name {
             fn fmt(&self, f: &mut core::fmt::Formatter<'_>) -> core::fmt::Result {
                 f.debug_struct(stringify!($name))
-                    .field("bytes", &self.0.bytes.0)
-                    .field("num_added", &self.0.count)
+                    .field("bytes", &self.0.entries.bytes)
+                    .field("num_added", &self.0.entries.count)
                     .finish()
             }
         }

@@ -1,5 +1,5 @@
 //! Modules, and sections of raw bytes.
-use super::entries::append;
+use super::bytes::append;
 use super::{Encode, Section, default, done};
 use crate::alloc::Global;
 use crate::base;

@@ -1,29 +1,30 @@
 //! The sections of counted items.
-use super::entries::Entries;
-use super::{ConstExpr, ExportKind, TagType, done, listed};
+use super::{ConstExpr, ExportKind, NONE, TagType, done, listed};
 use crate::base::{CowSlice, Encode, Lent, RefType, Result, bytes_of};
+use crate::ending::Root;
 use crate::sections;
-use crate::sections::data::{ACTIVE, ACTIVE_IN_MEMORY, PASSIVE};
+use crate::sections::data::{ACTIVE, ACTIVE_IN_MEMORY};
+use crate::sections::joined;
 use crate::sections::table::BEFORE_INIT;
-use crate::sections::{Export, GlobalType, MemoryType, TableType};
+use crate::sections::{CountedSection, GlobalType, MemoryType, TableType};
 use crate::vec::Sink;
 use alloc_crate::borrow::Cow;
+use core::marker::PhantomData;
 
 /// Defines a section whose entries are encoded by the proved calls.
 macro_rules! sections {
     ($($(#[$doc:meta])* $name:ident of $id:ident)*) => {
         $(
             $(#[$doc])*
-            #[doc = concat!("\n\n[`Module::section`](super::Module::section) takes the section. Its entries are encoded by the calls that the proved [`fallible::", stringify!($name), "`](crate::fallible::", stringify!($name), ") makes too.")]
+            #[doc = concat!("\n\n[`Module::section`](super::Module::section) takes the section. Its calls are those of the proved [`fallible::joined::", stringify!($name), "`](crate::fallible::joined::", stringify!($name), ").")]
             ///
             /// # Panics
             ///
             /// Its calls panic where the number of entries, or a count or length in one, would pass
             /// 4294967295. A failed allocation ends the program.
-            #[derive(Clone)]
-            pub struct $name(pub(super) Entries);
+            pub struct $name(pub(super) joined::$name<Root>);
 
-            listed!($name of sections $id);
+            listed!($name of sections $id: CountedSection { entries: NONE, kind: PhantomData });
         )*
     };
 }
@@ -200,7 +201,7 @@ impl FunctionSection {
     ///
     /// Panics if the section has 4294967295 entries.
     pub fn function(&mut self, type_index: u32) -> &mut Self {
-        self.0.add_number(type_index);
+        done(self.0.function(type_index));
         self
     }
 }
@@ -212,7 +213,7 @@ impl TableSection {
     ///
     /// Panics if the section has 4294967295 entries.
     pub fn table(&mut self, table_type: TableType) -> &mut Self {
-        self.0.add(&table_type);
+        done(self.0.table(table_type));
         self
     }
 
@@ -240,7 +241,7 @@ impl TableSection {
     ///
     /// Panics if the section has 4294967295 entries.
     pub fn table_with_init(&mut self, table_type: TableType, init: &ConstExpr) -> &mut Self {
-        self.0.add(&(BEFORE_INIT, table_type, Lent(init)));
+        done(self.0.add_record(&(BEFORE_INIT, table_type, Lent(init))));
         self
     }
 }
@@ -252,7 +253,7 @@ impl MemorySection {
     ///
     /// Panics if the section has 4294967295 entries.
     pub fn memory(&mut self, memory_type: MemoryType) -> &mut Self {
-        self.0.add(&memory_type);
+        done(self.0.memory(memory_type));
         self
     }
 }
@@ -264,7 +265,7 @@ impl TagSection {
     ///
     /// Panics if the section has 4294967295 entries.
     pub fn tag(&mut self, tag_type: TagType) -> &mut Self {
-        self.0.add(&sections::TagType::from(tag_type));
+        done(self.0.tag(tag_type.into()));
         self
     }
 }
@@ -276,7 +277,7 @@ impl GlobalSection {
     ///
     /// Panics if the section has 4294967295 entries.
     pub fn global(&mut self, global_type: GlobalType, init_expr: &ConstExpr) -> &mut Self {
-        self.0.add_spare(move || (global_type, Lent(init_expr)));
+        done(self.0.add_record(&(global_type, Lent(init_expr))));
         self
     }
 
@@ -286,7 +287,7 @@ impl GlobalSection {
     ///
     /// Panics if the section has 4294967295 entries.
     pub fn raw(&mut self, data: &[u8]) -> &mut Self {
-        self.0.add_bytes(data);
+        done(self.0.raw(data));
         self
     }
 }
@@ -299,8 +300,7 @@ impl ExportSection {
     ///
     /// Panics if the section has 4294967295 entries, or if the name has more than 4294967295 bytes.
     pub fn export(&mut self, name: &str, kind: ExportKind, index: u32) -> &mut Self {
-        let kind = kind.into();
-        self.0.add_spare(move || Export { name, kind, index });
+        done(self.0.export(name, kind.into(), index));
         self
     }
 }
@@ -414,15 +414,15 @@ impl ElementSection {
             Elements::Functions(functions) => {
                 let functions = CowSlice::Borrowed(&functions[..]);
                 let elements = sections::Elements::Functions(functions);
-                self.0.add(&sections::ElementSegment { mode, elements });
+                done(self.0.segment(sections::ElementSegment { mode, elements }));
             }
             Elements::Expressions(ty, expressions) => {
                 let elements = sections::Elements::Expressions(*ty, CowSlice::Borrowed(&[]));
                 let before = sections::ElementSegment { mode, elements };
-                self.0.add(&WithExpressions {
+                done(self.0.add_record(&WithExpressions {
                     before,
                     expressions,
-                });
+                }));
             }
         }
         self
@@ -482,7 +482,7 @@ impl ElementSection {
     ///
     /// Panics if the section has 4294967295 entries.
     pub fn raw(&mut self, raw_bytes: &[u8]) -> &mut Self {
-        self.0.add_bytes(raw_bytes);
+        done(self.0.raw(raw_bytes));
         self
     }
 }
@@ -586,7 +586,8 @@ impl DataSection {
         D: IntoIterator<Item = u8>,
         D::IntoIter: ExactSizeIterator,
     {
-        self.with_bytes(PASSIVE, data)
+        done(self.0.passive(data));
+        self
     }
 
     /// Appends a segment of these first fields and its bytes.
@@ -596,7 +597,7 @@ impl DataSection {
         D: IntoIterator<Item = u8>,
         D::IntoIter: ExactSizeIterator,
     {
-        self.0.add_once((front, done(bytes_of(data))));
+        done(self.0.add_once((front, done(bytes_of(data)))));
         self
     }
 
@@ -606,7 +607,7 @@ impl DataSection {
     ///
     /// Panics if the section has 4294967295 entries.
     pub fn raw(&mut self, already_encoded_data_segment: &[u8]) -> &mut Self {
-        self.0.add_bytes(already_encoded_data_segment);
+        done(self.0.raw(already_encoded_data_segment));
         self
     }
 }

@@ -1,9 +1,9 @@
 //! Instructions of few bytes. Their proved encoders append to an array on the stack, where the
 //! compiler needs no test of a length and no path for an error, and the array is copied at once.
 use super::done;
-use super::entries::grow;
 use crate::alloc::AllocError;
 use crate::base::{AbstractHeapType, Encode, HeapType, Lent, Result, ValType};
+use crate::ending::grow;
 use crate::immediates::{Ieee32, Ieee64, Lane, MemArg, MemArgTarget, Ordering};
 use crate::sections::{DataCountSection, StartSection};
 use crate::vec::{Sealed, Sink};

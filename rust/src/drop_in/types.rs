@@ -1,12 +1,13 @@
 //! The type section, and the types that a module defines.
-use super::entries::Entries;
 use super::later::Later;
-use super::{by_proved, copied, done, encoded, listed, taken};
+use super::{NONE, by_proved, copied, done, encoded, listed, taken};
 use crate::alloc::Global;
-use crate::base::{ValType, vec_of};
+use crate::base::{Entries, Store, ValType};
+use crate::ending::Root;
 use crate::types;
-use crate::types::type_section::REC;
-use crate::types::types::{FUNC, STRUCT};
+use crate::types::joined;
+use crate::types::type_section::{CoreTypeEncoderIn, TypeSectionIn};
+use crate::types::types::FUNC;
 use crate::types::{ArrayType, ContType, FieldType, StorageType};
 use alloc_crate::boxed::Box;
 use core::fmt;
@@ -229,8 +230,8 @@ by_proved! { types: StructType CompositeInnerType CompositeType SubType }
 ///
 /// [`ty`](TypeSection::ty) returns the calls that add a type, and
 /// [`Module::section`](super::Module::section) takes the section. Core specification, Modules, Type
-/// Section. Its entries are encoded by the calls that the proved
-/// [`fallible::TypeSection`](crate::fallible::TypeSection) makes too.
+/// Section. Its calls are those of the proved
+/// [`fallible::joined::TypeSection`](crate::fallible::joined::TypeSection).
 ///
 /// ```
 /// use dolzhytik::{Encode, TypeSection, ValType};
@@ -247,17 +248,16 @@ by_proved! { types: StructType CompositeInnerType CompositeType SubType }
 ///
 /// Its calls panic where the number of entries, or a count in one, would pass 4294967295. A failed
 /// allocation ends the program.
-#[derive(Clone)]
-pub struct TypeSection(Entries);
+pub struct TypeSection(joined::TypeSection<Root>);
 
-listed!(TypeSection of types Type);
+listed!(TypeSection of types Type: TypeSectionIn { entries: NONE });
 
 impl TypeSection {
     /// Returns the calls that append an entry: a type, or a group of types. Each call uses the
     /// value up. Nothing is appended or counted if none is made.
     #[must_use = "an entry is appended by a call of the returned value"]
     pub fn ty(&mut self) -> CoreTypeEncoder<'_> {
-        CoreTypeEncoder(&mut self.0)
+        CoreTypeEncoder(self.0.ty())
     }
 }
 
@@ -275,14 +275,14 @@ impl TypeSection {
 /// // f32 (7D), immutable (00).
 /// assert_eq!(bytes, [8, 2, 0x5E, 0x78, 1, 0x5F, 1, 0x7D, 0]);
 /// ```
-pub struct CoreTypeEncoder<'a>(&'a mut Entries);
+pub struct CoreTypeEncoder<'a>(CoreTypeEncoderIn<'a, Entries<Root>>);
 
 /// The flag is for types in components, which have a prefix.
 impl fmt::Debug for CoreTypeEncoder<'_> {
     fn fmt(&self, f: &mut fmt::Formatter<'_>) -> fmt::Result {
         f.debug_struct("CoreTypeEncoder")
             .field("push_prefix_if_component_core_type", &false)
-            .field("bytes", &self.0.bytes.0)
+            .field("bytes", &self.0.section.entries.bytes)
             .finish()
     }
 }
@@ -305,7 +305,8 @@ impl CoreTypeEncoder<'_> {
     {
         let params = Later(params.into_iter());
         let results = Later(results.into_iter());
-        self.0.add_once((FUNC, params, results))
+        let entries = &mut self.0.section.entries;
+        done(entries.add_item_once((FUNC, params, results)))
     }
 
     /// Appends a function type.
@@ -315,7 +316,7 @@ impl CoreTypeEncoder<'_> {
     /// Panics if the section has 4294967295 entries, or if a list of the type has more than
     /// 4294967295 items.
     pub fn func_type(self, ty: &FuncType) {
-        self.0.add(&ty.0)
+        done(self.0.func_type(&ty.0))
     }
 
     /// Appends the type of arrays with elements of this type.
@@ -324,11 +325,7 @@ impl CoreTypeEncoder<'_> {
     ///
     /// Panics if the section has 4294967295 entries.
     pub fn array(self, ty: &StorageType, mutable: bool) {
-        let element_type = *ty;
-        self.0.add(&ArrayType(FieldType {
-            element_type,
-            mutable,
-        }))
+        done(self.0.array(ty, mutable))
     }
 
     /// Appends the type of structures with these fields.
@@ -342,7 +339,7 @@ impl CoreTypeEncoder<'_> {
         F: IntoIterator<Item = FieldType>,
         F::IntoIter: ExactSizeIterator,
     {
-        self.0.add_once((STRUCT, done(vec_of(fields))))
+        done(self.0.struct_(fields))
     }
 
     /// Appends a continuation type, by the stack switching proposal.
@@ -351,7 +348,7 @@ impl CoreTypeEncoder<'_> {
     ///
     /// Panics if the section has 4294967295 entries.
     pub fn cont(self, ty: &ContType) {
-        self.0.add(ty)
+        done(self.0.cont(ty))
     }
 
     /// Appends a subtype. The lists of the type are copied.
@@ -383,7 +380,7 @@ impl CoreTypeEncoder<'_> {
     /// Panics if the section has 4294967295 entries, or if a list of the type has more than
     /// 4294967295 items.
     pub fn subtype(self, ty: &SubType) {
-        self.0.add(&types::SubType::from(ty.clone()))
+        done(self.0.subtype(&types::SubType::from(ty.clone())))
     }
 
     /// Appends a group of types that may refer to each other. It is one entry, and each type takes
@@ -411,7 +408,6 @@ impl CoreTypeEncoder<'_> {
         T: IntoIterator<Item = SubType>,
         T::IntoIter: ExactSizeIterator,
     {
-        let types = types.into_iter().map(types::SubType::from);
-        self.0.add_once((REC, done(vec_of(types))))
+        done(self.0.rec(types.into_iter().map(types::SubType::from)))
     }
 }

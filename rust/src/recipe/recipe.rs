@@ -45,7 +45,7 @@ fn export_kind(word: &str) -> Option<ExportKind> {
 
 /// Appends a section to the module, if it has an item.
 fn put_counted<K: ItemKind, A: Allocator, B: Allocator>(
-    section: &CountedSection<K, A>,
+    section: &CountedSection<K, Pieces<A>>,
     target: &mut Module<B>,
 ) -> Result<()> {
     if section.is_empty() {

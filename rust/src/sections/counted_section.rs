@@ -2,9 +2,9 @@
 // The builder of all sections of counted items.
 
 use crate::vec::Sink;
-use crate::alloc::{Allocator, Global};
+use crate::alloc::Allocator;
 use core::marker::PhantomData;
-use crate::base::{Counted, Encode, EncodeOnce, Kind, Pieces, Result, Section};
+use crate::base::{Counted, Encode, EncodeOnce, ItemsOf, Kind, NewStore, PaddedOf, Pieces, Result, Section, Store};
 
 /// A kind of items that a section counts.
 ///
@@ -61,11 +61,12 @@ pub trait ItemKind: Kind {
 /// ```
 pub trait RecordOf<K>: Encode {}
 
-/// A section of counted items of the kind `K`.
+/// A section of counted items of the kind `K`, whose entries a store of the type `S` keeps.
 ///
 /// It is the builder of core sections, such as
 /// [`ExportSection`](crate::fallible::ExportSection). The calls that add items are those of the
-/// kind `K`.
+/// kind `K`. The store `S` is [`Pieces`](crate::fallible::Pieces), or
+/// [`Entries`](crate::fallible::Entries) in [`joined`](crate::fallible::joined).
 ///
 /// # Errors
 ///
@@ -75,10 +76,10 @@ pub trait RecordOf<K>: Encode {}
 /// # Examples
 ///
 /// ```
-/// use dolzhytik::fallible::{CountedSection, ExportKind, ExportSection, Global};
+/// use dolzhytik::fallible::{CountedSection, ExportKind, ExportSection, Global, Store};
 ///
 /// /// Returns whether a section of any kind has entries.
-/// fn has_entries<K>(section: &CountedSection<K>) -> bool {
+/// fn has_entries<K, S: Store>(section: &CountedSection<K, S>) -> bool {
 ///     !section.is_empty()
 /// }
 ///
@@ -89,45 +90,58 @@ pub trait RecordOf<K>: Encode {}
 /// assert_eq!(exports.piece(0), Some(&[1, b'f', 0, 0][..]));
 /// # Ok::<(), dolzhytik::fallible::Refused>(())
 /// ```
-///
-/// # Model
-///
-/// Contracts model it as the bytes of each entry.
 #[derive(Debug)]
-pub struct CountedSection<K, A: Allocator = Global> {
-    pieces: Pieces<A>,
-    kind: PhantomData<K>,
+pub struct CountedSection<K, S: Store = Pieces> {
+    pub(crate) entries: S, pub(crate) kind: PhantomData<K>,
 }
 
-impl<K, A: Allocator> CountedSection<K, A> {
+impl<K, S: Store> CountedSection<K, S> {
     /// Returns the number of entries.
     ///
     /// # Proved
     ///
     /// ```text
-    /// ensures { result ≡ length self.now }
+    /// ensures { result ≡ (S.model.joins self.now).number }
     /// ```
     ///
     /// [How to read clauses](crate::definitions).
     pub fn len(&self) -> u32 {
-        self.pieces.len()
+        self.entries.count()
     }
 
     /// Returns `true` if there are no entries.
     ///
     /// # Proved
     ///
-    /// The result is true exactly if there are no entries.
-    ///
     /// ```text
-    /// ensures { IsTrue result ↔ (length self.now ≡ 0) }
+    /// ensures { IsTrue result ↔ ((S.model.joins self.now).number ≡ 0) }
     /// ```
     ///
     /// [How to read clauses](crate::definitions).
     pub fn is_empty(&self) -> bool {
-        self.pieces.is_empty()
+        self.entries.count() == 0
     }
 
+    /// Adds the encoding of the record as an entry.
+    #[inline(always)]
+    pub(crate) fn add_record<T: Encode>(&mut self, given: &T) -> Result<()> {
+        self.entries.add_item(given)
+    }
+
+    /// Adds an encoding of the item as an entry, and consumes the item.
+    #[inline(always)]
+    pub(crate) fn add_once<T: EncodeOnce>(&mut self, item: T) -> Result<()> {
+        self.entries.add_item_once(item)
+    }
+
+    /// Adds an entry that is already encoded.
+    #[inline(always)]
+    pub(crate) fn add_piece(&mut self, piece: &[u8]) -> Result<()> {
+        self.entries.add_bytes(piece)
+    }
+}
+
+impl<K, A: Allocator> CountedSection<K, Pieces<A>> {
     /// Returns the bytes of the entry at `index`, or `None` if there is no such entry.
     ///
     /// # Proved
@@ -140,40 +154,24 @@ impl<K, A: Allocator> CountedSection<K, A> {
     ///
     /// [How to read clauses](crate::definitions).
     pub fn piece(&self, index: u32) -> Option<&[u8]> {
-        self.pieces.get(index)
-    }
-
-    /// Adds the encoding of the record as an entry.
-    pub(crate) fn add_record<T: Encode>(&mut self, given: &T) -> Result<()> {
-        self.pieces.add_encoded(given)
-    }
-
-    /// Adds an encoding of the item as an entry, and consumes the item.
-    pub(crate) fn add_once<T: EncodeOnce>(&mut self, item: T) -> Result<()> {
-        self.pieces.add_once(item)
-    }
-
-    /// Adds an entry that is already encoded.
-    pub(crate) fn add_piece(&mut self, piece: &[u8]) -> Result<()> {
-        self.pieces.add(piece)
+        let pieces: &Pieces<A> = &self.entries;
+        pieces.get(index)
     }
 }
 
-impl<K, A: Allocator + Copy> CountedSection<K, A> {
+impl<K, S: NewStore> CountedSection<K, S> {
     /// Returns a section without entries, and allocates nothing.
     ///
     /// # Proved
     ///
-    /// The result has no entries.
-    ///
     /// ```text
-    /// ensures { result ≡ [] }
+    /// ensures { result ≡ S.none }
     /// ```
     ///
     /// [How to read clauses](crate::definitions).
-    pub fn new(alloc: A) -> Self {
+    pub fn new(alloc: S::Alloc) -> Self {
         CountedSection {
-            pieces: Pieces::new(alloc),
+            entries: S::new_in(alloc),
             kind: PhantomData,
         }
     }
@@ -196,7 +194,7 @@ impl<K, A: Allocator + Copy> CountedSection<K, A> {
     /// [How to read clauses](crate::definitions).
     pub fn clone(&self) -> Result<Self> {
         Ok(CountedSection {
-            pieces: self.pieces.clone()?,
+            entries: self.entries.copy()?,
             kind: PhantomData,
         })
     }
@@ -207,19 +205,22 @@ impl<K, A: Allocator + Copy> CountedSection<K, A> {
 /// # Defined
 ///
 /// ```text
-/// encoding = { section_encoding }
-/// encodable = { IsEncodableSection }
-/// overlong = { IsOverlong }
+/// encoding = { S.encoding }
+/// encodable = { S.encodable }
+/// overlong = { S.overlong }
 /// decoding = { λ section. DecodesBackBoth (counted_format K.kind.format)
-///     (ContainsItems K.kind section) (ContainsPadded K.kind.format section)
-///     (section_encoding section) }
+///     (λ items. S.model.holds (λ pieces. ContainsItems K.kind pieces items) section)
+///     (λ items. S.model.holds (λ pieces. ContainsPadded K.kind.format pieces items)
+///         section) (S.encoding section) }
 /// ```
 ///
-/// Definitions: [`section_encoding`](crate::definitions::base::pieces::section_encoding), [`IsEncodableSection`](crate::definitions::base::pieces::IsEncodableSection), [`IsOverlong`](crate::definitions::base::pieces::IsOverlong), [`DecodesBackBoth`](crate::definitions::base::calls::DecodesBackBoth), [`counted_format`](crate::definitions::base::entries::counted_format), [`ContainsItems`](crate::definitions::base::entries::ContainsItems), [`ContainsPadded`](crate::definitions::base::entries::ContainsPadded). [How to read clauses](crate::definitions).
-impl<K: ItemKind, A: Allocator> Encode for CountedSection<K, A> {
+/// Definitions: [`DecodesBackBoth`](crate::definitions::base::calls::DecodesBackBoth), [`counted_format`](crate::definitions::base::entries::counted_format), [`ContainsItems`](crate::definitions::base::entries::ContainsItems), [`ContainsPadded`](crate::definitions::base::entries::ContainsPadded). [How to read clauses](crate::definitions).
+impl<K: ItemKind, S: Store> Encode for CountedSection<K, S> {
     fn encode<B: Sink>(&self, sink: &mut B) -> Result<()> {
         K::laws();
-        self.pieces.encode(sink)
+        self.entries.cut::<ItemsOf<K>>();
+        self.entries.cut::<PaddedOf<K>>();
+        self.entries.encode(sink)
     }
 }
 
@@ -229,14 +230,16 @@ impl<K: ItemKind, A: Allocator> Encode for CountedSection<K, A> {
 /// id_of = { λ _. K.section_id }
 /// Items = { List K.Item }
 /// format = { counted_format K.kind.format }
-/// says = { ContainsItems K.kind }
-/// payload = { SectionPayload }
-/// sized = { section_sized }
+/// says = { λ section items. S.model.holds
+///     (λ pieces. ContainsItems K.kind pieces items) section }
+/// payload = { λ section bytes. bytes ≡ joined_payload (S.model.joins section) }
+/// sized = { λ section bytes encodable e. joined_sized (S.model.joins section)
+///     (S.encoding section) bytes (S.encodes section) (S.fits section encodable) e }
 /// decodes_back = { λ section promised. promised.plain }
 /// ```
 ///
-/// Definitions: [`counted_format`](crate::definitions::base::entries::counted_format), [`ContainsItems`](crate::definitions::base::entries::ContainsItems), [`SectionPayload`](crate::definitions::base::pieces::SectionPayload), [`section_sized`](crate::definitions::base::pieces::section_sized). [How to read clauses](crate::definitions).
-impl<K: ItemKind, A: Allocator> Section for CountedSection<K, A> {
+/// Definitions: [`counted_format`](crate::definitions::base::entries::counted_format), [`ContainsItems`](crate::definitions::base::entries::ContainsItems), [`joined_payload`](crate::definitions::base::stores::joined_payload), [`joined_sized`](crate::definitions::base::stores::joined_sized). [How to read clauses](crate::definitions).
+impl<K: ItemKind, S: Store> Section for CountedSection<K, S> {
     fn id(&self) -> u8 {
         K::id()
     }
@@ -252,7 +255,7 @@ impl<K: ItemKind, A: Allocator> Section for CountedSection<K, A> {
 /// ```
 ///
 /// [How to read clauses](crate::definitions).
-impl<K: ItemKind, T: RecordOf<K>, A: Allocator> Counted<T> for CountedSection<K, A> {
+impl<K: ItemKind, T: RecordOf<K>, A: Allocator> Counted<T> for CountedSection<K, Pieces<A>> {
     fn add(&mut self, item: &T) -> Result<()> {
         self.add_record(item)
     }

@@ -4,7 +4,7 @@
 use crate::vec::{Sink, Vec};
 use crate::sections::counted_section::{CountedSection, ItemKind};
 use crate::alloc::{Allocator, Global};
-use crate::base::{DecodeError, Encode, Grammar, Kind, Layout, Lent, ReadFault, Readable, Result, SectionId, Shorten, bytes_of, encode_size_prefixed, read_whole};
+use crate::base::{DecodeError, Encode, Grammar, Kind, Layout, Lent, Pieces, ReadFault, Readable, Result, SectionId, Shorten, Store, bytes_of, encode_size_prefixed, read_whole};
 use crate::code::{ConstExpr, Expression};
 
 /// The data section: segments of bytes that a module copies to memories.
@@ -24,7 +24,7 @@ use crate::code::{ConstExpr, Expression};
 /// # }
 /// # example().unwrap();
 /// ```
-pub type DataSection<A = Global> = CountedSection<DataItems, A>;
+pub type DataSection<A = Global> = CountedSection<DataItems, Pieces<A>>;
 
 /// The kind of a data section's items: segments of bytes.
 ///
@@ -180,7 +180,7 @@ impl ItemKind for DataItems {
 
 /// Adding calls. A segment is a flag, the memory if it is not 0, the offset of an active segment,
 /// and the bytes. Core specification, Binary Format, Modules, Data Section.
-impl<A: Allocator> DataSection<A> {
+impl<S: Store> CountedSection<DataItems, S> {
     /// Adds a segment.
     ///
     /// If there are more than 4294967295 bytes, the call returns `TooLong` and requests none of
@@ -209,7 +209,7 @@ impl<A: Allocator> DataSection<A> {
     /// The section gains one entry with the bytes that the iterator yields, or the call returns an error and changes nothing. It returns `TooLong` if the section is full or the iterator reports more than 2^32 - 1 remaining bytes, and otherwise not.
     ///
     /// ```text
-    /// ensures { AddsBytes D.into_iter_gives D.IntoIter.next_gives D.IntoIter.remaining
+    /// ensures { AddsBytes S.model D.into_iter_gives D.IntoIter.next_gives D.IntoIter.remaining
     ///     segment.entry.bytes (segment_encoding segment.entry.mode) self.old self.new result }
     /// ```
     ///
@@ -273,8 +273,8 @@ impl<A: Allocator> DataSection<A> {
     /// The section gains one entry with the bytes that the iterator yields, or the call returns an error and changes nothing. It returns `TooLong` if the section is full or the iterator reports more than 2^32 - 1 remaining bytes, and otherwise not.
     ///
     /// ```text
-    /// ensures { AddsBytes D.into_iter_gives D.IntoIter.next_gives D.IntoIter.remaining bytes
-    ///     (active_encoding memory_index offset.now) self.old self.new result }
+    /// ensures { AddsBytes S.model D.into_iter_gives D.IntoIter.next_gives D.IntoIter.remaining
+    ///     bytes (active_encoding memory_index offset.now) self.old self.new result }
     /// ```
     ///
     /// Definitions: [`AddsBytes`](crate::definitions::sections::data_segments::AddsBytes), [`active_encoding`](crate::definitions::sections::data_segments::active_encoding). [How to read clauses](crate::definitions).
@@ -333,8 +333,8 @@ impl<A: Allocator> DataSection<A> {
     /// The section gains one entry with the bytes that the iterator yields, or the call returns an error and changes nothing. It returns `TooLong` if the section is full or the iterator reports more than 2^32 - 1 remaining bytes, and otherwise not.
     ///
     /// ```text
-    /// ensures { AddsBytes D.into_iter_gives D.IntoIter.next_gives D.IntoIter.remaining bytes
-    ///     passive_encoding self.old self.new result }
+    /// ensures { AddsBytes S.model D.into_iter_gives D.IntoIter.next_gives D.IntoIter.remaining
+    ///     bytes passive_encoding self.old self.new result }
     /// ```
     ///
     /// Definitions: [`AddsBytes`](crate::definitions::sections::data_segments::AddsBytes), [`passive_encoding`](crate::definitions::sections::data_segments::passive_encoding). [How to read clauses](crate::definitions).
@@ -358,18 +358,18 @@ impl<A: Allocator> DataSection<A> {
     /// The builder gains one entry with this encoding, or the call returns an error and changes nothing. A full builder, with 2^32 - 1 entries, returns `TooLong`.
     ///
     /// ```text
-    /// ensures { Adds segment.now ⊤ self.old self.new result }
+    /// ensures { AddsTo S.model segment.now ⊤ self.old self.new result }
     /// ```
     ///
-    /// Definitions: [`Adds`](crate::definitions::base::calls::Adds). [How to read clauses](crate::definitions).
+    /// Definitions: [`AddsTo`](crate::definitions::base::calls::AddsTo). [How to read clauses](crate::definitions).
     pub fn raw(&mut self, segment: &[u8]) -> Result<()> {
         self.add_piece(segment)
     }
 
     /// Adds a segment that is encoded as `front` and the size-prefixed bytes.
-    fn add_bytes<S: Encode, D: IntoIterator<Item = u8>>(
+    fn add_bytes<F: Encode, D: IntoIterator<Item = u8>>(
         &mut self,
-        front: S,
+        front: F,
         bytes: D,
     ) -> Result<()>
     where

@@ -4,7 +4,7 @@
 use crate::vec::{Sink, Vec};
 use crate::sections::counted_section::{CountedSection, ItemKind};
 use crate::alloc::{Allocator, Global};
-use crate::base::{AbstractHeapType, CowSlice, Encode, HeapType, Kind, Lent, RefType, Result, SectionId};
+use crate::base::{AbstractHeapType, CowSlice, Encode, HeapType, Kind, Lent, Pieces, RefType, Result, SectionId, Store};
 use crate::code::ConstExpr;
 
 /// The element section: segments of references that a module copies to tables.
@@ -25,7 +25,7 @@ use crate::code::ConstExpr;
 /// # }
 /// # example().unwrap();
 /// ```
-pub type ElementSection<A = Global> = CountedSection<ElementItems, A>;
+pub type ElementSection<A = Global> = CountedSection<ElementItems, Pieces<A>>;
 
 /// The kind of an element section's items: segments of references.
 ///
@@ -371,7 +371,7 @@ impl ItemKind for ElementItems {
 }
 
 /// Adding calls. Core specification, Binary Format, Modules, Element Section.
-impl<A: Allocator> ElementSection<A> {
+impl<S: Store> CountedSection<ElementItems, S> {
     /// Adds a segment.
     ///
     /// # Errors
@@ -386,11 +386,11 @@ impl<A: Allocator> ElementSection<A> {
     /// The builder gains one entry with this encoding, or the call returns an error and changes nothing. A full builder, with 2^32 - 1 entries, returns `TooLong`.
     ///
     /// ```text
-    /// ensures { Adds (given_encoding segment.entry)
+    /// ensures { AddsTo S.model (given_encoding segment.entry)
     ///     (AreEncodableElements (list_in segment.entry.elements)) self.old self.new result }
     /// ```
     ///
-    /// Definitions: [`Adds`](crate::definitions::base::calls::Adds), [`given_encoding`](crate::definitions::sections::given_elements::given_encoding), [`AreEncodableElements`](crate::definitions::sections::elements::AreEncodableElements), [`list_in`](crate::definitions::sections::given_elements::list_in). [How to read clauses](crate::definitions).
+    /// Definitions: [`AddsTo`](crate::definitions::base::calls::AddsTo), [`given_encoding`](crate::definitions::sections::given_elements::given_encoding), [`AreEncodableElements`](crate::definitions::sections::elements::AreEncodableElements), [`list_in`](crate::definitions::sections::given_elements::list_in). [How to read clauses](crate::definitions).
     pub fn segment<B: Allocator>(&mut self, segment: ElementSegment<'_, B>) -> Result<()> {
         self.add_record(&segment)
     }
@@ -422,12 +422,13 @@ impl<A: Allocator> ElementSection<A> {
     /// The builder gains one entry with this encoding, or the call returns an error and changes nothing. A full builder, with 2^32 - 1 entries, returns `TooLong`.
     ///
     /// ```text
-    /// ensures { Adds (given_encoding
-    ///         (record { mode = modes.Active table offset.entry; elements = elements.entry }))
+    /// ensures { AddsTo S.model
+    ///     (given_encoding (record { mode = modes.Active table offset.entry;
+    ///                 elements = elements.entry }))
     ///     (AreEncodableElements (list_in elements.entry)) self.old self.new result }
     /// ```
     ///
-    /// Definitions: [`Adds`](crate::definitions::base::calls::Adds), [`given_encoding`](crate::definitions::sections::given_elements::given_encoding), [`AreEncodableElements`](crate::definitions::sections::elements::AreEncodableElements), [`list_in`](crate::definitions::sections::given_elements::list_in). [How to read clauses](crate::definitions).
+    /// Definitions: [`AddsTo`](crate::definitions::base::calls::AddsTo), [`given_encoding`](crate::definitions::sections::given_elements::given_encoding), [`AreEncodableElements`](crate::definitions::sections::elements::AreEncodableElements), [`list_in`](crate::definitions::sections::given_elements::list_in). [How to read clauses](crate::definitions).
     pub fn active<'a, B: Allocator>(
         &mut self,
         table: Option<u32>,
@@ -454,12 +455,12 @@ impl<A: Allocator> ElementSection<A> {
     /// The builder gains one entry with this encoding, or the call returns an error and changes nothing. A full builder, with 2^32 - 1 entries, returns `TooLong`.
     ///
     /// ```text
-    /// ensures { Adds (given_encoding
-    ///         (record { mode = modes.Passive; elements = elements.entry }))
+    /// ensures { AddsTo S.model
+    ///     (given_encoding (record { mode = modes.Passive; elements = elements.entry }))
     ///     (AreEncodableElements (list_in elements.entry)) self.old self.new result }
     /// ```
     ///
-    /// Definitions: [`Adds`](crate::definitions::base::calls::Adds), [`given_encoding`](crate::definitions::sections::given_elements::given_encoding), [`AreEncodableElements`](crate::definitions::sections::elements::AreEncodableElements), [`list_in`](crate::definitions::sections::given_elements::list_in). [How to read clauses](crate::definitions).
+    /// Definitions: [`AddsTo`](crate::definitions::base::calls::AddsTo), [`given_encoding`](crate::definitions::sections::given_elements::given_encoding), [`AreEncodableElements`](crate::definitions::sections::elements::AreEncodableElements), [`list_in`](crate::definitions::sections::given_elements::list_in). [How to read clauses](crate::definitions).
     pub fn passive<B: Allocator>(&mut self, elements: Elements<'_, B>) -> Result<()> {
         self.segment(ElementSegment {
             mode: ElementMode::Passive,
@@ -481,12 +482,12 @@ impl<A: Allocator> ElementSection<A> {
     /// The builder gains one entry with this encoding, or the call returns an error and changes nothing. A full builder, with 2^32 - 1 entries, returns `TooLong`.
     ///
     /// ```text
-    /// ensures { Adds (given_encoding
-    ///         (record { mode = modes.Declared; elements = elements.entry }))
+    /// ensures { AddsTo S.model
+    ///     (given_encoding (record { mode = modes.Declared; elements = elements.entry }))
     ///     (AreEncodableElements (list_in elements.entry)) self.old self.new result }
     /// ```
     ///
-    /// Definitions: [`Adds`](crate::definitions::base::calls::Adds), [`given_encoding`](crate::definitions::sections::given_elements::given_encoding), [`AreEncodableElements`](crate::definitions::sections::elements::AreEncodableElements), [`list_in`](crate::definitions::sections::given_elements::list_in). [How to read clauses](crate::definitions).
+    /// Definitions: [`AddsTo`](crate::definitions::base::calls::AddsTo), [`given_encoding`](crate::definitions::sections::given_elements::given_encoding), [`AreEncodableElements`](crate::definitions::sections::elements::AreEncodableElements), [`list_in`](crate::definitions::sections::given_elements::list_in). [How to read clauses](crate::definitions).
     pub fn declared<B: Allocator>(&mut self, elements: Elements<'_, B>) -> Result<()> {
         self.segment(ElementSegment {
             mode: ElementMode::Declared,
@@ -507,10 +508,10 @@ impl<A: Allocator> ElementSection<A> {
     /// The builder gains one entry with this encoding, or the call returns an error and changes nothing. A full builder, with 2^32 - 1 entries, returns `TooLong`.
     ///
     /// ```text
-    /// ensures { Adds segment.now ⊤ self.old self.new result }
+    /// ensures { AddsTo S.model segment.now ⊤ self.old self.new result }
     /// ```
     ///
-    /// Definitions: [`Adds`](crate::definitions::base::calls::Adds). [How to read clauses](crate::definitions).
+    /// Definitions: [`AddsTo`](crate::definitions::base::calls::AddsTo). [How to read clauses](crate::definitions).
     pub fn raw(&mut self, segment: &[u8]) -> Result<()> {
         self.add_piece(segment)
     }

@@ -4,7 +4,7 @@
 use crate::vec::Sink;
 use crate::sections::counted_section::{CountedSection, ItemKind, RecordOf};
 use crate::alloc::{Allocator, Global};
-use crate::base::{DecodeError, Encode, Grammar, Kind, Layout, ReadFault, Readable, Result, SectionId};
+use crate::base::{DecodeError, Encode, Grammar, Kind, Layout, Pieces, ReadFault, Readable, Result, SectionId, Store};
 
 /// The export section: the items that a module exports.
 ///
@@ -21,7 +21,7 @@ use crate::base::{DecodeError, Encode, Grammar, Kind, Layout, ReadFault, Readabl
 /// # }
 /// # example().unwrap();
 /// ```
-pub type ExportSection<A = Global> = CountedSection<ExportItems, A>;
+pub type ExportSection<A = Global> = CountedSection<ExportItems, Pieces<A>>;
 
 /// The kind of an export section's items: exports.
 ///
@@ -151,7 +151,7 @@ impl ItemKind for ExportItems {
 
 impl RecordOf<ExportItems> for Export<'_> {}
 
-impl<A: Allocator> ExportSection<A> {
+impl<S: Store> CountedSection<ExportItems, S> {
     /// Adds an export.
     ///
     /// # Errors
@@ -166,12 +166,13 @@ impl<A: Allocator> ExportSection<A> {
     /// The builder gains one entry with this encoding, or the call returns an error and changes nothing. A full builder, with 2^32 - 1 entries, returns `TooLong`.
     ///
     /// ```text
-    /// ensures { Adds (size_prefixed_encoding name.now
+    /// ensures { AddsTo S.model
+    ///     (size_prefixed_encoding name.now
     ///         ++ (kind_code kind ∷ [] ++ unsigned_encoding index))
     ///     (HasEncodableSize name.now) self.old self.new result }
     /// ```
     ///
-    /// Definitions: [`Adds`](crate::definitions::base::calls::Adds), [`size_prefixed_encoding`](crate::definitions::base::encodings::size_prefixed_encoding), [`kind_code`](crate::definitions::sections::exports::kind_code), [`unsigned_encoding`](crate::definitions::base::numbers::unsigned_encoding), [`HasEncodableSize`](crate::definitions::base::encodings::HasEncodableSize). [How to read clauses](crate::definitions).
+    /// Definitions: [`AddsTo`](crate::definitions::base::calls::AddsTo), [`size_prefixed_encoding`](crate::definitions::base::encodings::size_prefixed_encoding), [`kind_code`](crate::definitions::sections::exports::kind_code), [`unsigned_encoding`](crate::definitions::base::numbers::unsigned_encoding), [`HasEncodableSize`](crate::definitions::base::encodings::HasEncodableSize). [How to read clauses](crate::definitions).
     pub fn export(&mut self, name: &str, kind: ExportKind, index: u32) -> Result<()> {
         self.add_record(&Export { name, kind, index })
     }

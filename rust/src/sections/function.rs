@@ -3,8 +3,8 @@
 
 use crate::vec::Sink;
 use crate::sections::counted_section::{CountedSection, ItemKind, RecordOf};
-use crate::alloc::{Allocator, Global};
-use crate::base::{Encode, Kind, Result, SectionId};
+use crate::alloc::Global;
+use crate::base::{Encode, Kind, Pieces, Result, SectionId, Store};
 
 /// The function section: the types of the functions that a module defines, in the order of their
 /// bodies.
@@ -22,7 +22,7 @@ use crate::base::{Encode, Kind, Result, SectionId};
 /// # }
 /// # example().unwrap();
 /// ```
-pub type FunctionSection<A = Global> = CountedSection<FunctionItems, A>;
+pub type FunctionSection<A = Global> = CountedSection<FunctionItems, Pieces<A>>;
 
 /// The kind of a function section's items: the index of a type for each function.
 ///
@@ -94,7 +94,7 @@ impl Encode for TypeIndex {
     }
 }
 
-impl<A: Allocator> FunctionSection<A> {
+impl<S: Store> CountedSection<FunctionItems, S> {
     /// Adds a function of the type of this index.
     ///
     /// # Errors
@@ -108,10 +108,10 @@ impl<A: Allocator> FunctionSection<A> {
     /// The builder gains one entry with this encoding, or the call returns an error and changes nothing. A full builder, with 2^32 - 1 entries, returns `TooLong`.
     ///
     /// ```text
-    /// ensures { Adds (unsigned_encoding type_index) ⊤ self.old self.new result }
+    /// ensures { AddsTo S.model (unsigned_encoding type_index) ⊤ self.old self.new result }
     /// ```
     ///
-    /// Definitions: [`Adds`](crate::definitions::base::calls::Adds), [`unsigned_encoding`](crate::definitions::base::numbers::unsigned_encoding). [How to read clauses](crate::definitions).
+    /// Definitions: [`AddsTo`](crate::definitions::base::calls::AddsTo), [`unsigned_encoding`](crate::definitions::base::numbers::unsigned_encoding). [How to read clauses](crate::definitions).
     pub fn function(&mut self, type_index: u32) -> Result<()> {
         self.add_record(&TypeIndex { index: type_index })
     }

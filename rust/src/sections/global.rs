@@ -5,7 +5,7 @@ use crate::vec::Sink;
 use crate::sections::counted_section::{CountedSection, ItemKind};
 use crate::sections::flags::where_set;
 use crate::alloc::{Allocator, Global};
-use crate::base::{DecodeError, Encode, Grammar, Kind, Layout, Lent, ReadFault, Readable, Result, SectionId, Shorten, ValType};
+use crate::base::{DecodeError, Encode, Grammar, Kind, Layout, Lent, Pieces, ReadFault, Readable, Result, SectionId, Shorten, Store, ValType};
 use crate::code::{ConstExpr, Expression};
 
 /// The global section: the globals that a module defines.
@@ -26,7 +26,7 @@ use crate::code::{ConstExpr, Expression};
 /// # }
 /// # example().unwrap();
 /// ```
-pub type GlobalSection<A = Global> = CountedSection<GlobalItems, A>;
+pub type GlobalSection<A = Global> = CountedSection<GlobalItems, Pieces<A>>;
 
 /// The kind of a global section's items: types of globals, each with an initializer expression.
 ///
@@ -119,7 +119,7 @@ impl ItemKind for GlobalItems {
     }
 }
 
-impl<A: Allocator> GlobalSection<A> {
+impl<S: Store> CountedSection<GlobalItems, S> {
     /// Adds a global of this type, initialized by the expression.
     ///
     /// # Errors
@@ -133,11 +133,12 @@ impl<A: Allocator> GlobalSection<A> {
     /// The builder gains one entry with this encoding, or the call returns an error and changes nothing. A full builder, with 2^32 - 1 entries, returns `TooLong`.
     ///
     /// ```text
-    /// ensures { Adds (global_encoding global_type ++ expression_encoding init.now) ⊤ self.old
-    ///     self.new result }
+    /// ensures { AddsTo S.model
+    ///     (global_encoding global_type ++ expression_encoding init.now) ⊤ self.old self.new
+    ///     result }
     /// ```
     ///
-    /// Definitions: [`Adds`](crate::definitions::base::calls::Adds), [`global_encoding`](crate::definitions::sections::globals::global_encoding), [`expression_encoding`](crate::definitions::code::expressions::expression_encoding). [How to read clauses](crate::definitions).
+    /// Definitions: [`AddsTo`](crate::definitions::base::calls::AddsTo), [`global_encoding`](crate::definitions::sections::globals::global_encoding), [`expression_encoding`](crate::definitions::code::expressions::expression_encoding). [How to read clauses](crate::definitions).
     pub fn global<B: Allocator>(
         &mut self,
         global_type: GlobalType,
@@ -159,10 +160,10 @@ impl<A: Allocator> GlobalSection<A> {
     /// The builder gains one entry with this encoding, or the call returns an error and changes nothing. A full builder, with 2^32 - 1 entries, returns `TooLong`.
     ///
     /// ```text
-    /// ensures { Adds global.now ⊤ self.old self.new result }
+    /// ensures { AddsTo S.model global.now ⊤ self.old self.new result }
     /// ```
     ///
-    /// Definitions: [`Adds`](crate::definitions::base::calls::Adds). [How to read clauses](crate::definitions).
+    /// Definitions: [`AddsTo`](crate::definitions::base::calls::AddsTo). [How to read clauses](crate::definitions).
     pub fn raw(&mut self, global: &[u8]) -> Result<()> {
         self.add_piece(global)
     }

@@ -8,7 +8,7 @@ use crate::sections::memory::MemoryType;
 use crate::sections::table::TableType;
 use crate::sections::tag::TagType;
 use crate::alloc::{Allocator, Global};
-use crate::base::{CORE_FUNCTION_EXACT_SORT, CORE_FUNCTION_SORT, CORE_GLOBAL_SORT, CORE_MEMORY_SORT, CORE_TABLE_SORT, CORE_TAG_SORT, CowSlice, DecodeError, Encode, Grammar, Kind, Layout, ReadFault, Readable, Result, SectionId, read_whole};
+use crate::base::{CORE_FUNCTION_EXACT_SORT, CORE_FUNCTION_SORT, CORE_GLOBAL_SORT, CORE_MEMORY_SORT, CORE_TABLE_SORT, CORE_TAG_SORT, CowSlice, DecodeError, Encode, Grammar, Kind, Layout, Pieces, ReadFault, Readable, Result, SectionId, Store, read_whole};
 
 /// The import section: the items that a module imports.
 ///
@@ -25,7 +25,7 @@ use crate::base::{CORE_FUNCTION_EXACT_SORT, CORE_FUNCTION_SORT, CORE_GLOBAL_SORT
 /// # }
 /// # example().unwrap();
 /// ```
-pub type ImportSection<A = Global> = CountedSection<ImportItems, A>;
+pub type ImportSection<A = Global> = CountedSection<ImportItems, Pieces<A>>;
 
 /// The kind of an import section's items: imports and groups of imports, each of which is one
 /// entry.
@@ -370,7 +370,7 @@ impl ItemKind for ImportItems {
 
 impl RecordOf<ImportItems> for Import<'_> {}
 
-impl<A: Allocator> ImportSection<A> {
+impl<S: Store> CountedSection<ImportItems, S> {
     /// Adds an import.
     ///
     /// # Errors
@@ -397,13 +397,14 @@ impl<A: Allocator> ImportSection<A> {
     /// The builder gains one entry with this encoding, or the call returns an error and changes nothing. A full builder, with 2^32 - 1 entries, returns `TooLong`.
     ///
     /// ```text
-    /// ensures { Adds (size_prefixed_encoding «module».now
+    /// ensures { AddsTo S.model
+    ///     (size_prefixed_encoding «module».now
     ///         ++ (size_prefixed_encoding name.now ++ entity_encoding ty))
     ///     (HasEncodableSize «module».now × HasEncodableSize name.now) self.old self.new result
     ///     }
     /// ```
     ///
-    /// Definitions: [`Adds`](crate::definitions::base::calls::Adds), [`size_prefixed_encoding`](crate::definitions::base::encodings::size_prefixed_encoding), [`entity_encoding`](crate::definitions::sections::imports::entity_encoding), [`HasEncodableSize`](crate::definitions::base::encodings::HasEncodableSize). [How to read clauses](crate::definitions).
+    /// Definitions: [`AddsTo`](crate::definitions::base::calls::AddsTo), [`size_prefixed_encoding`](crate::definitions::base::encodings::size_prefixed_encoding), [`entity_encoding`](crate::definitions::sections::imports::entity_encoding), [`HasEncodableSize`](crate::definitions::base::encodings::HasEncodableSize). [How to read clauses](crate::definitions).
     pub fn import(&mut self, module: &str, name: &str, ty: EntityType) -> Result<()> {
         self.add_record(&Import { module, name, ty })
     }
@@ -422,12 +423,12 @@ impl<A: Allocator> ImportSection<A> {
     /// The builder gains one entry with this encoding, or the call returns an error and changes nothing. A full builder, with 2^32 - 1 entries, returns `TooLong`.
     ///
     /// ```text
-    /// ensures { Adds (import_encoding (imports_item imports.entry))
+    /// ensures { AddsTo S.model (import_encoding (imports_item imports.entry))
     ///     (IsEncodableImport (imports_item imports.entry)) self.old self.new result }
     /// ```
     ///
-    /// Definitions: [`Adds`](crate::definitions::base::calls::Adds), [`import_encoding`](crate::definitions::sections::imports::import_encoding), [`imports_item`](crate::definitions::sections::imports::imports_item), [`IsEncodableImport`](crate::definitions::sections::imports::IsEncodableImport). [How to read clauses](crate::definitions).
-    pub fn imports(&mut self, imports: Imports<'_, A>) -> Result<()> {
+    /// Definitions: [`AddsTo`](crate::definitions::base::calls::AddsTo), [`import_encoding`](crate::definitions::sections::imports::import_encoding), [`imports_item`](crate::definitions::sections::imports::imports_item), [`IsEncodableImport`](crate::definitions::sections::imports::IsEncodableImport). [How to read clauses](crate::definitions).
+    pub fn imports(&mut self, imports: Imports<'_, S::Alloc>) -> Result<()> {
         self.add_record(&imports)
     }
 }

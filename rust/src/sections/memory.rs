@@ -5,7 +5,7 @@ use crate::vec::Sink;
 use crate::sections::counted_section::{CountedSection, ItemKind, RecordOf};
 use crate::sections::flags::where_set;
 use crate::alloc::{Allocator, Global};
-use crate::base::{DecodeError, Encode, Grammar, Kind, Layout, Optional, ReadFault, Readable, Result, SectionId, read_optional};
+use crate::base::{DecodeError, Encode, Grammar, Kind, Layout, Optional, Pieces, ReadFault, Readable, Result, SectionId, Store, read_optional};
 
 /// The memory section: the memories that a module defines.
 ///
@@ -28,7 +28,7 @@ use crate::base::{DecodeError, Encode, Grammar, Kind, Layout, Optional, ReadFaul
 /// # }
 /// # example().unwrap();
 /// ```
-pub type MemorySection<A = Global> = CountedSection<MemoryItems, A>;
+pub type MemorySection<A = Global> = CountedSection<MemoryItems, Pieces<A>>;
 
 /// The kind of a memory section's items: memory types.
 ///
@@ -179,7 +179,7 @@ impl ItemKind for MemoryItems {
 
 impl RecordOf<MemoryItems> for MemoryType {}
 
-impl<A: Allocator> MemorySection<A> {
+impl<S: Store> CountedSection<MemoryItems, S> {
     /// Adds a memory of this type.
     ///
     /// # Errors
@@ -193,10 +193,10 @@ impl<A: Allocator> MemorySection<A> {
     /// The builder gains one entry with this encoding, or the call returns an error and changes nothing. A full builder, with 2^32 - 1 entries, returns `TooLong`.
     ///
     /// ```text
-    /// ensures { Adds (memory_encoding memory_type) ⊤ self.old self.new result }
+    /// ensures { AddsTo S.model (memory_encoding memory_type) ⊤ self.old self.new result }
     /// ```
     ///
-    /// Definitions: [`Adds`](crate::definitions::base::calls::Adds), [`memory_encoding`](crate::definitions::sections::memories::memory_encoding). [How to read clauses](crate::definitions).
+    /// Definitions: [`AddsTo`](crate::definitions::base::calls::AddsTo), [`memory_encoding`](crate::definitions::sections::memories::memory_encoding). [How to read clauses](crate::definitions).
     pub fn memory(&mut self, memory_type: MemoryType) -> Result<()> {
         self.add_record(&memory_type)
     }

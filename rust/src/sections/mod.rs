@@ -14,6 +14,7 @@ pub(crate) mod flags;
 pub(crate) mod function;
 pub(crate) mod global;
 pub(crate) mod import;
+pub mod joined;
 pub mod laws;
 pub(crate) mod memory;
 pub(crate) mod start;

@@ -6,7 +6,7 @@ use crate::sections::counted_section::{CountedSection, ItemKind, RecordOf};
 use crate::sections::flags::where_set;
 use crate::sections::memory::Flags;
 use crate::alloc::{Allocator, Global};
-use crate::base::{DecodeError, Encode, Grammar, Kind, Layout, Lent, Optional, ReadFault, Readable, RefType, Result, SectionId, Shorten, ValType, read_optional};
+use crate::base::{DecodeError, Encode, Grammar, Kind, Layout, Lent, Optional, Pieces, ReadFault, Readable, RefType, Result, SectionId, Shorten, Store, ValType, read_optional};
 use crate::code::{ConstExpr, Expression};
 
 /// The table section: the tables that a module defines.
@@ -34,7 +34,7 @@ use crate::code::{ConstExpr, Expression};
 /// # }
 /// # example().unwrap();
 /// ```
-pub type TableSection<A = Global> = CountedSection<TableItems, A>;
+pub type TableSection<A = Global> = CountedSection<TableItems, Pieces<A>>;
 
 /// The kind of a table section's items: table types, some with an initializer expression.
 ///
@@ -161,7 +161,7 @@ impl ItemKind for TableItems {
 
 impl RecordOf<TableItems> for TableType {}
 
-impl<A: Allocator> TableSection<A> {
+impl<S: Store> CountedSection<TableItems, S> {
     /// Adds a table of this type, whose elements are initially null.
     ///
     /// # Errors
@@ -175,10 +175,10 @@ impl<A: Allocator> TableSection<A> {
     /// The builder gains one entry with this encoding, or the call returns an error and changes nothing. A full builder, with 2^32 - 1 entries, returns `TooLong`.
     ///
     /// ```text
-    /// ensures { Adds (table_encoding table_type) ⊤ self.old self.new result }
+    /// ensures { AddsTo S.model (table_encoding table_type) ⊤ self.old self.new result }
     /// ```
     ///
-    /// Definitions: [`Adds`](crate::definitions::base::calls::Adds), [`table_encoding`](crate::definitions::sections::tables::table_encoding). [How to read clauses](crate::definitions).
+    /// Definitions: [`AddsTo`](crate::definitions::base::calls::AddsTo), [`table_encoding`](crate::definitions::sections::tables::table_encoding). [How to read clauses](crate::definitions).
     pub fn table(&mut self, table_type: TableType) -> Result<()> {
         self.add_record(&table_type)
     }
@@ -217,12 +217,12 @@ impl<A: Allocator> TableSection<A> {
     /// The builder gains one entry with this encoding, or the call returns an error and changes nothing. A full builder, with 2^32 - 1 entries, returns `TooLong`.
     ///
     /// ```text
-    /// ensures { Adds (before_init
-    ///         ++ (table_encoding table_type ++ expression_encoding init.now)) ⊤ self.old
-    ///     self.new result }
+    /// ensures { AddsTo S.model
+    ///     (before_init ++ (table_encoding table_type ++ expression_encoding init.now)) ⊤
+    ///     self.old self.new result }
     /// ```
     ///
-    /// Definitions: [`Adds`](crate::definitions::base::calls::Adds), [`before_init`](crate::definitions::sections::tables::before_init), [`table_encoding`](crate::definitions::sections::tables::table_encoding), [`expression_encoding`](crate::definitions::code::expressions::expression_encoding). [How to read clauses](crate::definitions).
+    /// Definitions: [`AddsTo`](crate::definitions::base::calls::AddsTo), [`before_init`](crate::definitions::sections::tables::before_init), [`table_encoding`](crate::definitions::sections::tables::table_encoding), [`expression_encoding`](crate::definitions::code::expressions::expression_encoding). [How to read clauses](crate::definitions).
     pub fn table_with_init<B: Allocator>(
         &mut self,
         table_type: TableType,

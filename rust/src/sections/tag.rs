@@ -4,7 +4,7 @@
 use crate::vec::Sink;
 use crate::sections::counted_section::{CountedSection, ItemKind, RecordOf};
 use crate::alloc::{Allocator, Global};
-use crate::base::{DecodeError, Encode, Grammar, Kind, Layout, ReadFault, Readable, Result, SectionId};
+use crate::base::{DecodeError, Encode, Grammar, Kind, Layout, Pieces, ReadFault, Readable, Result, SectionId, Store};
 
 /// The tag section: the tags that a module defines.
 ///
@@ -21,7 +21,7 @@ use crate::base::{DecodeError, Encode, Grammar, Kind, Layout, ReadFault, Readabl
 /// # }
 /// # example().unwrap();
 /// ```
-pub type TagSection<A = Global> = CountedSection<TagItems, A>;
+pub type TagSection<A = Global> = CountedSection<TagItems, Pieces<A>>;
 
 /// The kind of a tag section's items: tag types.
 ///
@@ -136,7 +136,7 @@ impl ItemKind for TagItems {
 
 impl RecordOf<TagItems> for TagType {}
 
-impl<A: Allocator> TagSection<A> {
+impl<S: Store> CountedSection<TagItems, S> {
     /// Adds a tag of this type.
     ///
     /// # Errors
@@ -150,10 +150,10 @@ impl<A: Allocator> TagSection<A> {
     /// The builder gains one entry with this encoding, or the call returns an error and changes nothing. A full builder, with 2^32 - 1 entries, returns `TooLong`.
     ///
     /// ```text
-    /// ensures { Adds (tag_encoding tag_type) ⊤ self.old self.new result }
+    /// ensures { AddsTo S.model (tag_encoding tag_type) ⊤ self.old self.new result }
     /// ```
     ///
-    /// Definitions: [`Adds`](crate::definitions::base::calls::Adds), [`tag_encoding`](crate::definitions::sections::tags::tag_encoding). [How to read clauses](crate::definitions).
+    /// Definitions: [`AddsTo`](crate::definitions::base::calls::AddsTo), [`tag_encoding`](crate::definitions::sections::tags::tag_encoding). [How to read clauses](crate::definitions).
     pub fn tag(&mut self, tag_type: TagType) -> Result<()> {
         self.add_record(&tag_type)
     }

@@ -7,6 +7,7 @@
 
 pub(crate) mod fields;
 pub(crate) mod items;
+pub mod joined;
 pub mod laws;
 pub(crate) mod shapes;
 pub(crate) mod type_section;
@@ -14,7 +15,7 @@ pub(crate) mod types;
 pub(crate) mod walk;
 
 pub(crate) use items::{SubItem, TypeEntry};
-pub use type_section::{CoreTypeEncoder, TypeItems, append_types, read_types};
+pub use type_section::{CoreTypeEncoder, CoreTypeEncoderIn, TypeItems, TypeSectionIn, append_types, read_types};
 #[doc(alias = "signature")]
 #[doc(alias = "rectype")]
 pub use type_section::TypeSection;

@@ -5,7 +5,7 @@ use crate::vec::{Sink, Vec};
 use crate::types::items::TypeEntry;
 use crate::types::types::{ARRAY, ContType, FUNC, FieldType, FuncType, STRUCT, StorageType, SubType};
 use crate::alloc::{Allocator, Global};
-use crate::base::{Counted, DecodeError, Encode, Grammar, Kind, Pieces, Result, Section, SectionId, ValType, read_whole, vec_of};
+use crate::base::{Counted, DecodeError, Encode, Grammar, ItemsOf, Kind, NewStore, PaddedOf, Pieces, Result, Section, SectionId, Store, ValType, read_whole, vec_of};
 
 /// The type section: the types that a module defines.
 ///
@@ -23,17 +23,37 @@ use crate::base::{Counted, DecodeError, Encode, Grammar, Kind, Pieces, Result, S
 /// # example().unwrap();
 /// ```
 ///
+/// # Model
+///
+/// Contracts model it as the bytes of each entry.
+pub type TypeSection<A = Global> = TypeSectionIn<Pieces<A>>;
+
+/// A type section, whose entries a store of the type `S` keeps.
+///
+/// [`TypeSection`](crate::fallible::TypeSection) is the one that also keeps where its entries
+/// end.
+///
 /// # Errors
 ///
 /// An adding call that returns an error leaves the section unchanged. The error is `TooLong` only
 /// if the section is full or a list is too long, and `Memory` only if an allocation fails.
 ///
-/// # Model
+/// # Examples
 ///
-/// Contracts model it as the bytes of each entry.
+/// ```
+/// use dolzhytik::fallible::{Encode, Entries, Global, TypeSectionIn, ValType};
+///
+/// let mut types = TypeSectionIn::<Entries>::new(Global);
+/// types.ty().function([ValType::I32], [])?;
+/// let mut bytes = Vec::new();
+/// types.encode(&mut bytes)?;
+/// // Size 5, one type: a function (60) of one parameter, i32 (7F), and no results.
+/// assert_eq!(bytes, [5, 1, 0x60, 1, 0x7F, 0]);
+/// # Ok::<(), dolzhytik::fallible::Refused>(())
+/// ```
 #[derive(Debug)]
-pub struct TypeSection<A: Allocator = Global> {
-    pieces: Pieces<A>,
+pub struct TypeSectionIn<S: Store = Pieces> {
+    pub(crate) entries: S,
 }
 
 /// The kind of a type section's items: subtypes and recursion groups.
@@ -64,48 +84,31 @@ impl Kind for TypeItems {
     fn laws() {}
 }
 
-impl<A: Allocator> TypeSection<A> {
+impl<S: Store> TypeSectionIn<S> {
     /// Returns the number of entries.
     ///
     /// # Proved
     ///
     /// ```text
-    /// ensures { result ≡ length self.now }
+    /// ensures { result ≡ (S.model.joins self.now).number }
     /// ```
     ///
     /// [How to read clauses](crate::definitions).
     pub fn len(&self) -> u32 {
-        self.pieces.len()
+        self.entries.count()
     }
 
     /// Returns `true` if there are no entries.
     ///
     /// # Proved
     ///
-    /// The result is true exactly if there are no entries.
-    ///
     /// ```text
-    /// ensures { IsTrue result ↔ (length self.now ≡ 0) }
+    /// ensures { IsTrue result ↔ ((S.model.joins self.now).number ≡ 0) }
     /// ```
     ///
     /// [How to read clauses](crate::definitions).
     pub fn is_empty(&self) -> bool {
-        self.pieces.is_empty()
-    }
-
-    /// Returns the bytes of the entry at `index`, or `None` if there is no such entry.
-    ///
-    /// # Proved
-    ///
-    /// The result is the entry at `index`, if there is one.
-    ///
-    /// ```text
-    /// ensures { option_copied result ≡ slice_get self.now index }
-    /// ```
-    ///
-    /// [How to read clauses](crate::definitions).
-    pub fn piece(&self, index: u32) -> Option<&[u8]> {
-        self.pieces.get(index)
+        self.entries.count() == 0
     }
 
     /// Adds an entry that is already encoded. The call does not check that it is a type or a
@@ -122,12 +125,12 @@ impl<A: Allocator> TypeSection<A> {
     /// The builder gains one entry with this encoding, or the call returns an error and changes nothing. A full builder, with 2^32 - 1 entries, returns `TooLong`.
     ///
     /// ```text
-    /// ensures { Adds entry.now ⊤ self.old self.new result }
+    /// ensures { AddsTo S.model entry.now ⊤ self.old self.new result }
     /// ```
     ///
-    /// Definitions: [`Adds`](crate::definitions::base::calls::Adds). [How to read clauses](crate::definitions).
+    /// Definitions: [`AddsTo`](crate::definitions::base::calls::AddsTo). [How to read clauses](crate::definitions).
     pub fn raw(&mut self, entry: &[u8]) -> Result<()> {
-        self.pieces.add(entry)
+        self.entries.add_bytes(entry)
     }
 
     /// Returns an encoder that adds one type. If none of its methods is called, nothing is added.
@@ -140,26 +143,41 @@ impl<A: Allocator> TypeSection<A> {
     /// ```
     ///
     /// [How to read clauses](crate::definitions).
-    pub fn ty(&mut self) -> CoreTypeEncoder<'_, A> {
-        CoreTypeEncoder { section: self }
+    pub fn ty(&mut self) -> CoreTypeEncoderIn<'_, S> {
+        CoreTypeEncoderIn { section: self }
     }
 }
 
-impl<A: Allocator + Copy> TypeSection<A> {
+impl<A: Allocator> TypeSection<A> {
+    /// Returns the bytes of the entry at `index`, or `None` if there is no such entry.
+    ///
+    /// # Proved
+    ///
+    /// The result is the entry at `index`, if there is one.
+    ///
+    /// ```text
+    /// ensures { option_copied result ≡ slice_get self.now index }
+    /// ```
+    ///
+    /// [How to read clauses](crate::definitions).
+    pub fn piece(&self, index: u32) -> Option<&[u8]> {
+        self.entries.get(index)
+    }
+}
+
+impl<S: NewStore> TypeSectionIn<S> {
     /// Returns a section without entries, and allocates nothing.
     ///
     /// # Proved
     ///
-    /// The result has no entries.
-    ///
     /// ```text
-    /// ensures { result ≡ [] }
+    /// ensures { result ≡ S.none }
     /// ```
     ///
     /// [How to read clauses](crate::definitions).
-    pub fn new(alloc: A) -> Self {
-        TypeSection {
-            pieces: Pieces::new(alloc),
+    pub fn new(alloc: S::Alloc) -> Self {
+        TypeSectionIn {
+            entries: S::new_in(alloc),
         }
     }
 
@@ -180,8 +198,8 @@ impl<A: Allocator + Copy> TypeSection<A> {
     ///
     /// [How to read clauses](crate::definitions).
     pub fn clone(&self) -> Result<Self> {
-        Ok(TypeSection {
-            pieces: self.pieces.clone()?,
+        Ok(TypeSectionIn {
+            entries: self.entries.copy()?,
         })
     }
 }
@@ -191,19 +209,22 @@ impl<A: Allocator + Copy> TypeSection<A> {
 /// # Defined
 ///
 /// ```text
-/// encoding = { section_encoding }
-/// encodable = { IsEncodableSection }
-/// overlong = { IsOverlong }
+/// encoding = { S.encoding }
+/// encodable = { S.encodable }
+/// overlong = { S.overlong }
 /// decoding = { λ section. DecodesBackBoth (counted_format type_item)
-///     (ContainsTypes section) (ContainsPadded type_item section)
-///     (section_encoding section) }
+///     (λ items. S.model.holds (λ pieces. ContainsTypes pieces items) section)
+///     (λ items. S.model.holds (λ pieces. ContainsPadded type_item pieces items) section)
+///     (S.encoding section) }
 /// ```
 ///
-/// Definitions: [`section_encoding`](crate::definitions::base::pieces::section_encoding), [`IsEncodableSection`](crate::definitions::base::pieces::IsEncodableSection), [`IsOverlong`](crate::definitions::base::pieces::IsOverlong), [`DecodesBackBoth`](crate::definitions::base::calls::DecodesBackBoth), [`counted_format`](crate::definitions::base::entries::counted_format), [`type_item`](crate::definitions::types::rec_types::type_item), [`ContainsTypes`](crate::definitions::types::rec_types::ContainsTypes), [`ContainsPadded`](crate::definitions::base::entries::ContainsPadded). [How to read clauses](crate::definitions).
-impl<A: Allocator> Encode for TypeSection<A> {
+/// Definitions: [`DecodesBackBoth`](crate::definitions::base::calls::DecodesBackBoth), [`counted_format`](crate::definitions::base::entries::counted_format), [`type_item`](crate::definitions::types::rec_types::type_item), [`ContainsTypes`](crate::definitions::types::rec_types::ContainsTypes), [`ContainsPadded`](crate::definitions::base::entries::ContainsPadded). [How to read clauses](crate::definitions).
+impl<S: Store> Encode for TypeSectionIn<S> {
     fn encode<B: Sink>(&self, sink: &mut B) -> Result<()> {
         TypeItems::laws();
-        self.pieces.encode(sink)
+        self.entries.cut::<ItemsOf<TypeItems>>();
+        self.entries.cut::<PaddedOf<TypeItems>>();
+        self.entries.encode(sink)
     }
 }
 
@@ -213,14 +234,15 @@ impl<A: Allocator> Encode for TypeSection<A> {
 /// id_of = { λ _. number_of ids.Types }
 /// Items = { List Item }
 /// format = { counted_format type_item }
-/// says = { ContainsTypes }
-/// payload = { SectionPayload }
-/// sized = { section_sized }
+/// says = { λ section items. S.model.holds (λ pieces. ContainsTypes pieces items) section }
+/// payload = { λ section bytes. bytes ≡ joined_payload (S.model.joins section) }
+/// sized = { λ section bytes encodable e. joined_sized (S.model.joins section)
+///     (S.encoding section) bytes (S.encodes section) (S.fits section encodable) e }
 /// decodes_back = { λ section promised. promised.plain }
 /// ```
 ///
-/// Definitions: [`number_of`](crate::definitions::base::section_id::number_of), [`Item`](crate::definitions::types::rec_types::TypeItem), [`counted_format`](crate::definitions::base::entries::counted_format), [`type_item`](crate::definitions::types::rec_types::type_item), [`ContainsTypes`](crate::definitions::types::rec_types::ContainsTypes), [`SectionPayload`](crate::definitions::base::pieces::SectionPayload), [`section_sized`](crate::definitions::base::pieces::section_sized). [How to read clauses](crate::definitions).
-impl<A: Allocator> Section for TypeSection<A> {
+/// Definitions: [`number_of`](crate::definitions::base::section_id::number_of), [`Item`](crate::definitions::types::rec_types::TypeItem), [`counted_format`](crate::definitions::base::entries::counted_format), [`type_item`](crate::definitions::types::rec_types::type_item), [`ContainsTypes`](crate::definitions::types::rec_types::ContainsTypes), [`joined_payload`](crate::definitions::base::stores::joined_payload), [`joined_sized`](crate::definitions::base::stores::joined_sized). [How to read clauses](crate::definitions).
+impl<S: Store> Section for TypeSectionIn<S> {
     fn id(&self) -> u8 {
         SectionId::Types.into()
     }
@@ -240,12 +262,36 @@ impl<A: Allocator> Section for TypeSection<A> {
 /// Definitions: [`entry_encoding`](crate::definitions::types::items::entry_encoding), [`IsEncodableEntry`](crate::definitions::types::items::IsEncodableEntry). [How to read clauses](crate::definitions).
 impl<A: Allocator, B: Allocator> Counted<TypeEntry<B>> for TypeSection<A> {
     fn add(&mut self, item: &TypeEntry<B>) -> Result<()> {
-        self.pieces.add_encoded(item)
+        self.entries.add_encoded(item)
     }
 }
 
 /// Adds one type to a section that it borrows. A call that returns an error leaves the section
 /// unchanged.
+///
+/// [`TypeSection::ty`](crate::fallible::TypeSection::ty) returns it.
+///
+/// # Examples
+///
+/// ```
+/// use dolzhytik::fallible::{CoreTypeEncoderIn, Global, Refused, Store, TypeSection, ValType};
+///
+/// fn procedure<S: Store>(ty: CoreTypeEncoderIn<'_, S>) -> Result<(), Refused> {
+///     ty.function([], [])
+/// }
+///
+/// let mut types = TypeSection::new(Global);
+/// procedure(types.ty())?;
+/// // A function (60) without parameters and results.
+/// assert_eq!(types.piece(0), Some(&[0x60, 0, 0][..]));
+/// # Ok::<(), dolzhytik::fallible::Refused>(())
+/// ```
+#[derive(Debug)]
+pub struct CoreTypeEncoderIn<'a, S: Store = Pieces> {
+    pub(crate) section: &'a mut TypeSectionIn<S>,
+}
+
+/// Adds one type to a [`TypeSection`] that it borrows.
 ///
 /// [`TypeSection::ty`](crate::fallible::TypeSection::ty) returns it. Each of its calls adds one
 /// entry.
@@ -261,12 +307,9 @@ impl<A: Allocator, B: Allocator> Counted<TypeEntry<B>> for TypeSection<A> {
 /// assert_eq!(types.piece(0), Some(&[0x60, 1, 0x7F, 0][..]));
 /// # Ok::<(), dolzhytik::fallible::Refused>(())
 /// ```
-#[derive(Debug)]
-pub struct CoreTypeEncoder<'a, A: Allocator = Global> {
-    section: &'a mut TypeSection<A>,
-}
+pub type CoreTypeEncoder<'a, A = Global> = CoreTypeEncoderIn<'a, Pieces<A>>;
 
-impl<'a, A: Allocator> CoreTypeEncoder<'a, A> {
+impl<'a, S: Store> CoreTypeEncoderIn<'a, S> {
     /// Adds a function type.
     ///
     /// # Errors
@@ -281,16 +324,16 @@ impl<'a, A: Allocator> CoreTypeEncoder<'a, A> {
     /// The builder gains one entry with this encoding, or the call returns an error and changes nothing. A full builder, with 2^32 - 1 entries, returns `TooLong`.
     ///
     /// ```text
-    /// ensures { Adds (func_encoding ty.now.params.items ty.now.results.items)
+    /// ensures { AddsTo S.model (func_encoding ty.now.params.items ty.now.results.items)
     ///     (IsEncodableVec (λ _. ⊤) ty.now.params.items
     ///         × IsEncodableVec (λ _. ⊤) ty.now.results.items) self.entry.section.now
     ///     self.exit.0.now result }
     /// ```
     ///
-    /// Definitions: [`Adds`](crate::definitions::base::calls::Adds), [`func_encoding`](crate::definitions::types::rec_types::func_encoding), [`IsEncodableVec`](crate::definitions::base::encodings::IsEncodableVec). [How to read clauses](crate::definitions).
+    /// Definitions: [`AddsTo`](crate::definitions::base::calls::AddsTo), [`func_encoding`](crate::definitions::types::rec_types::func_encoding), [`IsEncodableVec`](crate::definitions::base::encodings::IsEncodableVec). [How to read clauses](crate::definitions).
     pub fn func_type<B: Allocator>(self, ty: &FuncType<B>) -> Result<()> {
         let section = self.section;
-        section.pieces.add_encoded(ty)
+        section.entries.add_item(ty)
     }
 
     /// Adds an array type.
@@ -318,19 +361,19 @@ impl<'a, A: Allocator> CoreTypeEncoder<'a, A> {
     /// The builder gains one entry with this encoding, or the call returns an error and changes nothing. A full builder, with 2^32 - 1 entries, returns `TooLong`.
     ///
     /// ```text
-    /// ensures { Adds (0x5E ∷ field_encoding
-    ///         (record { element_type = ty.now; mutable = mutable })) ⊤ self.entry.section.now
-    ///     self.exit.0.now result }
+    /// ensures { AddsTo S.model
+    ///     (0x5E ∷ field_encoding (record { element_type = ty.now; mutable = mutable })) ⊤
+    ///     self.entry.section.now self.exit.0.now result }
     /// ```
     ///
-    /// Definitions: [`Adds`](crate::definitions::base::calls::Adds), [`field_encoding`](crate::definitions::types::rec_types::field_encoding). [How to read clauses](crate::definitions).
+    /// Definitions: [`AddsTo`](crate::definitions::base::calls::AddsTo), [`field_encoding`](crate::definitions::types::rec_types::field_encoding). [How to read clauses](crate::definitions).
     pub fn array(self, ty: &StorageType, mutable: bool) -> Result<()> {
         let element = FieldType {
             element_type: *ty,
             mutable,
         };
         let section = self.section;
-        section.pieces.add_encoded(&(ARRAY, element))
+        section.entries.add_item(&(ARRAY, element))
     }
 
     /// Adds a continuation type.
@@ -358,14 +401,14 @@ impl<'a, A: Allocator> CoreTypeEncoder<'a, A> {
     /// The builder gains one entry with this encoding, or the call returns an error and changes nothing. A full builder, with 2^32 - 1 entries, returns `TooLong`.
     ///
     /// ```text
-    /// ensures { Adds (cont_encoding ty.now.0) ⊤ self.entry.section.now self.exit.0.now result
-    ///     }
+    /// ensures { AddsTo S.model
+    ///     (cont_encoding ty.now.0) ⊤ self.entry.section.now self.exit.0.now result }
     /// ```
     ///
-    /// Definitions: [`Adds`](crate::definitions::base::calls::Adds), [`cont_encoding`](crate::definitions::types::rec_types::cont_encoding). [How to read clauses](crate::definitions).
+    /// Definitions: [`AddsTo`](crate::definitions::base::calls::AddsTo), [`cont_encoding`](crate::definitions::types::rec_types::cont_encoding). [How to read clauses](crate::definitions).
     pub fn cont(self, ty: &ContType) -> Result<()> {
         let section = self.section;
-        section.pieces.add_encoded(ty)
+        section.entries.add_item(ty)
     }
 
     /// Adds a subtype.
@@ -382,15 +425,15 @@ impl<'a, A: Allocator> CoreTypeEncoder<'a, A> {
     /// The builder gains one entry with this encoding, or the call returns an error and changes nothing. A full builder, with 2^32 - 1 entries, returns `TooLong`.
     ///
     /// ```text
-    /// ensures { Adds (sub_encoding (sub_in ty.now))
+    /// ensures { AddsTo S.model (sub_encoding (sub_in ty.now))
     ///     (IsEncodableShape (shape_in ty.now.composite_type.inner)) self.entry.section.now
     ///     self.exit.0.now result }
     /// ```
     ///
-    /// Definitions: [`Adds`](crate::definitions::base::calls::Adds), [`sub_encoding`](crate::definitions::types::rec_types::sub_encoding), [`sub_in`](crate::definitions::types::given::sub_in), [`IsEncodableShape`](crate::definitions::types::given::IsEncodableShape), [`shape_in`](crate::definitions::types::given::shape_in). [How to read clauses](crate::definitions).
+    /// Definitions: [`AddsTo`](crate::definitions::base::calls::AddsTo), [`sub_encoding`](crate::definitions::types::rec_types::sub_encoding), [`sub_in`](crate::definitions::types::given::sub_in), [`IsEncodableShape`](crate::definitions::types::given::IsEncodableShape), [`shape_in`](crate::definitions::types::given::shape_in). [How to read clauses](crate::definitions).
     pub fn subtype<B: Allocator>(self, ty: &SubType<B>) -> Result<()> {
         let section = self.section;
-        section.pieces.add_encoded(ty)
+        section.entries.add_item(ty)
     }
 
     /// Adds a function type of these parameters and results. If an iterator reports more than
@@ -421,9 +464,9 @@ impl<'a, A: Allocator> CoreTypeEncoder<'a, A> {
     /// The section gains one entry of the items that both iterators yield, or the call returns an error and changes nothing. If either reports more than 2^32 - 1 items, the error is `TooLong`.
     ///
     /// ```text
-    /// ensures { AddsTwoListed P.into_iter_gives P.IntoIter.next_gives P.IntoIter.remaining
-    ///     Q.into_iter_gives Q.IntoIter.next_gives Q.IntoIter.remaining params results
-    ///     func_encoding self.entry.section.now self.exit.0.now result }
+    /// ensures { AddsTwoListed S.model P.into_iter_gives P.IntoIter.next_gives
+    ///     P.IntoIter.remaining Q.into_iter_gives Q.IntoIter.next_gives Q.IntoIter.remaining
+    ///     params results func_encoding self.entry.section.now self.exit.0.now result }
     /// ```
     ///
     /// Definitions: [`AddsTwoListed`](crate::definitions::types::calls::AddsTwoListed), [`func_encoding`](crate::definitions::types::rec_types::func_encoding). [How to read clauses](crate::definitions).
@@ -439,7 +482,7 @@ impl<'a, A: Allocator> CoreTypeEncoder<'a, A> {
         let section = self.section;
         let params = vec_of(params);
         let results = vec_of(results);
-        section.pieces.add_once((FUNC, params?, results?))
+        section.entries.add_item_once((FUNC, params?, results?))
     }
 
     /// Adds a structure type of these fields. If the iterator reports more than 4294967295 fields,
@@ -480,8 +523,9 @@ impl<'a, A: Allocator> CoreTypeEncoder<'a, A> {
     /// The section gains one entry of the items that the iterator yields, or the call returns an error and changes nothing. If the iterator reports more than 2^32 - 1 items, the error is `TooLong`.
     ///
     /// ```text
-    /// ensures { AddsListed F.into_iter_gives F.IntoIter.next_gives F.IntoIter.remaining
-    ///     (λ _. ⊤) fields struct_encoding self.entry.section.now self.exit.0.now result }
+    /// ensures { AddsListed S.model F.into_iter_gives F.IntoIter.next_gives
+    ///     F.IntoIter.remaining (λ _. ⊤) fields struct_encoding self.entry.section.now
+    ///     self.exit.0.now result }
     /// ```
     ///
     /// Definitions: [`AddsListed`](crate::definitions::types::calls::AddsListed), [`struct_encoding`](crate::definitions::types::rec_types::struct_encoding). [How to read clauses](crate::definitions).
@@ -491,7 +535,7 @@ impl<'a, A: Allocator> CoreTypeEncoder<'a, A> {
     {
         let section = self.section;
         let fields = vec_of(fields)?;
-        section.pieces.add_once((STRUCT, fields))
+        section.entries.add_item_once((STRUCT, fields))
     }
 
     /// Adds a recursion group: subtypes that may refer to one another. If the iterator reports more
@@ -532,9 +576,9 @@ impl<'a, A: Allocator> CoreTypeEncoder<'a, A> {
     /// The section gains one entry of the items that the iterator yields, or the call returns an error and changes nothing. If the iterator reports more than 2^32 - 1 items, the error is `TooLong`.
     ///
     /// ```text
-    /// ensures { AddsListed T.into_iter_gives T.IntoIter.next_gives T.IntoIter.remaining
-    ///     (λ s. IsEncodableShape (shape_in s.composite_type.inner)) types group_encoding
-    ///     self.entry.section.now self.exit.0.now result }
+    /// ensures { AddsListed S.model T.into_iter_gives T.IntoIter.next_gives
+    ///     T.IntoIter.remaining (λ s. IsEncodableShape (shape_in s.composite_type.inner)) types
+    ///     group_encoding self.entry.section.now self.exit.0.now result }
     /// ```
     ///
     /// Definitions: [`AddsListed`](crate::definitions::types::calls::AddsListed), [`IsEncodableShape`](crate::definitions::types::given::IsEncodableShape), [`shape_in`](crate::definitions::types::given::shape_in), [`group_encoding`](crate::definitions::types::given::group_encoding). [How to read clauses](crate::definitions).
@@ -546,7 +590,7 @@ impl<'a, A: Allocator> CoreTypeEncoder<'a, A> {
     {
         let section = self.section;
         let types = vec_of(types)?;
-        section.pieces.add_once((REC, types))
+        section.entries.add_item_once((REC, types))
     }
 }
 

@@ -8,7 +8,7 @@ use dolzhytik::{
     TagKind, TagSection, TagType, TypeSection, ValType,
 };
 
-/// How often each section is built.
+/// How often each section is built, unless the environment variable `DOLZHYTIK_ROUNDS` says it.
 const ROUNDS: u32 = 300;
 
 /// Random numbers, of a fixed start.
@@ -192,7 +192,9 @@ fn same<T: Default + Encode, P: fallible::Encode>(
     new: fn(Global) -> P,
     add: fn(&mut Numbers, &mut T, &mut P) -> Result<()>,
 ) -> Result<()> {
-    for _ in 0..ROUNDS {
+    // While it is compiled: on wasm32 a program has no environment.
+    let rounds = option_env!("DOLZHYTIK_ROUNDS");
+    for _ in 0..rounds.map_or(ROUNDS, |it| it.parse().expect("a number")) {
         let (mut root, mut proved) = (T::default(), new(Global));
         for _ in 0..numbers.below(12) {
             add(numbers, &mut root, &mut proved)?;

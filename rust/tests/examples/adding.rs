@@ -85,7 +85,7 @@ fn code<A: Allocator + Copy>(alloc: A) -> Result<CodeSection<A>> {
 /// ```text
 /// ensures { IfOk result (λ function. IsWellFormedBody function adding_body) }
 /// ```
-fn sum<A: Allocator>(alloc: A) -> Result<Function<A>> {
+pub(crate) fn sum<A: Allocator>(alloc: A) -> Result<Function<A>> {
     let mut function = Function::new(alloc, [])?;
     let mut sink = function.instructions();
     sink.local_get(0)?;

@@ -8,11 +8,11 @@ use crate::further_entries::check_further;
 use dolzhytik::fallible::Global;
 use crate::host::Abort;
 use crate::test_support::{Heap, MOST, Refusing};
-use dolzhytik::fallible::{Encode, Result, Section};
+use dolzhytik::fallible::{Encode, Pieces, Result, Section};
 use dolzhytik::fallible::{BranchHint, CountedList, CustomEntries, CustomKind, DataSymbolDefinition, DylinkExports, DylinkImports, DylinkItems, DylinkMemory, DylinkNeeded, DylinkPath, ExportFlagMembers, FeatureItems, FeaturePrefix, HintItems, ImportFlagMembers, IndirectMembers, IndirectNameMap, InstanceItems, LinkingItems, ListKind, ModuleItems, NameItems, NameMap, NameMembers, NeededMembers, PathMembers, ProducerItems, ProducersField, SymbolKind, SymbolMembers, SymbolTable, ValueMembers};
 
 /// A section with an allocator that fails requests.
-pub(crate) type LentEntries<'h, K> = CustomEntries<K, &'h Refusing<Global>>;
+pub(crate) type LentEntries<'h, K> = CustomEntries<K, Pieces<&'h Refusing<Global>>>;
 
 /// Checks that the item encodes to these bytes, if no request fails.
 pub(crate) fn check_written<T: Encode>(rt: &impl Abort, heap: Heap<'_>, item: &T, expected: &[u8]) {

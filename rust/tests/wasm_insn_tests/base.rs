@@ -3,8 +3,9 @@
 
 use dolzhytik::fallible::Vec;
 use crate::checks::{check, check_bytes, check_numbers, check_piece};
+use dolzhytik::fallible::Global;
 use crate::host::Abort;
-use dolzhytik::fallible::{CORE_FUNCTION_EXACT_SORT, CORE_FUNCTION_SORT, CORE_GLOBAL_SORT, CORE_MEMORY_SORT, CORE_TABLE_SORT, CORE_TAG_SORT, Encode, Module, Pieces, RawSection, Refused, Section, SectionId, begin_size_prefixed, encode_section, encode_size_prefixed, encode_vec, encoding_size};
+use dolzhytik::fallible::{CORE_FUNCTION_EXACT_SORT, CORE_FUNCTION_SORT, CORE_GLOBAL_SORT, CORE_MEMORY_SORT, CORE_TABLE_SORT, CORE_TAG_SORT, Encode, Entries, Module, NewStore, Pieces, RawSection, Refused, Section, SectionId, Store, begin_size_prefixed, bytes_of, encode_section, encode_size_prefixed, encode_vec, encoding_size};
 use dolzhytik::fallible::laws::base as laws;
 
 #[test]
@@ -177,6 +178,36 @@ fn pieces() {
     let copy: Pieces = pieces.clone().expect("accepted");
     check_pieces(&rt, &copy);
     check(&rt, rt.alloc(), &pieces, &[6, 2, 2, 0, 11, 0x80, 1])
+}
+
+/// Checks that a store has these two entries.
+fn check_store(rt: &impl Abort, alloc: Global, store: &impl Store) {
+    assert_eq!(rt; store.count(), 2);
+    check_bytes(rt, store.content(), &[2, 0, 11, 0x80, 1]);
+    check(rt, alloc, store, &[6, 2, 2, 0, 11, 0x80, 1])
+}
+
+/// Checks each call of a store.
+fn check_stores<S: NewStore<Alloc = Global>>(rt: &impl Abort, alloc: Global) {
+    let mut store = S::new_in(alloc);
+    assert_eq!(rt; store.count(), 0);
+    store.add_bytes(&[2, 0, 11]).expect("accepted");
+    store.add_item(&128u32).expect("accepted");
+    check_store(rt, alloc, &store);
+    let mut copy = store.copy().expect("accepted");
+    check_store(rt, alloc, &copy);
+    let bytes = bytes_of([7u8]).expect("accepted");
+    copy.add_item_once(bytes).expect("accepted");
+    assert_eq!(rt; copy.count(), 3);
+    check_bytes(rt, copy.content(), &[2, 0, 11, 0x80, 1, 1, 7]);
+    check_store(rt, alloc, &store)
+}
+
+#[test]
+fn stores() {
+    let rt = crate::host::HostRuntime;
+    check_stores::<Pieces>(&rt, rt.alloc());
+    check_stores::<Entries>(&rt, rt.alloc())
 }
 
 #[test]

@@ -7,7 +7,7 @@ use crate::checks::{check_bytes, check_call, check_refusals, check_refused};
 use dolzhytik::fallible::Global;
 use crate::host::Abort;
 use crate::test_support::{MOST, Refusing};
-use dolzhytik::fallible::{Encode, Module, Pieces, RawSection, Refused, Result, Section, encode_section, encode_vec};
+use dolzhytik::fallible::{Encode, Entries, Module, NewStore, Pieces, RawSection, Refused, Result, Section, Store, bytes_of, encode_section, encode_vec};
 
 const TYPES: RawSection<'static> = RawSection {
     id: 1,
@@ -141,19 +141,38 @@ fn check_pieces(
     granted
 }
 
+/// An adding call of a store.
+#[derive(Clone, Copy)]
+enum Adding {
+    Bytes,
+    Item,
+    ItemOnce,
+}
+
+/// Adds an entry of three bytes.
+fn add<S: Store>(rt: &impl Abort, store: &mut S, adding: Adding) -> Result<()> {
+    match adding {
+        Adding::Bytes => store.add_bytes(&[2, b'a', b'b']),
+        Adding::Item => store.add_item(&"ab"),
+        Adding::ItemOnce => {
+            let bytes = bytes_of([b'a', b'b']).expect("accepted");
+            store.add_item_once(bytes)
+        }
+    }
+}
+
 /// Checks an adding call, with each request failing in turn.
-fn check_adding(rt: &impl Abort, alloc: Global, encoded: bool) {
-    let heap = Refusing::new(alloc);
+fn check_adding<'a, S: NewStore<Alloc = &'a Refusing<Global>>>(
+    rt: &impl Abort,
+    heap: &'a Refusing<Global>,
+    adding: Adding,
+) {
     for nth in 1..MOST {
-        let mut pieces = Pieces::new(&heap);
+        let mut store = S::new_in(heap);
         heap.refuse(nth);
-        let answer = if encoded {
-            pieces.add_encoded(&"ab")
-        } else {
-            pieces.add(&[2, b'a', b'b'])
-        };
+        let answer = add(rt, &mut store, adding);
         let granted = heap.is_waiting();
-        if check_pieces(rt, granted, answer, pieces.len(), pieces.bytes()) {
+        if check_pieces(rt, granted, answer, store.count(), store.content()) {
             return;
         }
     }
@@ -161,10 +180,13 @@ fn check_adding(rt: &impl Abort, alloc: Global, encoded: bool) {
 }
 
 #[test]
-fn pieces() {
+fn stores() {
     let rt = crate::host::HostRuntime;
-    check_adding(&rt, rt.alloc(), false);
-    check_adding(&rt, rt.alloc(), true)
+    let heap = Refusing::new(rt.alloc());
+    for adding in [Adding::Bytes, Adding::Item, Adding::ItemOnce] {
+        check_adding::<Pieces<&Refusing<Global>>>(&rt, &heap, adding);
+        check_adding::<Entries<&Refusing<Global>>>(&rt, &heap, adding)
+    }
 }
 
 /// Checks that there is a copy of one entry if all requests were granted, and `Memory` otherwise.
@@ -174,18 +196,28 @@ fn check_copy(rt: &impl Abort, granted: bool, answer: Result<u32>) -> bool {
     granted
 }
 
-#[test]
-fn copies_of_pieces() {
-    let rt = crate::host::HostRuntime;
-    let heap = Refusing::new(rt.alloc());
-    let mut pieces = Pieces::new(&heap);
-    pieces.add(&[1]).expect("accepted");
+/// Checks the copy of a store, with each request failing in turn.
+fn check_copies<'a, S: NewStore<Alloc = &'a Refusing<Global>>>(
+    rt: &impl Abort,
+    heap: &'a Refusing<Global>,
+) {
+    let mut store = S::new_in(heap);
+    store.add_bytes(&[1]).expect("accepted");
     for nth in 1..MOST {
         heap.refuse(nth);
-        let answer = pieces.clone().map(|copy| copy.len());
-        if check_copy(&rt, heap.is_waiting(), answer) {
+        let answer = store.copy().map(|copy| copy.count());
+        if check_copy(rt, heap.is_waiting(), answer) {
             return;
         }
     }
     panic!(rt; "no call was granted")
+}
+
+#[test]
+fn copies_of_stores() {
+    let rt = crate::host::HostRuntime;
+    let heap = Refusing::new(rt.alloc());
+    check_copies::<Pieces<&Refusing<Global>>>(&rt, &heap);
+    let other = Refusing::new(rt.alloc());
+    check_copies::<Entries<&Refusing<Global>>>(&rt, &other)
 }

@@ -8,12 +8,12 @@ use crate::samples::{GLOBAL, LIMITED_MEMORY, LIMITED_TABLE, SET_GLOBAL, TABLE, T
 use dolzhytik::fallible::Global;
 use crate::host::Abort;
 use crate::test_support::{MOST, Refusing};
-use dolzhytik::fallible::{Counted, CowSlice, Encode, HeapType, Refused, Result, Section, add_all};
+use dolzhytik::fallible::{Counted, CowSlice, Encode, HeapType, Pieces, Refused, Result, Section, add_all};
 use dolzhytik::fallible::ConstExpr;
 use dolzhytik::fallible::{CountedSection, DataCountSection, EntityType, Export, ExportItems, ExportKind, ExportSection, FunctionItems, FunctionSection, GlobalItems, Import, ImportCompact, ImportItems, Imports, ItemKind, MemoryItems, StartSection, TableItems, TagItems};
 
 /// A section with an allocator that fails requests.
-pub(crate) type OnHeap<'h, K> = CountedSection<K, &'h Refusing<Global>>;
+pub(crate) type OnHeap<'h, K> = CountedSection<K, Pieces<&'h Refusing<Global>>>;
 
 /// Checks that the section has only this entry, or none.
 fn check_entry(rt: &impl Abort, granted: bool, len: u32, piece: Option<&[u8]>, entry: &[u8]) {

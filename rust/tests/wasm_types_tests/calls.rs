@@ -67,7 +67,7 @@ fn debug_of_an_encoder() {
     let mut section = TypeSection::new(rt.alloc());
     let encoder = section.ty();
     let text = format!(in rt.alloc(); "{encoder:?}").expect("accepted");
-    let begins = "CoreTypeEncoder { section: TypeSection { ";
+    let begins = "CoreTypeEncoderIn { section: TypeSectionIn { ";
     check_that(&rt, text.as_str().starts_with(begins));
 }
 

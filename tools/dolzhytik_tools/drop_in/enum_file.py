@@ -106,7 +106,7 @@ def encode_arms(cases: list[Case]) -> str:
 TEMPLATE = """//! The instructions, as cases of one enum.
 
 use super::Encode;
-use super::entries::append;
+use super::bytes::append;
 use super::short::{EMPTY_BLOCK, Short, put_short};
 use crate::base::{self, CowSlice, HeapType, Lent, RefType, ValType};
 use crate::alloc::{Allocator, Global};

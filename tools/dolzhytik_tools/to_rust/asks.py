@@ -58,6 +58,20 @@ class Owner:
     is_public_trait: bool = False
 
 
+def alias_of(source: Source, generic: str, argument: str) -> str:
+    """Returns the name that a file gives a generic type with this first argument, or else the only
+    name that it gives the type, or else the type's own."""
+    found = {}
+    words = source.solid(0, len(source.tokens))
+    for at, word in enumerate(words):
+        if word == 'type' and words[at - 1] == 'pub':
+            is_at = words.index('=', words.index('>', at) if words[at + 2] == '<' else at)
+            if words[is_at + 1] == generic:
+                found[words[is_at + 3]] = words[at + 1]
+    only = list(found.values())[0] if len(found) == 1 else generic
+    return found.get(argument, only)
+
+
 def owner_of(source: Source, function: int) -> Owner:
     """Returns the owner of a function, without a name for a free function."""
     header = source.header_around(function)
@@ -69,8 +83,9 @@ def owner_of(source: Source, function: int) -> Owner:
     if 'for' in words:
         return Owner(words[words.index('for') + 1])
     depth = 0
-    for word in words[words.index('impl') + 1:]:
+    begin = words.index('impl') + 1
+    for at, word in enumerate(words[begin:], begin):
         depth += {'<': 1, '>': -1}.get(word, 0)
         if depth == 0 and is_word(word):
-            return Owner(word)
+            return Owner(alias_of(source, word, ''.join(words[at + 2:at + 3])))
     return Owner()

@@ -282,7 +282,7 @@ def instructions() -> dict[str, str]:
 
 # The heads of clauses about calls that change nothing if they fail, and what is then unchanged.
 UNCHANGED = (
-    (r'(?:AddsInstruction|AddsOnce|AddsListed|AddsTwoListed|AddsList|AddsTwoLists|AddsBytes|Adds) ', 'The builder is then unchanged.'),
+    (r'(?:AddsInstruction|AddsOnce|AddsOnceTo|AddsListed|AddsTwoListed|AddsList|AddsTwoLists|AddsBytes|Adds|AddsTo) ', 'The builder is then unchanged.'),
     (r'Writes\w* ', 'The bytes of the sink are then unchanged.'),
     (r'Appends\w* ', 'The bytes of the sink are then unchanged.'),
     (r'OnErr result \(self\.new ≡ self\.old\)', 'The builder is then unchanged.'),
@@ -356,7 +356,7 @@ def errors_of(terms: list[str], has_a_list: bool) -> str:
     unchanged = next((said for form, said in UNCHANGED for term in terms if re.match(form, term)), '')
     if any(re.fullmatch(r'result ≢ Err (?:\w+\.)?TooLong', term) for term in terms):
         why = ''
-    elif any(term.startswith('Adds ') and arguments(term)[1] == '⊤' for term in terms):
+    elif any(re.match(r'Adds(To)? ', term) and '⊤' in arguments(term)[1:3] for term in terms):
         why = FULL
     elif any(re.match(r'Adds', term) and not term.startswith('AddsInstruction') for term in terms):
         why = f'{FULL}, or {LONG}'

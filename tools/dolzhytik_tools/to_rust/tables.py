@@ -64,7 +64,7 @@ READING = 'reading'
 BETWEEN = {
     'wasm_base': {
         'prefix_size_since', 'read_before', 'read_index', 'read_val_after', 'walk_in', 'walk_shared', 'walk_to_end',
-        'walk_value', 'walk_whole', 'RawBytes', 'SizedBytes',
+        'walk_value', 'walk_whole', 'ItemsOf', 'PaddedOf', 'RawBytes', 'SizedBytes',
     },
     'wasm_insn': {'read_instruction'},
     'wasm_custom': {
@@ -214,7 +214,18 @@ PLACES = [
     Place('wasm_custom/src/core_stack.rt', 'frames: Pieces<A>', 'pub(crate) frames: Pieces<A>'),
     # Inline, rustc splits no value type into its fields; Rattle's compiler does.
     Place('wasm_base/src/types.rt', '#[inline(never)]', '#[inline(always)]', 'fn encode<'),
+    # The root of the package makes empty builders by a constant, prints their bytes, and takes those
+    # of other builders.
+    Place('wasm_base/src/pieces.rt', 'bytes: Vec<u8, A>, ends: Vec<usize, A>,', 'pub(crate) bytes: Vec<u8, A>, pub(crate) ends: Vec<usize, A>,'),
+    Place('wasm_custom/src/entries.rt', 'entries: S, kind: PhantomData<K>,', 'pub(crate) entries: S, pub(crate) kind: PhantomData<K>,'),
+    Place('wasm_custom/src/lists.rt', 'pieces: Pieces<A>, kind: PhantomData<K>,', 'pub(crate) pieces: Pieces<A>, pub(crate) kind: PhantomData<K>,'),
+    Place('wasm_base/src/store.rt', 'bytes: Vec<u8, A>, count: u32,', 'pub(crate) bytes: Vec<u8, A>, pub(crate) count: u32,'),
+    Place('wasm_sections/src/counted_section.rt', 'entries: S, kind: PhantomData<K>,', 'pub(crate) entries: S, pub(crate) kind: PhantomData<K>,'),
+    Place('wasm_types/src/type_section.rt', 'entries: S,', 'pub(crate) entries: S,'),
+    Place('wasm_types/src/type_section.rt', "section: &'a mut TypeSectionIn<S>,", "pub(crate) section: &'a mut TypeSectionIn<S>,"),
+    Place('wasm_code/src/code_section.rt', 'entries: S,', 'pub(crate) entries: S,'),
     # A type argument of a trait has a size.
+    Place('wasm_base/src/store.rt', 'pub trait NewStore: Store {', 'pub trait NewStore: Store + Sized {'),
     Place('wasm_sections_tests/src/section_refusals.rtt', 'trait SectionCalls: ItemKind {', 'trait SectionCalls: ItemKind + Sized {'),
     Place('wasm_custom_tests/src/refusals.rtt', 'trait SectionCalls: CustomKind {', 'trait SectionCalls: CustomKind + Sized {'),
     Place('wasm_custom_tests/src/refusals.rtt', 'trait ListCalls: ListKind {', 'trait ListCalls: ListKind + Sized {'),

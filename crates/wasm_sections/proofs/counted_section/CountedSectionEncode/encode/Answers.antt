@@ -1,6 +1,6 @@
-use Rattle.wasm_base.proofs.Words.{subst, IsEncodableSection, counted_decodes, on_ok}
+use Rattle.wasm_base.proofs.Words.{on_ok, store_decodes}
 use Rattle.wasm_sections.proofs.counted_section.CountedSectionEncode.encode.Goals as goal
 
 pub returns-clause-read : goal.returns-clause-read
 returns-clause-read g c =
-    on_ok c.encode.result _ _ c.encode.ensures.appends.was_encodable (λ encodable. counted_decodes _ c.laws.ensures c.args.self.now (subst IsEncodableSection c.self.view_is encodable))
+    on_ok c.encode.result _ _ c.encode.ensures.appends.was_encodable (λ fits. store_decodes g.S.Store.model g.S.Encode.encoding _ c.laws.ensures _ _ c.self.view_is (g.met.S.Store.fits _ fits) (g.met.S.Store.encodes _) c.cut.ensures c.cut-2.ensures)

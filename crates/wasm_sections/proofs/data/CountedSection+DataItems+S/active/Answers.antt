@@ -1,5 +1,5 @@
 use Rattle.wasm_sections.proofs.DataLaws.{same_encodings, other_memory}
-use Rattle.wasm_sections.proofs.data.DataSection+A.active.Goals as goal
+use Rattle.wasm_sections.proofs.data.CountedSection+DataItems+S.active.Goals as goal
 
 pub returns-else-memory_index-eq0 : goal.returns-else-memory_index-eq0
 returns-else-memory_index-eq0 g c =

@@ -1,5 +1,5 @@
 use Rattle.wasm_custom.proofs.AddingLaws.{adds_two}
-use Rattle.wasm_custom.proofs.core_dumps.CoreDumpInstancesSection+A.instance.Goals as goal
+use Rattle.wasm_custom.proofs.core_dumps.CustomEntries+InstanceItems+S.instance.Goals as goal
 
 pub returns : goal.returns
 returns g c =

@@ -1,0 +1,117 @@
+//! Lists of bytes for which a failed allocation ends the program, as in the names at the root. No
+//! call over one has a path for an error.
+use crate::alloc::{AllocError, Allocator};
+use crate::vec::{Sealed, Sink};
+use alloc_crate::vec::Vec;
+use core::ops::{Deref, DerefMut};
+
+/// The allocator of the builders at the root.
+#[derive(Clone, Copy, PartialEq, Eq, Debug)]
+pub struct Root;
+
+impl Allocator for Root {
+    #[inline]
+    fn grant(&self, _bytes: usize) -> Result<(), AllocError> {
+        Ok(())
+    }
+
+    #[inline(always)]
+    fn ends() -> bool {
+        true
+    }
+}
+
+/// The first two capacities of a list of bytes.
+pub const FEW: usize = 16;
+const MANY: usize = 128;
+
+/// The largest capacity for which a new list is cheaper than growing the old one.
+const MOVED: usize = 1024;
+
+/// Reserves spare capacity for `more` bytes. The new capacity is at least twice the old one, and
+/// [`MANY`] after [`FEW`].
+#[cold]
+#[inline(never)]
+pub fn grow(old: &mut Vec<u8>, more: usize) {
+    let count = old.len().saturating_add(more);
+    let room = count.max(2 * old.capacity());
+    if room > MOVED {
+        return old.reserve(more);
+    }
+    let least = if old.capacity() < FEW { FEW } else { MANY };
+    let mut new = Vec::with_capacity(room.max(least));
+    new.extend_from_slice(old);
+    *old = new;
+}
+
+/// A borrowed `std` vector as a sink whose calls never fail.
+pub struct Growing<'a>(pub &'a mut Vec<u8>);
+
+impl Deref for Growing<'_> {
+    type Target = [u8];
+
+    #[inline]
+    fn deref(&self) -> &[u8] {
+        self.0
+    }
+}
+
+impl DerefMut for Growing<'_> {
+    #[inline]
+    fn deref_mut(&mut self) -> &mut [u8] {
+        self.0
+    }
+}
+
+impl Sealed for Growing<'_> {}
+
+impl Sink for Growing<'_> {
+    #[inline]
+    fn capacity(&self) -> usize {
+        self.0.capacity()
+    }
+
+    #[inline]
+    fn reserve(&mut self, more: usize) -> Result<(), AllocError> {
+        if self.0.capacity() - self.0.len() < more {
+            grow(self.0, more);
+        }
+        Ok(())
+    }
+
+    #[inline]
+    fn push(&mut self, byte: u8) -> Result<(), AllocError> {
+        if self.0.len() == self.0.capacity() {
+            grow(self.0, 1);
+        }
+        self.0.push(byte);
+        Ok(())
+    }
+
+    #[inline]
+    fn push_reserved(&mut self, byte: u8) {
+        self.0.extend_from_slice(&[byte]);
+    }
+
+    #[inline]
+    fn push_both_reserved(&mut self, bytes: [u8; 2]) {
+        self.0.extend_from_slice(&bytes);
+    }
+
+    #[inline]
+    fn extend_from_slice(&mut self, bytes: &[u8]) -> Result<(), AllocError> {
+        self.0.extend_from_slice(bytes);
+        Ok(())
+    }
+
+    #[inline]
+    fn extend<I: IntoIterator<Item = u8>>(&mut self, bytes: I) -> Result<(), AllocError> {
+        Extend::extend(self.0, bytes);
+        Ok(())
+    }
+
+    #[inline]
+    fn truncate(&mut self, len: usize) {
+        self.0.truncate(len);
+    }
+}
