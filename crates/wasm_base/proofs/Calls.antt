@@ -7,7 +7,7 @@ use Rattle.wasm_base.specs.{AddsEach, Appends, DecodesOneMore, DecodesBack, Deco
 use Rattle.wasm_base.specs.{any_bytes, size_prefixed, vec, wasm_module, SectionDecoding, decoding_of, padded_decoding_of, raw_decoding, AreDecoded, DecodesSections, DecodesPayloads, GainsDecoding}
 use Rattle.wasm_base.specs.{GainsDecodingPadded, SectionPayload, IsEncodableSection, section_encoding, section_sized, DecodesUniquely, DecodesUniquelyPadded, DecodesWhole, IsSizePrefixed}
 use Rattle.wasm_base.specs.{size_prefixed_encoding, HasEncodableSize, raw_sized}
-use Rattle.wasm_base.specs.{Joined, Cut, Gains, IsEncodableJoined, joined_payload, joined_encoding, joined_sized}
+use Rattle.wasm_base.specs.{Joined, Cut, Extends, Gains, IsEncodableJoined, joined_payload, joined_encoding, joined_sized}
 use Rattle.wasm_base.proofs.Std.{◌∙◌, ap, length-append}
 use Rattle.wasm_base.proofs.Cut.{joined_push}
 use Rattle.wasm_base.proofs.ContentsLaws.{contains_more}
@@ -111,15 +111,18 @@ cut_none {P = P} e holds = subst (Cut P) (sym e) (record { pieces = []; number =
 pub cut_same : {P : List (List ℕ) → Type 0} {old new : Joined} → Cut P old → new ≡ old → Cut P new
 cut_same {P = P} cut e = subst (Cut P) (sym e) cut
 
--- A store that gains an entry consists of one more piece. So each lemma on a section that gains an
--- entry is one on a store.
-pub cut_gains : {P Q : List (List ℕ) → Type 0} {encoding : List ℕ} {old new : Joined} → Cut P old → Gains encoding old new → ((pieces : List (List ℕ)) → P pieces → Q (pieces ++ encoding ∷ [])) → Cut Q new
-cut_gains {encoding = encoding} cut gains more = record {
+-- A store that gains an entry consists of one more piece.
+pub cut_extends : {P Q : List (List ℕ) → Type 0} {encoding : List ℕ} {old new : Joined} → Extends old.number encoding P Q → Gains encoding old new → Cut P old → Cut Q new
+cut_extends {encoding = encoding} more gains cut = record {
   pieces = cut.pieces ++ encoding ∷ [];
   number = omega (arith, length-append cut.pieces (encoding ∷ []), cut.number, gains.number);
   content = joined_push cut.pieces encoding ∙ ap (λ b. b ++ encoding) cut.content ∙ sym gains.content;
-  are = more cut.pieces cut.are;
+  are = more cut.pieces cut.number cut.are;
 }
+
+-- So each lemma on a section that gains an entry is one on a store.
+pub cut_gains : {P Q : List (List ℕ) → Type 0} {encoding : List ℕ} {old new : Joined} → Cut P old → Gains encoding old new → ((pieces : List (List ℕ)) → P pieces → Q (pieces ++ encoding ∷ [])) → Cut Q new
+cut_gains cut gains more = cut_extends (λ pieces _ are. more pieces are) gains cut
 
 -- A module that gains a section of joined entries decodes to what it says.
 pub gains_joined : {decodings : List SectionDecoding} {id : ℕ} {old new : List ℕ} {j : Joined} {X : Type 0} {F : Format X} {Says : X → Type 0} {x : X} → DecodesPayloads F → DecodesSections decodings old

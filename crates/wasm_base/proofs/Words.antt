@@ -47,7 +47,7 @@ pub use Rattle.wasm_base.proofs.AfterLaws.{after_encodes, after_whole, just_unam
 pub use Rattle.wasm_base.proofs.BaseLaws.{custom_unambiguous, name_unambiguous, s32_unambiguous, s33_unambiguous, s64_unambiguous, size_prefixed_bytes_unambiguous, u64_unambiguous, unambiguous_padded}
 pub use Rattle.wasm_base.proofs.BaseLaws.{unambiguous_whole_padded, vec_bytes_unambiguous, vec_u32_unambiguous, vector_unambiguous}
 pub use Rattle.wasm_base.proofs.Calls.{adds_item, adds_item_padded, adds_items, adds_items_padded, adds_raw, adds_raw_padded, ascii, contains_padded, each, encoded_padded, encodes_items}
-pub use Rattle.wasm_base.proofs.Calls.{cut_gains, cut_none, cut_same, gains_joined}
+pub use Rattle.wasm_base.proofs.Calls.{cut_extends, cut_gains, cut_none, cut_same, gains_joined}
 pub use Rattle.wasm_base.proofs.Calls.{encodes_items_padded, finished, gains_items, gains_items_padded, gains_raw, gains_section, gains_section_padded, new_module, new_section}
 pub use Rattle.wasm_base.proofs.ContentsLaws.{contains_more}
 pub use Rattle.wasm_base.proofs.Cut.{joined_push}
@@ -76,7 +76,7 @@ pub use Rattle.wasm_base.proofs.FormatLaws.{optional_unambiguous, pair_unambiguo
 pub use Rattle.wasm_base.proofs.FormatLaws.{such_unambiguous, tagged_at, tagged_unambiguous, then_at, values_mapped, values_one_of, values_tagged, vec_of_one, vec_unambiguous, when_unambiguous}
 pub use Rattle.wasm_base.proofs.FormatLaws.{whole_from_unique, AllDetermine}
 pub use Rattle.wasm_base.proofs.GroupLaws.{if_err_any}
-pub use Rattle.wasm_base.proofs.JoinedLaws.{cut_encodable, cut_encoding, store_decodes}
+pub use Rattle.wasm_base.proofs.JoinedLaws.{cut_encodable, cut_encoding, payload_joined, store_decodes}
 pub use Rattle.wasm_base.proofs.KnownLengths.{array_items, copied_items, drained_array, drained_copied, drained_vec}
 pub use Rattle.wasm_base.proofs.MinimalEncodings.{all_appended, built_appended, built_encoding, canonical_appended, cut_off, encoding_appended, front_appended, front_encoded, fewer_appended, front_then, mapped_appended, members_more, next_appended}
 pub use Rattle.wasm_base.proofs.MinimalEncodings.{no_members_appended, nothing_appended, pair_appended, prefixed_appended, records_appended, size_prefixed_appended, tagged_appended, then_appended}

@@ -18,6 +18,10 @@ pub record Cut (P : List (List ℕ) → Type 0) (j : Joined) : Type 0 where
   pub content : joined pieces ≡ j.content
   pub are : P pieces
 
+-- One more piece of this encoding turns the property `P` of as many pieces as `number` into `Q`.
+abbrev pub Extends : ℕ → List ℕ → (List (List ℕ) → Type 0) → (List (List ℕ) → Type 0) → Type 0
+Extends number encoding P Q = (pieces : List (List ℕ)) → length pieces ≡ number → P pieces → Q (pieces ++ encoding ∷ [])
+
 -- How a state holds entries: their number and bytes, whether `new` has the entries of `old` and
 -- then one of this encoding, and whether the entries have a property of pieces.
 pub record StoreModel (M : Type 0) : Type 1 where

@@ -5,7 +5,7 @@ ghost use Rattle.wasm_base.specs.Calls.{AddsTo};
 ghost use Rattle.wasm_base.specs.Once.{AddsOnceTo};
 ghost use Rattle.wasm_base.specs.Entries.{ContainsItems, ContainsPadded};
 ghost use Rattle.wasm_base.specs.Encodings.{longest};
-ghost use Rattle.wasm_base.specs.Stores.{Joined, Cut, StoreModel, pieces_model, joined_model, joined_encoding, IsEncodableJoined, IsOverlongJoined};
+ghost use Rattle.wasm_base.specs.Stores.{Joined, Cut, Extends, StoreModel, pieces_model, joined_model, joined_encoding, IsEncodableJoined, IsOverlongJoined};
 
 use crate::encode::Encode;
 use crate::frames::encode_section;
@@ -58,6 +58,11 @@ pub trait Store: Encode {
     fn cut<P: Property>(&self)
         ensures { (items : P.Items) → model.holds (λ pieces. P.says pieces items) self.now → Cut (λ pieces. P.says pieces items) (model.joins self.now) };
 
+    /// Proves that entries with a property have another one after a call that adds an entry, if
+    /// pieces do. The function does nothing.
+    fn grows<P: Property>()
+        ensures { (encoding : List ℕ) (old new : Self) (before after : P.Items) → Extends (model.joins old).number encoding (λ pieces. P.says pieces before) (λ pieces. P.says pieces after) → model.gains encoding old new → model.holds (λ pieces. P.says pieces before) old → model.holds (λ pieces. P.says pieces after) new };
+
     /// The encoding is that of the number of entries and their bytes.
     ghost encodes: { (store : Self) → Self.encoding store ≡ joined_encoding (model.joins store) };
 
@@ -73,6 +78,11 @@ pub trait NewStore: Store {
     /// Returns a store without entries. It allocates nothing.
     fn new_in(alloc: Self::Alloc) -> Self
         ensures { result ≡ none };
+
+    /// Proves that the store without entries has each property of no pieces. The function does
+    /// nothing.
+    fn begins<P: Property>()
+        ensures { (items : P.Items) → P.says [] items → Self.model.holds (λ pieces. P.says pieces items) none };
 
     /// Returns a copy of the entries in newly allocated memory.
     ///
@@ -145,6 +155,8 @@ impl<A: Allocator> Store for Pieces<A> {
 
     fn cut<P: Property>(&self) {}
 
+    fn grows<P: Property>() {}
+
     ghost encodes = { pieces_encode };
 
     ghost fits = { pieces_fit };
@@ -152,6 +164,8 @@ impl<A: Allocator> Store for Pieces<A> {
 
 impl<A: Allocator + Copy> NewStore for Pieces<A> {
     ghost none = { [] };
+
+    fn begins<P: Property>() {}
 
     fn new_in(alloc: A) -> Self {
         Pieces::new(alloc)
@@ -250,6 +264,8 @@ impl<A: Allocator> Store for Entries<A> {
 
     fn cut<P: Property>(&self) {}
 
+    fn grows<P: Property>() {}
+
     ghost encodes = { λ _. refl };
 
     ghost fits = { λ _ fits. fits };
@@ -257,6 +273,8 @@ impl<A: Allocator> Store for Entries<A> {
 
 impl<A: Allocator + Copy> NewStore for Entries<A> {
     ghost none = { record { number = 0; content = [] } };
+
+    fn begins<P: Property>() {}
 
     fn new_in(alloc: A) -> Self {
         Entries {
