@@ -1,5 +1,6 @@
 //! Calls that add an entry to a custom section: the contract states the entry's bytes.
 ghost use Rattle.std.specs.Prelude.{◌≡◌, [], ◌∷◌, ◌++◌, OnOk};
+ghost use Rattle.wasm_base.specs.Stores.{pieces_model};
 ghost use Rattle.wasm_custom.specs.Customs.{subsection_encoding};
 ghost use Rattle.wasm_custom.specs.Lists.{list_encoding};
 ghost use Rattle.wasm_custom.specs.Symbols.{indexed_encoding};
@@ -14,7 +15,7 @@ pub fn name_types<A: Allocator, B: Allocator>(
     section: &mut NameSection<A>,
     names: &NameMap<B>,
 ) -> Result<()>
-    ensures { OnOk result (section.new ≡ section.old ++ subsection_encoding 4 (list_encoding names.now) ∷ []) }
+    ensures { OnOk result (section.new ≡ section.old ++ subsection_encoding 4 (list_encoding (pieces_model.joins names.now)) ∷ []) }
 {
     section.types(names)
 }
@@ -24,7 +25,7 @@ pub fn name_tables<A: Allocator, B: Allocator>(
     section: &mut NameSection<A>,
     names: &NameMap<B>,
 ) -> Result<()>
-    ensures { OnOk result (section.new ≡ section.old ++ subsection_encoding 5 (list_encoding names.now) ∷ []) }
+    ensures { OnOk result (section.new ≡ section.old ++ subsection_encoding 5 (list_encoding (pieces_model.joins names.now)) ∷ []) }
 {
     section.tables(names)
 }
@@ -34,7 +35,7 @@ pub fn name_memories<A: Allocator, B: Allocator>(
     section: &mut NameSection<A>,
     names: &NameMap<B>,
 ) -> Result<()>
-    ensures { OnOk result (section.new ≡ section.old ++ subsection_encoding 6 (list_encoding names.now) ∷ []) }
+    ensures { OnOk result (section.new ≡ section.old ++ subsection_encoding 6 (list_encoding (pieces_model.joins names.now)) ∷ []) }
 {
     section.memories(names)
 }
@@ -44,7 +45,7 @@ pub fn name_globals<A: Allocator, B: Allocator>(
     section: &mut NameSection<A>,
     names: &NameMap<B>,
 ) -> Result<()>
-    ensures { OnOk result (section.new ≡ section.old ++ subsection_encoding 7 (list_encoding names.now) ∷ []) }
+    ensures { OnOk result (section.new ≡ section.old ++ subsection_encoding 7 (list_encoding (pieces_model.joins names.now)) ∷ []) }
 {
     section.globals(names)
 }
@@ -54,7 +55,7 @@ pub fn name_elements<A: Allocator, B: Allocator>(
     section: &mut NameSection<A>,
     names: &NameMap<B>,
 ) -> Result<()>
-    ensures { OnOk result (section.new ≡ section.old ++ subsection_encoding 8 (list_encoding names.now) ∷ []) }
+    ensures { OnOk result (section.new ≡ section.old ++ subsection_encoding 8 (list_encoding (pieces_model.joins names.now)) ∷ []) }
 {
     section.elements(names)
 }
@@ -64,7 +65,7 @@ pub fn name_tags<A: Allocator, B: Allocator>(
     section: &mut NameSection<A>,
     names: &NameMap<B>,
 ) -> Result<()>
-    ensures { OnOk result (section.new ≡ section.old ++ subsection_encoding 11 (list_encoding names.now) ∷ []) }
+    ensures { OnOk result (section.new ≡ section.old ++ subsection_encoding 11 (list_encoding (pieces_model.joins names.now)) ∷ []) }
 {
     section.tag(names)
 }

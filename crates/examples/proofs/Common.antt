@@ -26,7 +26,7 @@ pub use Rattle.std.proofs.lemmas.List.Sums.{count_by_more_no, count_by_more_yes}
 pub use Rattle.std.specs.List.{starts_with}
 pub use Rattle.std.specs.declared.alloc.Global.{Global}
 pub use Rattle.wasm_base.proofs.SectionLaws.{payloads}
-pub use Rattle.wasm_base.proofs.Words.{cut_gains, cut_none, cut_same, gains_joined}
+pub use Rattle.wasm_base.proofs.Words.{cut_extends, cut_gains, cut_none, cut_same, gains_joined}
 pub use Rattle.wasm_base.proofs.Words.{All, All-more, AllByRecursion, Decodes, Err, FUNCREF, IsVal, List, None, Ok, OnOk, Result, [], adds_item, adds_items, ap, ap₂, arith, ascii, codes}
 pub use Rattle.wasm_base.proofs.Words.{contains_padded, copied_source, drained_array, drop, each, encodes_items, encodes_items_padded, false, fault_stays, finished, flat_map, gains_raw, inl, inr}
 pub use Rattle.wasm_base.proofs.Words.{ints, iter_rest, length, map, map-id, members, neg_ℤ, new_module, on_ok, padded, pair, pos, refl, replicate, rules, s32, size_prefixed, size_prefixed_encoding}
@@ -38,7 +38,7 @@ pub use Rattle.wasm_code.proofs.Words.{AddsInstruction, Body, IsWellFormedBody, 
 pub use Rattle.wasm_code.proofs.Words.{encodes_code_padded, encodes_padded, expression_encoding, gains_code, gains_code_padded, included_body, included_constant, lent, new_code, new_function}
 pub use Rattle.wasm_code.proofs.Words.{normal_row, one_constant, padded_i32_const, raw_constant, without_runs, writes_instruction, writes_labels}
 pub use Rattle.wasm_custom.proofs.Words.{adds_field, adds_hints, adds_inside, adds_module_name, adds_name, adds_names, adds_names_inside, adds_symbol, adds_symbols, adds_value, gains_hints}
-pub use Rattle.wasm_custom.proofs.Words.{gains_linking, gains_names, gains_producers, new_field, new_hints, new_indirect_map, new_linking, new_map, new_names, new_producers, new_symbols}
+pub use Rattle.wasm_custom.proofs.Words.{gains_linking, gains_names, gains_producers, list_cut, new_field, new_hints, new_indirect_map, new_linking, new_map, new_names, new_producers, new_symbols}
 pub use Rattle.wasm_immediates.specs.declared.block_type.BlockType.TheVariants.{Empty}
 pub use Rattle.wasm_immediates.specs.declared.memory.MemArgTarget.TheVariants.{Memory}
 pub use Rattle.wasm_insn.proofs.Words.{HasSmallAlignments, IsWellFormedWhereAligned}

@@ -1,8 +1,10 @@
-// The module of `adding.rt`, of sections that keep their entries' bytes and number alone.
-ghost use Rattle.std.specs.Prelude.{IfOk, [], ◌∷◌};
+// The module of `adding.rt`, and a name section, of builders that keep their entries' bytes and
+// number alone.
+ghost use Rattle.std.specs.Prelude.{IfOk, [], ◌∷◌, codes};
 ghost use Rattle.wasm_base.specs.Modules.{DecodesSections};
 ghost use Rattle.wasm_base.specs.Stores.{Cut};
 ghost use Rattle.wasm_code.specs.Code.{EncodesBodies};
+ghost use Rattle.wasm_custom.specs.Names.{AreNamings, ContainsNames, Map};
 ghost use Rattle.wasm_sections.specs.Exports.{ContainsExports};
 ghost use Rattle.wasm_sections.specs.Functions.{ContainsFunctions};
 ghost use Rattle.wasm_types.specs.RecTypes.{ContainsTypes};
@@ -12,6 +14,7 @@ use crate::adding::sum;
 use std::alloc::Allocator;
 use wasm_base::{Module, Result, ValType};
 use wasm_code::joined::CodeSection;
+use wasm_custom::joined::{NameMap, NameSection};
 use wasm_sections::ExportKind;
 use wasm_sections::joined::{ExportSection, FunctionSection};
 use wasm_types::joined::TypeSection;
@@ -63,5 +66,23 @@ fn code<A: Allocator + Copy>(alloc: A) -> Result<CodeSection<A>>
 {
     let mut section = CodeSection::new(alloc);
     section.function(&sum(alloc)?)?;
+    Ok(section)
+}
+
+/// Returns the name of the function.
+fn function_names<A: Allocator + Copy>(alloc: A) -> Result<NameMap<A>>
+    ensures { IfOk result (λ names. Cut (λ entries. AreNamings entries ((0, codes "add") ∷ [])) names) }
+{
+    let mut names = NameMap::new(alloc);
+    names.append(0, "add")?;
+    Ok(names)
+}
+
+/// Returns a name section of the name of that function.
+pub fn joined_names<A: Allocator + Copy>(alloc: A) -> Result<NameSection<A>>
+    ensures { IfOk result (λ section. Cut (λ entries. ContainsNames entries (Map 1 ((0, codes "add") ∷ []) ∷ [])) section) }
+{
+    let mut section = NameSection::new(alloc);
+    section.functions(&function_names(alloc)?)?;
     Ok(section)
 }

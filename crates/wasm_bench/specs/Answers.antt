@@ -1,6 +1,7 @@
 -- This file defines the results of workloads that encode.
 use Rattle.std.specs.Prelude.{◌≡◌, ℕ, ◌+◌, ◌*◌, ◌<◌, ◌≤◌, ◌∷◌, [], List, ◌++◌, length, drop, map, Result, IfOk, OnErr, if◌then◌else◌, ◌⊎◌, nat_le}
 use Rattle.wasm_base.specs.Words.{header, unsigned_encoding, joined, section_encoding}
+use Rattle.wasm_base.specs.Stores.{pieces_model}
 use Rattle.wasm_custom.specs.Words.{named_encoding, subsection_encoding, list_encoding, name_name}
 use Rattle.wasm_bench.specs.declared.answers.TheConstants.{NO_ANSWER}
 use Rattle.wasm_bench.specs.declared.answers.Fault.{Fault}
@@ -61,4 +62,4 @@ pub record DataAnswer (bytes segment phase : ℕ) (old new : List ℕ) (n : ℕ)
 pub record NamesAnswer (count phase : ℕ) (old new : List ℕ) (n : ℕ) : Type 0 where
   pub names : List (List ℕ)
   pub counted : length names ≡ count
-  pub has : HasAnswer 0 (joined (subsection_encoding 1 (list_encoding names) ∷ [])) (named_encoding name_name (joined (subsection_encoding 1 (list_encoding names) ∷ []))) phase old new n
+  pub has : HasAnswer 0 (joined (subsection_encoding 1 (list_encoding (pieces_model.joins names)) ∷ [])) (named_encoding name_name (joined (subsection_encoding 1 (list_encoding (pieces_model.joins names)) ∷ []))) phase old new n

@@ -105,7 +105,7 @@ pub adds_name : {old new : List (List ℕ)} {names : List Naming} → AreNamings
 adds_name before naming e spare encodable range utf8 = adds_member before naming e spare (range, (utf8, encodable))
 
 -- The indirect map gains an index with the names of a map.
-pub adds_inside : {old new entries : List (List ℕ)} {insides : List Inside} {names : List Naming} → AreInsides old insides → (index : ℕ) → AreNamings entries names → new ≡ old ++ (unsigned_encoding index ++ list_encoding entries) ∷ [] → length old < longest
+pub adds_inside : {old new entries : List (List ℕ)} {insides : List Inside} {names : List Naming} → AreInsides old insides → (index : ℕ) → AreNamings entries names → new ≡ old ++ (unsigned_encoding index ++ list_encoding (pieces_model.joins entries)) ∷ [] → length old < longest
     → index < 2 ^ 32 → AreInsides new (insides ++ (index, names) ∷ [])
 adds_inside {old = old} {names = names} before index held e spare range =
     adds_member before (index, names) (e ∙ ap (λ s. old ++ (unsigned_encoding index ++ s) ∷ []) (list_vector held)) spare (range, held.encodable)
@@ -132,7 +132,7 @@ pub adds_comdat_symbol : {old new : List (List ℕ)} {symbols : List ComdatSymbo
 adds_comdat_symbol before symbol e spare range = adds_member before symbol e spare range
 
 -- The list gains a group of these members, whose name's length the call has checked.
-pub adds_comdat : {old new entries : List (List ℕ)} {comdats : List Comdat} {symbols : List ComdatSymbol} → AreComdats old comdats → (n : List ℕ) (flags : ℕ) → AreComdatSymbols entries symbols → new ≡ old ++ (size_prefixed_encoding n ++ (unsigned_encoding flags ++ list_encoding entries)) ∷ []
+pub adds_comdat : {old new entries : List (List ℕ)} {comdats : List Comdat} {symbols : List ComdatSymbol} → AreComdats old comdats → (n : List ℕ) (flags : ℕ) → AreComdatSymbols entries symbols → new ≡ old ++ (size_prefixed_encoding n ++ (unsigned_encoding flags ++ list_encoding (pieces_model.joins entries))) ∷ []
     → length old < longest → HasEncodableSize n → IsUtf8 n → flags < 2 ^ 32 → AreComdats new (comdats ++ record { name = n; flags = flags; symbols = symbols } ∷ [])
 adds_comdat {old = old} {symbols = symbols} before n flags held e spare encodable utf8 range =
     adds_member before (record { name = n; flags = flags; symbols = symbols }) (e ∙ ap (λ s. old ++ (size_prefixed_encoding n ++ (unsigned_encoding flags ++ s)) ∷ []) (list_vector held)) spare (record { name = (utf8, encodable); flags = range; symbols = held.encodable })
@@ -196,13 +196,13 @@ pub adds_module_name : {old new : List (List ℕ)} {items : List NameItem} → C
 adds_module_name before n e utf8 = adds_item before (Module n) e utf8
 
 -- The section gains the names of a map. That the id is of a name map is `refl`.
-pub adds_names : {old new entries : List (List ℕ)} {items : List NameItem} {names : List Naming} → ContainsNames old items → (id : ℕ) → AreNamings entries names → new ≡ old ++ subsection_encoding id (list_encoding entries) ∷ []
+pub adds_names : {old new entries : List (List ℕ)} {items : List NameItem} {names : List Naming} → ContainsNames old items → (id : ℕ) → AreNamings entries names → new ≡ old ++ subsection_encoding id (list_encoding (pieces_model.joins entries)) ∷ []
     → name_kind_of id ≡ of_map → ContainsNames new (items ++ Map id names ∷ [])
 adds_names {old = old} {names = names} before id held e kind =
     adds_item before (Map id names) (e ∙ ap (λ s. old ++ subsection_encoding id s ∷ []) (list_vector held)) (kind, held.encodable)
 
 -- The section gains the names of an indirect map.
-pub adds_names_inside : {old new entries : List (List ℕ)} {items : List NameItem} {insides : List Inside} → ContainsNames old items → (id : ℕ) → AreInsides entries insides → new ≡ old ++ subsection_encoding id (list_encoding entries) ∷ []
+pub adds_names_inside : {old new entries : List (List ℕ)} {items : List NameItem} {insides : List Inside} → ContainsNames old items → (id : ℕ) → AreInsides entries insides → new ≡ old ++ subsection_encoding id (list_encoding (pieces_model.joins entries)) ∷ []
     → name_kind_of id ≡ of_indirect → ContainsNames new (items ++ Indirect id insides ∷ [])
 adds_names_inside {old = old} {insides = insides} before id held e kind =
     adds_item before (Indirect id insides) (e ∙ ap (λ s. old ++ subsection_encoding id s ∷ []) (list_vector held)) (kind, held.encodable)
@@ -228,7 +228,7 @@ all_flagged Is symbols given flagged = λ k d l. (given k d l, all_of symbols fl
     all_of (x ∷ xs) h = All-cons IsAsFlagged x xs h.0 (all_of xs h.1)
 
 -- The section gains the symbols of a table, each of which is as its flags say.
-pub adds_symbols : {old new entries : List (List ℕ)} {items : List LinkItem} {symbols : List Symbol} → ContainsLinks old items → AreSymbols entries symbols → new ≡ old ++ subsection_encoding 8 (list_encoding entries) ∷ []
+pub adds_symbols : {old new entries : List (List ℕ)} {items : List LinkItem} {symbols : List Symbol} → ContainsLinks old items → AreSymbols entries symbols → new ≡ old ++ subsection_encoding 8 (list_encoding (pieces_model.joins entries)) ∷ []
     → AllByRecursion IsAsFlagged symbols → ContainsLinks new (items ++ Symbols symbols ∷ [])
 adds_symbols {old = old} {symbols = symbols} before held e flagged =
     adds_item before (Symbols symbols) (e ∙ ap (λ s. old ++ subsection_encoding 8 s ∷ []) (list_vector held))
@@ -240,23 +240,23 @@ adds_target before n e utf8 = adds_item before (Target n) e utf8
 
 -- The section of an object file gains a subsection whose content is the vector of a list.
 adds_vector : {X : Type 0} {encoding : X → List ℕ} {Is : X → Type 0} {old new entries : List (List ℕ)} {items : List LinkItem} {xs : List X} → ContainsObjectLinks old items → (item : LinkItem) (id : ℕ) → link_encoding item ≡ subsection_encoding id (vec_encoding encoding xs)
-    → IsListOf encoding Is entries xs → new ≡ old ++ subsection_encoding id (list_encoding entries) ∷ [] → IsObjectLink item → ContainsObjectLinks new (items ++ item ∷ [])
+    → IsListOf encoding Is entries xs → new ≡ old ++ subsection_encoding id (list_encoding (pieces_model.joins entries)) ∷ [] → IsObjectLink item → ContainsObjectLinks new (items ++ item ∷ [])
 adds_vector {old = old} before item id is held e plain = adds_item before item (e ∙ ap (λ s. old ++ subsection_encoding id s ∷ []) (list_vector held) ∙ ap (λ s. old ++ s ∷ []) (sym is)) plain
 
 -- The section of an object file gains the segments of a list.
-pub adds_segments : {old new entries : List (List ℕ)} {items : List LinkItem} {segments : List SegmentInfo} → ContainsObjectLinks old items → AreSegments entries segments → new ≡ old ++ subsection_encoding 5 (list_encoding entries) ∷ [] → ContainsObjectLinks new (items ++ Segments segments ∷ [])
+pub adds_segments : {old new entries : List (List ℕ)} {items : List LinkItem} {segments : List SegmentInfo} → ContainsObjectLinks old items → AreSegments entries segments → new ≡ old ++ subsection_encoding 5 (list_encoding (pieces_model.joins entries)) ∷ [] → ContainsObjectLinks new (items ++ Segments segments ∷ [])
 adds_segments {segments = segments} before held e = adds_vector before (Segments segments) 5 refl held e held.encodable
 
 -- The section of an object file gains the init functions of a list.
-pub adds_inits : {old new entries : List (List ℕ)} {items : List LinkItem} {functions : List InitFunction} → ContainsObjectLinks old items → AreInits entries functions → new ≡ old ++ subsection_encoding 6 (list_encoding entries) ∷ [] → ContainsObjectLinks new (items ++ InitFunctions functions ∷ [])
+pub adds_inits : {old new entries : List (List ℕ)} {items : List LinkItem} {functions : List InitFunction} → ContainsObjectLinks old items → AreInits entries functions → new ≡ old ++ subsection_encoding 6 (list_encoding (pieces_model.joins entries)) ∷ [] → ContainsObjectLinks new (items ++ InitFunctions functions ∷ [])
 adds_inits {functions = functions} before held e = adds_vector before (InitFunctions functions) 6 refl held e held.encodable
 
 -- The section of an object file gains the COMDAT groups of a list.
-pub adds_comdats : {old new entries : List (List ℕ)} {items : List LinkItem} {comdats : List Comdat} → ContainsObjectLinks old items → AreComdats entries comdats → new ≡ old ++ subsection_encoding 7 (list_encoding entries) ∷ [] → ContainsObjectLinks new (items ++ Comdats comdats ∷ [])
+pub adds_comdats : {old new entries : List (List ℕ)} {items : List LinkItem} {comdats : List Comdat} → ContainsObjectLinks old items → AreComdats entries comdats → new ≡ old ++ subsection_encoding 7 (list_encoding (pieces_model.joins entries)) ∷ [] → ContainsObjectLinks new (items ++ Comdats comdats ∷ [])
 adds_comdats {comdats = comdats} before held e = adds_vector before (Comdats comdats) 7 refl held e held.encodable
 
 -- The section of an object file gains the symbols of a table, each of which is as its flags say.
-pub adds_object_symbols : {old new entries : List (List ℕ)} {items : List LinkItem} {symbols : List Symbol} → ContainsObjectLinks old items → AreObjectSymbols entries symbols → new ≡ old ++ subsection_encoding 8 (list_encoding entries) ∷ []
+pub adds_object_symbols : {old new entries : List (List ℕ)} {items : List LinkItem} {symbols : List Symbol} → ContainsObjectLinks old items → AreObjectSymbols entries symbols → new ≡ old ++ subsection_encoding 8 (list_encoding (pieces_model.joins entries)) ∷ []
     → AllByRecursion IsAsFlagged symbols → ContainsObjectLinks new (items ++ Symbols symbols ∷ [])
 adds_object_symbols {symbols = symbols} before held e flagged =
     adds_vector before (Symbols symbols) 8 refl held e (record { count = held.encodable.count; members = all_flagged IsFullSymbol symbols held.encodable.members flagged })
@@ -271,27 +271,27 @@ adds_dylink_memory before memory e plain = adds_item before (Memory memory) e pl
 
 -- The section of a dynamic library gains a subsection whose content is the vector of a list.
 adds_dylink_list : {X : Type 0} {encoding : X → List ℕ} {Is : X → Type 0} {old new entries : List (List ℕ)} {items : List DylinkItem} {xs : List X} → ContainsDylink old items → (item : DylinkItem) (id : ℕ) → dylink_encoding item ≡ subsection_encoding id (vec_encoding encoding xs)
-    → IsListOf encoding Is entries xs → new ≡ old ++ subsection_encoding id (list_encoding entries) ∷ [] → IsDylink item → ContainsDylink new (items ++ item ∷ [])
+    → IsListOf encoding Is entries xs → new ≡ old ++ subsection_encoding id (list_encoding (pieces_model.joins entries)) ∷ [] → IsDylink item → ContainsDylink new (items ++ item ∷ [])
 adds_dylink_list {old = old} before item id is held e plain = adds_item before item (e ∙ ap (λ s. old ++ subsection_encoding id s ∷ []) (list_vector held) ∙ ap (λ s. old ++ s ∷ []) (sym is)) plain
 
 -- The section of a dynamic library gains the libraries of a list.
-pub adds_needed : {old new entries : List (List ℕ)} {items : List DylinkItem} {names : List (List ℕ)} → ContainsDylink old items → AreNames entries names → new ≡ old ++ subsection_encoding 2 (list_encoding entries) ∷ [] → ContainsDylink new (items ++ Needed names ∷ [])
+pub adds_needed : {old new entries : List (List ℕ)} {items : List DylinkItem} {names : List (List ℕ)} → ContainsDylink old items → AreNames entries names → new ≡ old ++ subsection_encoding 2 (list_encoding (pieces_model.joins entries)) ∷ [] → ContainsDylink new (items ++ Needed names ∷ [])
 adds_needed {names = names} before held e = adds_dylink_list before (Needed names) 2 refl held e held.encodable
 
 -- The section of a dynamic library gains the flags of exported symbols.
-pub adds_exports_flags : {old new entries : List (List ℕ)} {items : List DylinkItem} {exports : List DylinkExport} → ContainsDylink old items → AreDylinkExports entries exports → new ≡ old ++ subsection_encoding 3 (list_encoding entries) ∷ [] → ContainsDylink new (items ++ ExportFlags exports ∷ [])
+pub adds_exports_flags : {old new entries : List (List ℕ)} {items : List DylinkItem} {exports : List DylinkExport} → ContainsDylink old items → AreDylinkExports entries exports → new ≡ old ++ subsection_encoding 3 (list_encoding (pieces_model.joins entries)) ∷ [] → ContainsDylink new (items ++ ExportFlags exports ∷ [])
 adds_exports_flags {exports = exports} before held e = adds_dylink_list before (ExportFlags exports) 3 refl held e held.encodable
 
 -- The section of a dynamic library gains the flags of imported symbols.
-pub adds_imports_flags : {old new entries : List (List ℕ)} {items : List DylinkItem} {imports : List DylinkImport} → ContainsDylink old items → AreDylinkImports entries imports → new ≡ old ++ subsection_encoding 4 (list_encoding entries) ∷ [] → ContainsDylink new (items ++ ImportFlags imports ∷ [])
+pub adds_imports_flags : {old new entries : List (List ℕ)} {items : List DylinkItem} {imports : List DylinkImport} → ContainsDylink old items → AreDylinkImports entries imports → new ≡ old ++ subsection_encoding 4 (list_encoding (pieces_model.joins entries)) ∷ [] → ContainsDylink new (items ++ ImportFlags imports ∷ [])
 adds_imports_flags {imports = imports} before held e = adds_dylink_list before (ImportFlags imports) 4 refl held e held.encodable
 
 -- The section of a dynamic library gains the folders of a list.
-pub adds_runtime_path : {old new entries : List (List ℕ)} {items : List DylinkItem} {paths : List (List ℕ)} → ContainsDylink old items → AreNames entries paths → new ≡ old ++ subsection_encoding 5 (list_encoding entries) ∷ [] → ContainsDylink new (items ++ RuntimePath paths ∷ [])
+pub adds_runtime_path : {old new entries : List (List ℕ)} {items : List DylinkItem} {paths : List (List ℕ)} → ContainsDylink old items → AreNames entries paths → new ≡ old ++ subsection_encoding 5 (list_encoding (pieces_model.joins entries)) ∷ [] → ContainsDylink new (items ++ RuntimePath paths ∷ [])
 adds_runtime_path {paths = paths} before held e = adds_dylink_list before (RuntimePath paths) 5 refl held e held.encodable
 
 -- The section gains a field of producers, whose name's length the call has checked.
-pub adds_field : {old new entries : List (List ℕ)} {items : List Field} {values : List Producer} → ContainsFields old items → (n : List ℕ) → AreProducers entries values → new ≡ old ++ (size_prefixed_encoding n ++ list_encoding entries) ∷ [] → HasEncodableSize n × Unit {0} → IsUtf8 n
+pub adds_field : {old new entries : List (List ℕ)} {items : List Field} {values : List Producer} → ContainsFields old items → (n : List ℕ) → AreProducers entries values → new ≡ old ++ (size_prefixed_encoding n ++ list_encoding (pieces_model.joins entries)) ∷ [] → HasEncodableSize n × Unit {0} → IsUtf8 n
     → ContainsFields new (items ++ (n, values) ∷ [])
 adds_field {old = old} {values = values} before n held e encodable utf8 =
     adds_item before (n, values) (e ∙ ap (λ s. old ++ (size_prefixed_encoding n ++ s) ∷ []) (list_vector held)) ((utf8, encodable.0), held.encodable)

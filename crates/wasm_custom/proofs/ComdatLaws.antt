@@ -1,11 +1,12 @@
 -- This file proves that COMDAT groups are unambiguous, and how they are decoded and minimized.
-use Rattle.wasm_base.proofs.Words.{◌≡◌, ℕ, ◌^◌, ◌<◌, List, [], ◌∷◌, ◌++◌, map, ap, refl, sym, subst, map-id, Format, u32, byte, name, pair, vec, Mode, Unambiguous, Decodes, Rejects, AppendsMinimal, both_grammars}
+use Rattle.wasm_base.proofs.Words.{◌≡◌, ◌∙◌, ℕ, ◌^◌, ◌<◌, List, [], ◌∷◌, ◌++◌, map, ap, refl, sym, subst, map-id, Format, u32, byte, name, pair, vec, Mode, Unambiguous, Decodes, Rejects, AppendsMinimal, both_grammars}
 use Rattle.wasm_base.proofs.Words.{HasEncoding, IsEncodableName, minimal, unsigned_encoding, size_prefixed_encoding, vec_encoding, pair_encodes, u32_encodes, name_encodes, vec_encodes}
 use Rattle.wasm_base.proofs.Words.{mapped_unambiguous, pair_unambiguous, name_unambiguous, u32_unambiguous, byte_unambiguous, vec_unambiguous, mapped_decodes, mapped_rejects, mapped_appended}
 use Rattle.wasm_base.proofs.Words.{pair_appended, encoding_appended, mapped_encoded, left_encoded, right_encoded}
 use Rattle.wasm_custom.specs.Comdats.{comdat_symbol_encoding, IsComdatSymbol, comdat_symbol_of, comdat_symbol, Comdat, comdat_encoding, IsComdat, comdat_of, comdat}
 use Rattle.wasm_custom.specs.Lists.{list_encoding, ContainsList, IsEncodingOf}
-use Rattle.wasm_custom.proofs.ListLaws.{list_vector}
+use Rattle.wasm_base.specs.Stores.{Joined, Cut}
+use Rattle.wasm_custom.proofs.ListLaws.{list_cut, list_vector}
 use Rattle.wasm_custom.specs.declared.comdats.ComdatSymbol.{ComdatSymbol}
 
 -- ---- members of a group
@@ -49,11 +50,11 @@ comdat_encodes c plain =
     (parts_of c, refl, pair_encodes name (pair u32 (vec comdat_symbol)) (size_prefixed_encoding c.name) (unsigned_encoding c.flags ++ members) c.name (c.flags, c.symbols) (name_encodes c.name plain.name.0 plain.name.1) back)
 
 -- The encoding of a name, flags and a list of members is that of a group.
-pub comdat_of_list : (n : List ℕ) (flags : ℕ) (pieces : List (List ℕ)) → IsEncodableName n → flags < 2 ^ 32 → ContainsList comdat_symbol_encoding IsComdatSymbol pieces → IsEncodingOf comdat_encoding IsComdat (size_prefixed_encoding n ++ (unsigned_encoding flags ++ list_encoding pieces))
-comdat_of_list n flags pieces named range h = record {
-  member = record { name = n; flags = flags; symbols = h.list };
-  is = ap (λ s. size_prefixed_encoding n ++ (unsigned_encoding flags ++ s)) (list_vector h.is);
-  encodable = record { name = named; flags = range; symbols = h.is.encodable };
+pub comdat_of_list : (n : List ℕ) (flags : ℕ) (j : Joined) → IsEncodableName n → flags < 2 ^ 32 → Cut (λ pieces. ContainsList comdat_symbol_encoding IsComdatSymbol pieces) j → IsEncodingOf comdat_encoding IsComdat (size_prefixed_encoding n ++ (unsigned_encoding flags ++ list_encoding j))
+comdat_of_list n flags j named range cut = record {
+  member = record { name = n; flags = flags; symbols = cut.are.list };
+  is = ap (λ s. size_prefixed_encoding n ++ (unsigned_encoding flags ++ s)) (list_cut j cut ∙ list_vector cut.are.is);
+  encodable = record { name = named; flags = range; symbols = cut.are.is.encodable };
 }
 
 pub comdat_decodes : {m : Mode} (bytes last n : List ℕ) (flags : ℕ) (symbols : List ComdatSymbol) → Decodes parts m bytes (n, (flags, map (λ s. s) symbols)) last → Decodes comdat m bytes (record { name = n; flags = flags; symbols = symbols }) last

@@ -12,7 +12,7 @@ pub use Rattle.wasm_custom.proofs.Calls.{parts, sections}
 pub use Rattle.wasm_custom.proofs.ComdatLaws.{comdat_none, comdat_of_list}
 pub use Rattle.wasm_custom.proofs.CoreDumpLaws.{instance_decodes, instance_none, process_back, process_fills, process_none, process_rejects}
 pub use Rattle.wasm_custom.proofs.CoreStackLaws.{f32_decodes, f32_none, f64_decodes, f64_none, frame_decodes, frame_no_locals, frame_no_location, frame_no_stack, i32_decodes, i32_none, i64_decodes}
-pub use Rattle.wasm_custom.proofs.CoreStackLaws.{i64_none, stack_fills, stack_no_frames, stack_none, stack_unique, value_none}
+pub use Rattle.wasm_custom.proofs.CoreStackLaws.{i64_none, stack_fills, stack_no_frames, stack_none, stack_stored, value_none}
 pub use Rattle.wasm_custom.proofs.CustomLaws.{custom_back, encodable_of, raw_back}
 pub use Rattle.wasm_custom.proofs.DecodeMarked.{marked_none}
 pub use Rattle.wasm_custom.proofs.DecodeNamed.{counted_decodes, counted_more, counted_none, counted_rejects, name_none, name_other}
@@ -23,7 +23,7 @@ pub use Rattle.wasm_custom.proofs.FeatureLaws.{prefix_none}
 pub use Rattle.wasm_custom.proofs.HintLaws.{hint_decodes, hint_none, hint_rejects, hint_value_none}
 pub use Rattle.wasm_custom.proofs.LinkLaws.{comdats_decodes, comdats_none, inits_decodes, inits_none, link_begins, link_none, links_fill, links_no_version, links_none, no_links, segments_decodes}
 pub use Rattle.wasm_custom.proofs.LinkLaws.{arch_encoded, comdats_encoded, segments_encoded, segments_none, symbols_decodes, symbols_encoded, symbols_none, vector_appended, vector_encodable, version_none}
-pub use Rattle.wasm_custom.proofs.ListLaws.{contains_one_more, contains_same, is_vector, list_more, name_encodable, named_encoding_of, names_inside}
+pub use Rattle.wasm_custom.proofs.ListLaws.{contains_none, contains_one_more, is_vector, list_more, name_encodable, named_encoding_of, names_inside}
 pub use Rattle.wasm_custom.proofs.NameLaws.{indirect_appended, indirect_encoded, map_appended, map_encoded, names_fill, names_none, no_module, no_names, subsection_decodes, subsection_none}
 pub use Rattle.wasm_custom.proofs.NameLaws.{subsection_not_size_prefixed, subsection_rejects}
 pub use Rattle.wasm_custom.proofs.SegmentLaws.{segment_none}

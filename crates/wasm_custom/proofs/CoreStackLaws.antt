@@ -1,6 +1,6 @@
 -- This file proves that stacks of core dumps are unambiguous, and how they are decoded and
 -- minimized.
-use Rattle.wasm_base.proofs.Words.{ℕ, ◌≤◌, List, [], ◌∷◌, ◌++◌, length, map, true, refl, sym, ap, subst, arith, length-append, ◌≡◌, ◌≢◌, ℤ, AllZip, DecodesBack, ItemLaws, entry_encoding, u32, byte}
+use Rattle.wasm_base.proofs.Words.{ℕ, ◌≤◌, List, [], ◌∷◌, ◌++◌, length, map, true, refl, sym, ap, subst, arith, length-append, ◌≡◌, ◌≢◌, ℤ, AllZip, DecodesBack, ItemLaws, ContainsItems, DecodesUniquely, entry_encoding, u32, byte}
 use Rattle.wasm_base.proofs.Words.{pair, prefixed, vec, Format, name, just, s32, s64, little_endian, impossible, choice, minimal, unsigned_encoding, signed_encoding, Mode, joined, Unambiguous}
 use Rattle.wasm_base.proofs.Words.{Decodes, Rejects, UnambiguousWhole, longest, HasEncodableSize, vec_encoding, little_endian_encoding, size_prefixed_encoding, IsEncodableVec, s32_unambiguous}
 use Rattle.wasm_base.proofs.Words.{s64_unambiguous, name_unambiguous, entries_encodes, mapped_unambiguous, pair_unambiguous, pair_whole, vec_unambiguous, prefixed_unambiguous, fixed_unambiguous}
@@ -10,14 +10,15 @@ use Rattle.wasm_base.proofs.Words.{then_decodes, then_rejects_first, then_reject
 use Rattle.wasm_base.proofs.Words.{after_whole, AppendsMinimal, both_grammars, HasEncoding, left_encoded, right_encoded, mapped_encoded, counted_encodable, little_endian_below, pair_appended, prefixed_appended}
 use Rattle.wasm_base.proofs.Words.{mapped_appended, records_appended}
 use Rattle.wasm_base.specs.Minimal.{EncodesMinimally}
+use Rattle.wasm_base.specs.Stores.{Cut, StoreModel}
 use Rattle.wasm_base.proofs.GrammarLaws.{canonical_by, choices_both, fixed_both, mapped_both, s32_both, s64_both, little_endian_both}
-use Rattle.wasm_custom.specs.{marked_encoding, marked_name, StackFrame, frame_entry, IsFrame, CodeLocation, stack_frame_of, stack_frame, stack_name, stack_section, SaysStack, frame_items}
+use Rattle.wasm_custom.specs.{joined_data, SaysStackIn, marked_encoding, marked_name, StackFrame, frame_entry, IsFrame, CodeLocation, stack_frame_of, stack_frame, stack_name, stack_section, SaysStack, frame_items}
 use Rattle.wasm_custom.specs.{stack_payload, value_encoding, IsValue, f32_of, f64_of, value_tags, value, named_encoding, IsEncodableNamed, count_encoding, entries_encoding}
 use Rattle.wasm_custom.specs.declared.core_values.CoreDumpValue.{CoreDumpValue}
 use Rattle.wasm_custom.specs.declared.core_values.CoreDumpValue.TheVariants.{Missing, I32, I64, F32, F64}
 use Rattle.wasm_custom.proofs.CoreDumpLaws.{marked_unambiguous, marked_encodes}
 use Rattle.wasm_custom.proofs.CustomLaws.{named_encoded, named_encodes, data_encodable, named_appended}
-use Rattle.wasm_custom.proofs.EntriesLaws.{listing_encodes}
+use Rattle.wasm_custom.proofs.EntriesLaws.{cut_data, listing_encodes}
 use Rattle.wasm_immediates.specs.declared.floats.Ieee32.{Ieee32}
 use Rattle.wasm_immediates.specs.declared.floats.Ieee64.{Ieee64}
 use Rattle.wasm_custom.proofs.DecodeNamed.{named_fills, named_none, named_rejects}
@@ -90,7 +91,7 @@ within front content pieces encodable =
 marked_encodable : (n : List ℕ) → length (marked_encoding n) ≤ longest → HasEncodableSize n
 marked_encodable n encodable = omega (arith, encodable, length-append (unsigned_encoding (length n)) n)
 
-pub stack_unique : (front : List ℕ) (pieces : List (List ℕ)) → length pieces ≤ longest → IsEncodableNamed stack_name (entries_encoding front true pieces)
+stack_unique : (front : List ℕ) (pieces : List (List ℕ)) → length pieces ≤ longest → IsEncodableNamed stack_name (entries_encoding front true pieces)
     → DecodesBack stack_section (SaysStack front pieces) (named_encoding stack_name (entries_encoding front true pieces))
 stack_unique front pieces few encodable = record {
   for_each = λ said says.
@@ -106,6 +107,19 @@ stack_unique front pieces few encodable = record {
       decodes_uniquely {F = stack_section} stack_unambiguous
       (named_encodes minimal tt stack_name (pair marked_name (vec stack_frame)) (entries_encoding front true pieces) said (ascii {bytes = stack_name} refl) encodable
       (pair_encodes marked_name (vec stack_frame) front content said.0 said.1 named (listing_encodes minimal true stack_frame pieces said.1 few listed)));
+}
+
+-- The same for frames in a store, if entries that encode frames can be cut into pieces that encode
+-- them.
+pub stack_stored : {M : Type 0} (model : StoreModel M) (front : List ℕ) (s : M) → (model.joins s).number ≤ longest → IsEncodableNamed stack_name (joined_data front true (model.joins s))
+    → ((items : List StackFrame) → model.holds (λ pieces. ContainsItems frame_items pieces items) s → Cut (λ pieces. ContainsItems frame_items pieces items) (model.joins s))
+    → DecodesBack stack_section (SaysStackIn model front s) (named_encoding stack_name (joined_data front true (model.joins s)))
+stack_stored model front s few encodable cuts = record {
+  for_each = λ said says.
+      let cut = cuts said.1 says.2 in
+      let same = cut_data front true _ cut in
+      subst (λ b. DecodesUniquely stack_section (named_encoding stack_name b) said) same
+      ((stack_unique front cut.pieces (subst (λ k. k ≤ longest) (sym cut.number) few) (subst (IsEncodableNamed stack_name) (sym same) encodable)).for_each said (says.0, says.1, cut.are));
 }
 
 -- ---- decoding stacks of core dumps

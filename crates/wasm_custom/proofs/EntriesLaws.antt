@@ -27,7 +27,7 @@ same_encodable n front m first counted other j k e f g h encodable =
     (subst (λ z. IsEncodableNamed n (joined_data front z k)) g (subst (λ z. IsEncodableNamed n (joined_data z other k)) f (subst (λ z. IsEncodableNamed z (joined_data first other k)) e encodable)))
 
 -- The data of the pieces are those of the entries.
-cut_data : {P : List (List ℕ) → Type 0} (front : List ℕ) (counted : Bool) (j : Joined) (cut : Cut P j) → entries_encoding front counted cut.pieces ≡ joined_data front counted j
+pub cut_data : {P : List (List ℕ) → Type 0} (front : List ℕ) (counted : Bool) (j : Joined) (cut : Cut P j) → entries_encoding front counted cut.pieces ≡ joined_data front counted j
 cut_data front counted j cut = ap₂ (λ k b. front ++ (count_encoding counted k ++ b)) cut.number cut.content
 
 module _ {Record Item : Type 0} (kind : Kind Record Item) (n front : List ℕ) (front_format : Format (Unit {0})) (counted : Bool)

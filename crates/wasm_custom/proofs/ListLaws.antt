@@ -1,7 +1,8 @@
 -- This file proves the members of lists that are one argument of a call.
 use Rattle.wasm_base.proofs.Words.{◌≡◌, ℕ, ◌^◌, ◌<◌, List, [], ◌∷◌, ◌++◌, length, map, Option, Some, None, IsUtf8, refl, sym, ap, ap₂, ◌∙◌, subst, arith, length-append, IfSome, length-map, map-append}
-use Rattle.wasm_base.proofs.Words.{All-nil, All-push, flat_map, unsigned_encoding, joined, longest, vec_encoding, size_prefixed_encoding, HasEncodableSize, optional_encoding, IsEncodableName}
+use Rattle.wasm_base.proofs.Words.{payload_joined, All-nil, All-push, flat_map, unsigned_encoding, joined, longest, vec_encoding, size_prefixed_encoding, HasEncodableSize, optional_encoding, IsEncodableName}
 use Rattle.std.specs.Borrow.{Bor}
+use Rattle.wasm_base.specs.Stores.{Joined, Cut, pieces_model}
 use Rattle.wasm_custom.specs.{list_encoding, IsListOf, ContainsList, IsEncodingOf, IsVectorOf, ListMore, given_name, naming_encoding, IsNaming, inside_encoding, IsInside}
 
 -- ---- one more member
@@ -22,9 +23,6 @@ module _ {X : Type 0} {encoding : X → List ℕ} {Is : X → Type 0} where
   pub contains_one_more : {old : List (List ℕ)} {piece : List ℕ} → ContainsList encoding Is old → length old < longest → IsEncodingOf encoding Is piece → ContainsList encoding Is (old ++ piece ∷ [])
   contains_one_more h spare p = record { list = h.list ++ p.member ∷ []; is = lists_more p.member h.is spare p.is p.encodable }
 
-  pub contains_same : {old new : List (List ℕ)} → new ≡ old → ContainsList encoding Is old → ContainsList encoding Is new
-  contains_same e h = subst (λ ps. ContainsList encoding Is ps) (sym e) h
-
 pub list_more : {X : Type 0} (encoding : X → List ℕ) (Is : X → Type 0) → ListMore encoding Is
 list_more encoding Is = record { none = lists_none; given = λ pieces xs x h spare is. lists_more x h spare refl is }
 
@@ -34,19 +32,27 @@ joined-map : {X : Type 0} (encoding : X → List ℕ) (xs : List X) → joined (
 joined-map encoding [] = refl
 joined-map encoding (x ∷ xs) = ap (λ s. encoding x ++ s) (joined-map encoding xs)
 
-of_members : {X : Type 0} (encoding : X → List ℕ) (xs : List X) → list_encoding (map encoding xs) ≡ vec_encoding encoding xs
+of_members : {X : Type 0} (encoding : X → List ℕ) (xs : List X) → list_encoding (pieces_model.joins (map encoding xs)) ≡ vec_encoding encoding xs
 unfolding list_encoding
 of_members encoding xs = ap₂ ◌++◌ (ap unsigned_encoding (length-map xs encoding)) (joined-map encoding xs)
 
-pub list_vector : {X : Type 0} {encoding : X → List ℕ} {Is : X → Type 0} {pieces : List (List ℕ)} {xs : List X} → IsListOf encoding Is pieces xs → list_encoding pieces ≡ vec_encoding encoding xs
-list_vector {encoding = encoding} {xs = xs} h = ap list_encoding h.held ∙ of_members encoding xs
+pub list_vector : {X : Type 0} {encoding : X → List ℕ} {Is : X → Type 0} {pieces : List (List ℕ)} {xs : List X} → IsListOf encoding Is pieces xs → list_encoding (pieces_model.joins pieces) ≡ vec_encoding encoding xs
+list_vector {encoding = encoding} {xs = xs} h = ap (λ ps. list_encoding (pieces_model.joins ps)) h.held ∙ of_members encoding xs
+
+-- The encoding of a list is that of the pieces of which it consists.
+pub list_cut : {P : List (List ℕ) → Type 0} (j : Joined) (cut : Cut P j) → list_encoding j ≡ list_encoding (pieces_model.joins cut.pieces)
+unfolding list_encoding
+list_cut j cut = sym (payload_joined j cut)
+
+pub cut_vector : {X : Type 0} {encoding : X → List ℕ} {Is : X → Type 0} (j : Joined) (xs : List X) → Cut (λ pieces. IsListOf encoding Is pieces xs) j → list_encoding j ≡ vec_encoding encoding xs
+cut_vector j xs cut = list_cut j cut ∙ list_vector cut.are
 
 pub is_vector : {X : Type 0} (encoding : X → List ℕ) (Is : X → Type 0) → IsVectorOf encoding Is
-is_vector encoding Is = record { is = λ pieces xs h. list_vector h }
+is_vector encoding Is = record { is = λ j xs cut. cut_vector j xs cut }
 
 -- The encoding of an index with its names.
-pub names_inside : (index : ℕ) (pieces : List (List ℕ)) → index < 2 ^ 32 → ContainsList naming_encoding IsNaming pieces → IsEncodingOf inside_encoding IsInside (unsigned_encoding index ++ list_encoding pieces)
-names_inside index pieces range h = record { member = (index, h.list); is = ap (λ s. unsigned_encoding index ++ s) (list_vector h.is); encodable = (range, h.is.encodable) }
+pub names_inside : (index : ℕ) (j : Joined) → index < 2 ^ 32 → Cut (λ pieces. ContainsList naming_encoding IsNaming pieces) j → IsEncodingOf inside_encoding IsInside (unsigned_encoding index ++ list_encoding j)
+names_inside index j range cut = record { member = (index, cut.are.list); is = ap (λ s. unsigned_encoding index ++ s) (list_cut j cut ∙ list_vector cut.are.is); encodable = (range, cut.are.is.encodable) }
 
 -- ---- an optional name
 

@@ -14,6 +14,7 @@ pub use Rattle.wasm_custom.proofs.DylinkLaws.{dylink_section}
 pub use Rattle.wasm_custom.proofs.FeatureLaws.{features_section}
 pub use Rattle.wasm_custom.proofs.HintLaws.{hints_section}
 pub use Rattle.wasm_custom.proofs.LinkLaws.{linking_section, object_section}
+pub use Rattle.wasm_custom.proofs.ListLaws.{list_cut}
 pub use Rattle.wasm_custom.proofs.NameLaws.{names_section}
 pub use Rattle.wasm_custom.proofs.ProducerLaws.{producers_section}
 pub use Rattle.wasm_custom.proofs.RelocationLaws.{relocations_whole}

@@ -2,6 +2,7 @@
 -- Coredump.
 use Rattle.std.specs.Prelude.{◌≡◌, ℕ, ◌^◌, ◌<◌, List, [], ◌∷◌, ◌++◌, IsUtf8, codes}
 use Rattle.wasm_base.specs.Words.{Kind, ContainsItems, Format, u32, mapped, pair, prefixed, vec, unsigned_encoding, vec_encoding, IsEncodableVec, SectionDecoding}
+use Rattle.wasm_base.specs.Stores.{StoreModel, pieces_model}
 use Rattle.wasm_custom.specs.CoreDumps.{marked_encoding, marked_name}
 use Rattle.wasm_custom.specs.CoreValues.{value_encoding, IsValue, value}
 use Rattle.wasm_custom.specs.Customs.{named_section, named_payload, decoding_as}
@@ -55,10 +56,14 @@ stack_name = codes "corestack"
 abbrev pub stack_section : Format (List ℕ × List StackFrame)
 stack_section = named_section stack_name (pair marked_name (vec stack_frame))
 
--- The front is the byte 00 and this name of the thread, which is UTF-8, and the pieces encode these
--- frames.
+-- The front is the byte 00 and this name of the thread, which is UTF-8, and the entries of the store
+-- encode these frames.
+abbrev pub SaysStackIn : {M : Type 0} → StoreModel M → List ℕ → M → List ℕ × List StackFrame → Type 0
+SaysStackIn model front frames said = IsUtf8 said.0 × (front ≡ marked_encoding said.0) × model.holds (λ pieces. ContainsItems frame_items pieces said.1) frames
+
+-- `SaysStackIn` of frames that are a list of pieces.
 abbrev pub SaysStack : List ℕ → List (List ℕ) → List ℕ × List StackFrame → Type 0
-SaysStack front frames said = IsUtf8 said.0 × (front ≡ marked_encoding said.0) × ContainsItems frame_items frames said.1
+SaysStack front frames said = SaysStackIn pieces_model front frames said
 
 -- ---- the section of a stack
 

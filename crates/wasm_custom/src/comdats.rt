@@ -1,6 +1,6 @@
 // The COMDAT groups of a linking section: their builders, their reader and their minimizer.
 ghost use Rattle.std.specs.Prelude.{None, Some, ◌∷◌, ◌++◌, ⊤};
-ghost use Rattle.wasm_base.specs.Calls.{Adds};
+ghost use Rattle.wasm_base.specs.Calls.{AddsTo};
 ghost use Rattle.wasm_base.specs.Decoding.{Unambiguous};
 ghost use Rattle.wasm_base.specs.Encodings.{size_prefixed_encoding, HasEncodableSize};
 ghost use Rattle.wasm_base.specs.Numbers.{unsigned_encoding};
@@ -11,10 +11,12 @@ ghost use Rattle.wasm_base.specs.Minimal.{both_grammars};
 
 use crate::lists::{CountedList, ListKind};
 use std::alloc::{Allocator, Global};
-use wasm_base::{DecodeError, Encode, Grammar, Layout, Lent, Readable, Result, Shorten};
+use wasm_base::{
+    DecodeError, Encode, Grammar, Layout, Lent, Pieces, Readable, Result, Shorten, Store,
+};
 
 /// The members of a COMDAT group, in the order in which they are added.
-pub type ComdatSymbols<A = Global> = CountedList<ComdatSymbolMembers, A>;
+pub type ComdatSymbols<A = Global> = CountedList<ComdatSymbolMembers, Pieces<A>>;
 
 /// The kind of the members of a list of a group's members.
 #[derive(Clone, Copy, Debug)]
@@ -34,11 +36,11 @@ impl ListKind for ComdatSymbolMembers {
     }
 }
 
-impl<A: Allocator> ComdatSymbols<A> {
+impl<S: Store> CountedList<ComdatSymbolMembers, S> {
     /// Adds a member of this kind, with its index among those of the kind. The kind is 0 for a data
     /// segment, 1 for a function, 2 for a global, 3 for a tag, 4 for a table, and 5 for a section.
     pub fn symbol(&mut self, kind: u8, index: u32) -> Result<()>
-        ensures { Adds (kind ∷ unsigned_encoding index) ⊤ self.old self.new result }
+        ensures { AddsTo S.model (kind ∷ unsigned_encoding index) ⊤ self.old self.new result }
     {
         self.add_record(&(kind, index))
     }
@@ -53,7 +55,7 @@ impl<A: Allocator> ComdatSymbols<A> {
 /// let mut comdats = Comdats::new(alloc);
 /// comdats.comdat("_Z1fIiET_S0_", 0, &members)?;
 /// ```
-pub type Comdats<A = Global> = CountedList<ComdatMembers, A>;
+pub type Comdats<A = Global> = CountedList<ComdatMembers, Pieces<A>>;
 
 /// The kind of the members of a list of groups.
 #[derive(Clone, Copy, Debug)]
@@ -73,15 +75,15 @@ impl ListKind for ComdatMembers {
     }
 }
 
-impl<A: Allocator> Comdats<A> {
+impl<S: Store> CountedList<ComdatMembers, S> {
     /// Adds a group. In the tool conventions, `flags` are 0.
-    pub fn comdat<B: Allocator>(
+    pub fn comdat<T: Store>(
         &mut self,
         name: &str,
         flags: u32,
-        symbols: &ComdatSymbols<B>,
+        symbols: &CountedList<ComdatSymbolMembers, T>,
     ) -> Result<()>
-        ensures { Adds (size_prefixed_encoding name.now ++ (unsigned_encoding flags ++ list_encoding symbols.now)) (HasEncodableSize name.now) self.old self.new result }
+        ensures { AddsTo S.model (size_prefixed_encoding name.now ++ (unsigned_encoding flags ++ list_encoding (T.model.joins symbols.now))) (HasEncodableSize name.now) self.old self.new result }
     {
         symbols.members_law();
         self.add_record(&(name, flags, Lent(symbols)))

@@ -1,5 +1,5 @@
 // The stack section of a core dump: its builder, its reader and its minimizer.
-ghost use Rattle.std.specs.Prelude.{◌≡◌, ◌≢◌, ℕ, List, [], ◌∷◌, ◌++◌, IfOk, true, ⊤, IfErr, Err, OnOk, OnErr, map};
+ghost use Rattle.std.specs.Prelude.{◌≡◌, ◌≢◌, ℕ, List, ◌∷◌, ◌++◌, IfOk, true, ⊤, IfErr, Err, OnOk, OnErr, map};
 ghost use Rattle.wasm_base.specs.Calls.{DecodesBack};
 ghost use Rattle.wasm_base.specs.Cow.{items_of, utf8_of};
 ghost use Rattle.wasm_base.specs.Continuing.{RejectsWhole};
@@ -9,11 +9,10 @@ ghost use Rattle.wasm_base.specs.Encodings.{HasEncodableSize, vec_encoding};
 ghost use Rattle.wasm_base.specs.declared.refused.Refused.TheVariants.{TooLong};
 ghost use Rattle.wasm_custom.specs.Adding.{AddsTwoLists};
 ghost use Rattle.wasm_custom.specs.CoreDumps.{marked_encoding};
-ghost use Rattle.wasm_custom.specs.CoreStacks.{stack_name, stack_section, SaysStack, StackFrame, stack_frame, stack_frame_view, stack_payload};
+ghost use Rattle.wasm_custom.specs.CoreStacks.{frame_items, stack_name, stack_section, SaysStackIn, StackFrame, stack_frame, stack_frame_view, stack_payload};
 ghost use Rattle.wasm_custom.specs.CoreValues.{value_encoding};
 ghost use Rattle.wasm_custom.specs.Customs.{named_encoding, IsEncodableNamed};
-ghost use Rattle.wasm_base.specs.Stores.{pieces_model};
-ghost use Rattle.wasm_custom.specs.Entries.{entries_encoding};
+ghost use Rattle.wasm_custom.specs.Entries.{joined_data};
 ghost use Rattle.wasm_base.specs.Minimal.{AppendsMinimal, IsFrontOf, HasEncoding, both_grammars};
 ghost use Rattle.wasm_base.specs.declared.fault.ReadFault.TheVariants.{Memory};
 
@@ -26,8 +25,8 @@ use crate::named::after_name;
 use std::alloc::{Allocator, Global};
 use std::marker::Model;
 use wasm_base::{
-    CowSlice, CowStr, DecodeError, Encode, Grammar, Layout, Pieces, Readable, Result, Section,
-    SectionId, Shorten, read_whole, vec_of,
+    CowSlice, CowStr, DecodeError, Encode, Grammar, ItemsOf, Kind, Layout, NewStore, Pieces,
+    Readable, Result, Section, SectionId, Shorten, Store, read_whole, vec_of,
 };
 
 /// The `corestack` section of a thread, modelled as the bytes before its stack frames and the bytes
@@ -37,35 +36,53 @@ use wasm_base::{
 /// let mut stack = CoreDumpStackSection::new(alloc, "main")?;
 /// stack.frame(0, 42, 51, [CoreDumpValue::I32(1)], [CoreDumpValue::Missing])?;
 /// ```
+pub type CoreDumpStackSection<A = Global> = CoreDumpStackIn<Pieces<A>>;
+
+/// The kind of a stack's items: frames.
+#[derive(Clone, Copy, Debug)]
+pub struct FrameItems;
+
+impl Kind for FrameItems {
+    ghost Record = { StackFrame };
+
+    ghost Item = { StackFrame };
+
+    ghost kind = { frame_items };
+
+    #[tactic(auto, using(crate::proofs::CoreStackLaws::stack_frame_laws))]
+    fn laws() {}
+}
+
+/// The `corestack` section of a thread, whose frames a store of the type `E` keeps.
 ///
 /// # Errors
 ///
 /// An adding call that returns an error leaves the section unchanged. The error is `TooLong` only
 /// if the section is full or an item does not fit, and `Memory` only if an allocation fails.
 #[derive(Drop, Debug)]
-pub struct CoreDumpStackSection<A: Allocator = Global> {
-    front: Vec<u8, A>,
-    frames: Pieces<A>,
+pub struct CoreDumpStackIn<E: Store = Pieces> {
+    front: Vec<u8, E::Alloc>,
+    frames: E,
 }
 
-impl<A: Allocator> Model for CoreDumpStackSection<A> {
-    ghost Value = { List ℕ × List (List ℕ) };
+impl<E: Store> Model for CoreDumpStackIn<E> {
+    ghost Value = { List ℕ × E };
 
     ghost view = { λ s. (s.front.items, s.frames) };
 }
 
-impl<A: Allocator + Copy> CoreDumpStackSection<A> {
+impl<A: Allocator + Copy, E: NewStore<Alloc = A>> CoreDumpStackIn<E> {
     /// Returns the stack of the thread of this name, without frames.
     pub fn new(alloc: A, thread_name: &str) -> Result<Self>
-        ensures is { IfOk result (λ s. s ≡ (marked_encoding thread_name.now, [])) }
+        ensures is { IfOk result (λ s. s ≡ (marked_encoding thread_name.now, E.none)) }
         ensures was_encodable { IfOk result (λ _. HasEncodableSize thread_name.now) }
         ensures too_long { HasEncodableSize thread_name.now → result ≢ Err TooLong }
     {
         let mut front = Vec::new(alloc);
         (0x00u8, thread_name).encode(&mut front)?;
-        Ok(CoreDumpStackSection {
+        Ok(CoreDumpStackIn {
             front,
-            frames: Pieces::new(alloc),
+            frames: E::new_in(alloc),
         })
     }
 
@@ -74,14 +91,14 @@ impl<A: Allocator + Copy> CoreDumpStackSection<A> {
         ensures same { IfOk result (λ s. s ≡ self.now) }
         ensures memory { result ≢ Err TooLong }
     {
-        Ok(CoreDumpStackSection {
+        Ok(CoreDumpStackIn {
             front: Vec::from_slice(*self.front.allocator(), &self.front)?,
-            frames: self.frames.clone()?,
+            frames: self.frames.copy()?,
         })
     }
 }
 
-impl<A: Allocator> CoreDumpStackSection<A> {
+impl<E: Store> CoreDumpStackIn<E> {
     /// Adds a stack frame: its instance and function, the offset in the function, its locals, and
     /// its operand stack.
     ///
@@ -96,19 +113,19 @@ impl<A: Allocator> CoreDumpStackSection<A> {
         S::IntoIter: ExactSizeIterator + Drop,
         requires locals { HasKnownLength L.into_iter_gives L.IntoIter.can_next L.IntoIter.next_gives L.IntoIter.remaining locals }
         requires stack { HasKnownLength S.into_iter_gives S.IntoIter.can_next S.IntoIter.next_gives S.IntoIter.remaining stack }
-        ensures adds { AddsTwoLists pieces_model L.into_iter_gives L.IntoIter.next_gives L.IntoIter.remaining locals S.into_iter_gives S.IntoIter.next_gives S.IntoIter.remaining stack (λ _. ⊤) (λ _. ⊤)
+        ensures adds { AddsTwoLists E.model L.into_iter_gives L.IntoIter.next_gives L.IntoIter.remaining locals S.into_iter_gives S.IntoIter.next_gives S.IntoIter.remaining stack (λ _. ⊤) (λ _. ⊤)
             (λ xs ys. (0x00 ∷ (unsigned_encoding instanceidx ++ (unsigned_encoding funcidx ++ unsigned_encoding codeoffset))) ++ (vec_encoding value_encoding xs ++ vec_encoding value_encoding ys)) self.old.1 self.new.1 result }
         ensures same_thread { self.new.0 ≡ self.old.0 }
     {
         let locals = vec_of(locals)?;
         let stack = vec_of(stack)?;
         let place = (instanceidx, funcidx, codeoffset);
-        self.frames.add_once(((0x00u8, place), locals, stack))
+        self.frames.add_item_once(((0x00u8, place), locals, stack))
     }
 
     /// Returns the section as a custom section, which owns a copy of the data.
     pub fn as_custom<B: Allocator>(&self, alloc: B) -> Result<CustomSection<'_, B>>
-        ensures same { IfOk result (λ s. (utf8_of s.name ≡ stack_name) × (items_of s.bytes ≡ entries_encoding self.now.0 true self.now.1)) }
+        ensures same { IfOk result (λ s. (utf8_of s.name ≡ stack_name) × (items_of s.bytes ≡ joined_data self.now.0 true (E.model.joins self.now.1))) }
         ensures memory { result ≢ Err TooLong }
     {
         let data = data_of(alloc, &self.front, true, &self.frames)?;
@@ -121,24 +138,25 @@ impl<A: Allocator> CoreDumpStackSection<A> {
 
 /// Encodes the size prefix, the name of the section, and the data: the name of the thread, the
 /// number of frames, and the frames.
-impl<A: Allocator> Encode for CoreDumpStackSection<A> {
-    ghost encoding = { λ s. named_encoding stack_name (entries_encoding s.0 true s.1) };
+impl<E: Store> Encode for CoreDumpStackIn<E> {
+    ghost encoding = { λ s. named_encoding stack_name (joined_data s.0 true (E.model.joins s.1)) };
 
-    ghost encodable = { λ s. IsEncodableNamed stack_name (entries_encoding s.0 true s.1) };
+    ghost encodable = { λ s. IsEncodableNamed stack_name (joined_data s.0 true (E.model.joins s.1)) };
 
-    ghost decoding = { λ s. DecodesBack stack_section (SaysStack s.0 s.1) (named_encoding stack_name (entries_encoding s.0 true s.1)) };
+    ghost decoding = { λ s. DecodesBack stack_section (SaysStackIn E.model s.0 s.1) (named_encoding stack_name (joined_data s.0 true (E.model.joins s.1))) };
 
     fn encode<B: Allocator>(&self, sink: &mut Vec<u8, B>) -> Result<()> {
+        self.frames.cut::<ItemsOf<FrameItems>>();
         encode_entries(sink, "corestack", &self.front, true, &self.frames)
     }
 }
 
-impl<A: Allocator> Section for CoreDumpStackSection<A> {
+impl<E: Store> Section for CoreDumpStackIn<E> {
     ghost use Rattle.wasm_base.specs.SectionId.{number_of};
     ghost use Rattle.wasm_base.specs.declared.section_id.SectionId.TheVariants as ids;
-    ghost use Rattle.wasm_custom.specs.CoreStacks.{StackFrame, stack_name, stack_section, SaysStack};
+    ghost use Rattle.wasm_custom.specs.CoreStacks.{StackFrame, stack_name, stack_section, SaysStackIn};
     ghost use Rattle.wasm_custom.specs.Customs.{NamedPayload, named_sized};
-    ghost use Rattle.wasm_custom.specs.Entries.{entries_encoding};
+    ghost use Rattle.wasm_custom.specs.Entries.{joined_data};
 
     ghost id_of = { λ _. number_of ids.Custom };
 
@@ -146,15 +164,15 @@ impl<A: Allocator> Section for CoreDumpStackSection<A> {
 
     ghost format = { stack_section };
 
-    ghost says = { λ s. SaysStack s.0 s.1 };
+    ghost says = { λ s. SaysStackIn E.model s.0 s.1 };
 
-    ghost payload = { λ s. NamedPayload stack_name (entries_encoding s.0 true s.1) };
+    ghost payload = { λ s. NamedPayload stack_name (joined_data s.0 true (E.model.joins s.1)) };
 
     fn id(&self) -> u8 {
         SectionId::Custom.into()
     }
 
-    ghost sized = { λ s bytes encodable pays. named_sized stack_name (entries_encoding s.0 true s.1) bytes encodable pays };
+    ghost sized = { λ s bytes encodable pays. named_sized stack_name (joined_data s.0 true (E.model.joins s.1)) bytes encodable pays };
 
     ghost decodes_back = { λ s promised. promised };
 }

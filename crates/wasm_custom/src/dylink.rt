@@ -1,6 +1,6 @@
 // The section of a dynamic library: its builder, its reader and its minimizer.
 ghost use Rattle.std.specs.Prelude.{◌≡◌, [], false, ⊤, ◌≢◌, IfOk, IfErr, Err, OnOk, OnErr, map};
-ghost use Rattle.wasm_base.specs.Calls.{Adds, AddsTo};
+ghost use Rattle.wasm_base.specs.Calls.{AddsTo};
 ghost use Rattle.wasm_base.specs.Formats.{fixed, prefixed, size_prefixed};
 ghost use Rattle.std.specs.Prelude.{◌∷◌};
 ghost use Rattle.wasm_base.specs.Continuing.{RejectsWhole};
@@ -15,11 +15,12 @@ ghost use Rattle.wasm_base.specs.Minimal.{AppendsMinimal, IsFrontOf, HasEncoding
 ghost use Rattle.wasm_base.specs.declared.fault.ReadFault.TheVariants.{Memory};
 
 use crate::dylink_symbols::{
-    DylinkExport, DylinkExports, DylinkImport, DylinkImports, DylinkMemory, DylinkNeeded,
-    DylinkPath,
+    DylinkExport, DylinkImport, DylinkMemory, ExportFlagMembers, ImportFlagMembers, NeededMembers,
+    PathMembers,
 };
 use crate::entries::{CustomEntries, CustomKind};
 use crate::linking::{append_other, append_vector, read_vector};
+use crate::lists::CountedList;
 use crate::named::after_name;
 use crate::standard::require_standard;
 use crate::subsections::Subsection;
@@ -99,29 +100,29 @@ impl<S: Store> CustomEntries<DylinkItems, S> {
     }
 
     /// Adds the libraries that the library needs.
-    pub fn needed<B: Allocator>(&mut self, libraries: &DylinkNeeded<B>) -> Result<()>
-        ensures { AddsTo S.model (subsection_encoding 2 (list_encoding libraries.now)) (HasEncodableSize (list_encoding libraries.now) × ⊤) self.old self.new result }
+    pub fn needed<T: Store>(&mut self, libraries: &CountedList<NeededMembers, T>) -> Result<()>
+        ensures { AddsTo S.model (subsection_encoding 2 (list_encoding (T.model.joins libraries.now))) (HasEncodableSize (list_encoding (T.model.joins libraries.now)) × ⊤) self.old self.new result }
     {
         self.add_record(libraries)
     }
 
     /// Adds flags of exported symbols.
-    pub fn exports<B: Allocator>(&mut self, exports: &DylinkExports<B>) -> Result<()>
-        ensures { AddsTo S.model (subsection_encoding 3 (list_encoding exports.now)) (HasEncodableSize (list_encoding exports.now) × ⊤) self.old self.new result }
+    pub fn exports<T: Store>(&mut self, exports: &CountedList<ExportFlagMembers, T>) -> Result<()>
+        ensures { AddsTo S.model (subsection_encoding 3 (list_encoding (T.model.joins exports.now))) (HasEncodableSize (list_encoding (T.model.joins exports.now)) × ⊤) self.old self.new result }
     {
         self.add_record(exports)
     }
 
     /// Adds flags of imported symbols.
-    pub fn imports<B: Allocator>(&mut self, imports: &DylinkImports<B>) -> Result<()>
-        ensures { AddsTo S.model (subsection_encoding 4 (list_encoding imports.now)) (HasEncodableSize (list_encoding imports.now) × ⊤) self.old self.new result }
+    pub fn imports<T: Store>(&mut self, imports: &CountedList<ImportFlagMembers, T>) -> Result<()>
+        ensures { AddsTo S.model (subsection_encoding 4 (list_encoding (T.model.joins imports.now))) (HasEncodableSize (list_encoding (T.model.joins imports.now)) × ⊤) self.old self.new result }
     {
         self.add_record(imports)
     }
 
     /// Adds the folders in which the loader searches for libraries.
-    pub fn runtime_path<B: Allocator>(&mut self, folders: &DylinkPath<B>) -> Result<()>
-        ensures { AddsTo S.model (subsection_encoding 5 (list_encoding folders.now)) (HasEncodableSize (list_encoding folders.now) × ⊤) self.old self.new result }
+    pub fn runtime_path<T: Store>(&mut self, folders: &CountedList<PathMembers, T>) -> Result<()>
+        ensures { AddsTo S.model (subsection_encoding 5 (list_encoding (T.model.joins folders.now))) (HasEncodableSize (list_encoding (T.model.joins folders.now)) × ⊤) self.old self.new result }
     {
         self.add_record(folders)
     }

@@ -1,7 +1,7 @@
 // The contents of the subsections of a dynamic library's section: their builders, their readers and
 // their minimizers.
 ghost use Rattle.std.specs.Prelude.{◌≡◌, ◌≤◌, ◌++◌, Some, length, ⊤};
-ghost use Rattle.wasm_base.specs.Calls.{Adds};
+ghost use Rattle.wasm_base.specs.Calls.{AddsTo};
 ghost use Rattle.wasm_base.specs.Decoding.{Unambiguous};
 ghost use Rattle.wasm_base.specs.Encodings.{longest, size_prefixed_encoding, HasEncodableSize};
 ghost use Rattle.wasm_base.specs.Laws.{IsEncodableName};
@@ -14,7 +14,9 @@ ghost use Rattle.wasm_base.specs.Minimal.{both_grammars};
 use crate::lists::{CountedList, ListKind};
 use crate::subsections::Content;
 use std::alloc::{Allocator, Global};
-use wasm_base::{DecodeError, Encode, Grammar, Layout, Readable, Result, Shorten, encoding_size};
+use wasm_base::{
+    DecodeError, Encode, Grammar, Layout, Pieces, Readable, Result, Shorten, Store, encoding_size,
+};
 
 /// The memory and the table that a dynamic library needs at load time.
 #[derive(Clone, Copy, PartialEq, Eq, Debug)]
@@ -96,7 +98,7 @@ impl Shorten for DylinkMemory {
 
 /// The libraries that a dynamic library needs, in the order in which they are added. They are
 /// encoded as subsection 2.
-pub type DylinkNeeded<A = Global> = CountedList<NeededMembers, A>;
+pub type DylinkNeeded<A = Global> = CountedList<NeededMembers, Pieces<A>>;
 
 /// The kind of the members of a list of libraries: their names.
 #[derive(Clone, Copy, Debug)]
@@ -116,10 +118,10 @@ impl ListKind for NeededMembers {
     }
 }
 
-impl<A: Allocator> DylinkNeeded<A> {
+impl<S: Store> CountedList<NeededMembers, S> {
     /// Adds a library.
     pub fn library(&mut self, name: &str) -> Result<()>
-        ensures { Adds (size_prefixed_encoding name.now) (HasEncodableSize name.now) self.old self.new result }
+        ensures { AddsTo S.model (size_prefixed_encoding name.now) (HasEncodableSize name.now) self.old self.new result }
     {
         self.add_record(&name)
     }
@@ -127,7 +129,7 @@ impl<A: Allocator> DylinkNeeded<A> {
 
 /// The folders in which the loader searches for libraries, in the order in which they are added.
 /// They are encoded as subsection 5.
-pub type DylinkPath<A = Global> = CountedList<PathMembers, A>;
+pub type DylinkPath<A = Global> = CountedList<PathMembers, Pieces<A>>;
 
 /// The kind of the members of a list of folders: their paths.
 #[derive(Clone, Copy, Debug)]
@@ -147,10 +149,10 @@ impl ListKind for PathMembers {
     }
 }
 
-impl<A: Allocator> DylinkPath<A> {
+impl<S: Store> CountedList<PathMembers, S> {
     /// Adds a folder.
     pub fn folder(&mut self, path: &str) -> Result<()>
-        ensures { Adds (size_prefixed_encoding path.now) (HasEncodableSize path.now) self.old self.new result }
+        ensures { AddsTo S.model (size_prefixed_encoding path.now) (HasEncodableSize path.now) self.old self.new result }
     {
         self.add_record(&path)
     }
@@ -158,7 +160,7 @@ impl<A: Allocator> DylinkPath<A> {
 
 /// Flags of exported symbols, in the order in which they are added. They are encoded as subsection
 /// 3.
-pub type DylinkExports<A = Global> = CountedList<ExportFlagMembers, A>;
+pub type DylinkExports<A = Global> = CountedList<ExportFlagMembers, Pieces<A>>;
 
 /// The kind of the members of a list of flags of exported symbols.
 #[derive(Clone, Copy, Debug)]
@@ -178,11 +180,11 @@ impl ListKind for ExportFlagMembers {
     }
 }
 
-impl<A: Allocator> DylinkExports<A> {
+impl<S: Store> CountedList<ExportFlagMembers, S> {
     /// Adds the flags of an exported symbol. They are those of a symbol table, such as
     /// `WASM_SYM_BINDING_WEAK`.
     pub fn export(&mut self, name: &str, flags: u32) -> Result<()>
-        ensures { Adds (size_prefixed_encoding name.now ++ unsigned_encoding flags) (HasEncodableSize name.now × ⊤) self.old self.new result }
+        ensures { AddsTo S.model (size_prefixed_encoding name.now ++ unsigned_encoding flags) (HasEncodableSize name.now × ⊤) self.old self.new result }
     {
         self.add_record(&(name, flags))
     }
@@ -231,7 +233,7 @@ impl<'a> Shorten for DylinkExport<'a> {
 
 /// Flags of imported symbols, in the order in which they are added. They are encoded as subsection
 /// 4.
-pub type DylinkImports<A = Global> = CountedList<ImportFlagMembers, A>;
+pub type DylinkImports<A = Global> = CountedList<ImportFlagMembers, Pieces<A>>;
 
 /// The kind of the members of a list of flags of imported symbols.
 #[derive(Clone, Copy, Debug)]
@@ -251,11 +253,11 @@ impl ListKind for ImportFlagMembers {
     }
 }
 
-impl<A: Allocator> DylinkImports<A> {
+impl<S: Store> CountedList<ImportFlagMembers, S> {
     /// Adds the flags of an imported symbol. They are those of a symbol table, such as
     /// `WASM_SYM_BINDING_WEAK`.
     pub fn import(&mut self, module_name: &str, name: &str, flags: u32) -> Result<()>
-        ensures { Adds (size_prefixed_encoding module_name.now ++ (size_prefixed_encoding name.now ++ unsigned_encoding flags)) (HasEncodableSize module_name.now × HasEncodableSize name.now × ⊤) self.old self.new result }
+        ensures { AddsTo S.model (size_prefixed_encoding module_name.now ++ (size_prefixed_encoding name.now ++ unsigned_encoding flags)) (HasEncodableSize module_name.now × HasEncodableSize name.now × ⊤) self.old self.new result }
     {
         self.add_record(&(module_name, (name, flags)))
     }

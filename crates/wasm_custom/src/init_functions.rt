@@ -1,6 +1,6 @@
 // The init functions of a linking section: their builder, their reader and their minimizer.
 ghost use Rattle.std.specs.Prelude.{Some, ◌++◌, ⊤};
-ghost use Rattle.wasm_base.specs.Calls.{Adds};
+ghost use Rattle.wasm_base.specs.Calls.{AddsTo};
 ghost use Rattle.wasm_base.specs.Numbers.{unsigned_encoding};
 ghost use Rattle.wasm_custom.specs.InitFunctions.{init_encoding, IsInit, init_function};
 ghost use Rattle.wasm_custom.specs.declared.init_functions.InitFunction.{InitFunction as InitModel};
@@ -8,7 +8,7 @@ ghost use Rattle.wasm_base.specs.Minimal.{both_grammars};
 
 use crate::lists::{CountedList, ListKind};
 use std::alloc::{Allocator, Global};
-use wasm_base::{DecodeError, Grammar, Layout, Readable, Result, Shorten};
+use wasm_base::{DecodeError, Grammar, Layout, Pieces, Readable, Result, Shorten, Store};
 
 /// The init functions of a module, in the order in which they are added. They are encoded as
 /// subsection 6 of a linking section.
@@ -17,7 +17,7 @@ use wasm_base::{DecodeError, Grammar, Layout, Readable, Result, Shorten};
 /// let mut functions = InitFunctions::new(alloc);
 /// functions.function(65535, 0)?;
 /// ```
-pub type InitFunctions<A = Global> = CountedList<InitMembers, A>;
+pub type InitFunctions<A = Global> = CountedList<InitMembers, Pieces<A>>;
 
 /// The kind of the members of a list of init functions.
 #[derive(Clone, Copy, Debug)]
@@ -37,10 +37,10 @@ impl ListKind for InitMembers {
     }
 }
 
-impl<A: Allocator> InitFunctions<A> {
+impl<S: Store> CountedList<InitMembers, S> {
     /// Adds the function of this symbol. Functions of a lower priority are called first.
     pub fn function(&mut self, priority: u32, symbol: u32) -> Result<()>
-        ensures { Adds (unsigned_encoding priority ++ unsigned_encoding symbol) ⊤ self.old self.new result }
+        ensures { AddsTo S.model (unsigned_encoding priority ++ unsigned_encoding symbol) ⊤ self.old self.new result }
     {
         self.add_record(&(priority, symbol))
     }

@@ -1,6 +1,6 @@
 // The linking section: its builder, its reader and its minimizer.
 ghost use Rattle.std.specs.Prelude.{◌≡◌, [], ◌∷◌, false, ⊤, ◌≢◌, IfOk, IfErr, Err, OnOk, OnErr, map};
-ghost use Rattle.wasm_base.specs.Calls.{Adds, AddsTo};
+ghost use Rattle.wasm_base.specs.Calls.{AddsTo};
 ghost use Rattle.wasm_base.specs.Formats.{any_bytes, u32 as u32_format, just, name as name_format, prefixed, size_prefixed, vec};
 ghost use Rattle.wasm_base.specs.Continuing.{RejectsWhole};
 ghost use Rattle.wasm_base.specs.Numbers.{padded_of};
@@ -16,11 +16,12 @@ ghost use Rattle.wasm_base.specs.declared.fault.ReadFault.TheVariants.{Memory};
 use crate::comdats::Comdat;
 use crate::entries::{CustomEntries, CustomKind};
 use crate::init_functions::InitFunction;
+use crate::lists::CountedList;
 use crate::named::after_name;
 use crate::segments::SegmentInfo;
 use crate::standard::require_standard;
 use crate::subsections::Subsection;
-use crate::symbols::{Symbol, SymbolTable};
+use crate::symbols::{Symbol, SymbolMembers};
 use std::alloc::{Allocator, Global};
 use wasm_base::{
     DecodeError, Encode, Grammar, Kind, Layout, Pieces, ReadFault, Readable, Result, Shorten,
@@ -81,8 +82,8 @@ impl CustomKind for LinkingItems {
 
 impl<S: Store> CustomEntries<LinkingItems, S> {
     /// Adds the symbols.
-    pub fn symbol_table<B: Allocator>(&mut self, symbols: &SymbolTable<B>) -> Result<()>
-        ensures { AddsTo S.model (subsection_encoding 8 (list_encoding symbols.now)) (HasEncodableSize (list_encoding symbols.now) × ⊤) self.old self.new result }
+    pub fn symbol_table<T: Store>(&mut self, symbols: &CountedList<SymbolMembers, T>) -> Result<()>
+        ensures { AddsTo S.model (subsection_encoding 8 (list_encoding (T.model.joins symbols.now))) (HasEncodableSize (list_encoding (T.model.joins symbols.now)) × ⊤) self.old self.new result }
     {
         self.add_record(symbols)
     }

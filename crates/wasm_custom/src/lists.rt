@@ -1,13 +1,14 @@
 // Counted lists, each of which is one argument of a call that adds to a section or to another list.
-ghost use Rattle.std.specs.Prelude.{◌≡◌, ◌≢◌, ℕ, List, [], length, IfOk, IsTrue, ◌↔◌, ⊤, Option};
-ghost use Rattle.wasm_base.specs.Calls.{Adds};
+ghost use Rattle.std.specs.Prelude.{◌≡◌, ◌≢◌, ℕ, List, IfOk, IsTrue, ◌↔◌, ⊤, Option};
+ghost use Rattle.wasm_base.specs.Calls.{AddsTo};
+ghost use Rattle.wasm_base.specs.Stores.{Cut};
 ghost use Rattle.wasm_base.specs.declared.refused.Refused.TheVariants.{TooLong};
 ghost use Rattle.wasm_custom.specs.Lists.{list_encoding, listed_encoding, IsEncodableList, ContainsList, IsEncodingOf};
 
 use crate::subsections::{Content, Subsection};
-use std::alloc::{Allocator, Global};
+use std::alloc::Allocator;
 use std::marker::{Model, PhantomData};
-use wasm_base::{Encode, Pieces, Result, encoding_size};
+use wasm_base::{Encode, NewStore, Pieces, Property, Result, Store, encoding_size};
 
 /// A kind of members of a list, and their encoding.
 pub trait ListKind {
@@ -29,66 +30,79 @@ pub trait ListKind {
         ensures { result ≡ subsection };
 }
 
-/// A list of counted members of the kind `K`, modelled as the bytes of each entry.
+/// The pieces are the encodings of a list of members of the kind `K`.
+#[derive(Clone, Copy, Debug)]
+pub struct MembersOf<K>(PhantomData<K>);
+
+impl<K: ListKind> Property for MembersOf<K> {
+    ghost Items = { Unit {0} };
+
+    ghost says = { λ pieces _. ContainsList K.member_encoding K.is_member pieces };
+}
+
+/// A list of counted members of the kind `K`, which a store of the type `S` keeps.
 ///
 /// # Errors
 ///
 /// An adding call that returns an error leaves the list unchanged. The error is `TooLong` only if
 /// the list is full or the member does not fit, and `Memory` only if an allocation fails.
 #[derive(Drop, Debug)]
-pub struct CountedList<K: ListKind, A: Allocator = Global> {
-    pieces: Pieces<A>,
+pub struct CountedList<K: ListKind, S: Store = Pieces> {
+    entries: S,
     kind: PhantomData<K>,
 }
 
 /// Invariant: the entries are the encodings of a list of members.
-impl<K: ListKind, A: Allocator> Model for CountedList<K, A> {
-    ghost Value = { List (List ℕ) };
+impl<K: ListKind, S: Store> Model for CountedList<K, S> {
+    ghost Value = { S };
 
-    ghost view = { λ l. l.pieces };
+    ghost view = { λ l. l.entries };
 
-    ghost invariant = { λ l. ContainsList K.member_encoding K.is_member l.pieces };
+    ghost invariant = { λ l. S.model.holds (λ pieces. ContainsList K.member_encoding K.is_member pieces) l.entries };
 }
 
-impl<K: ListKind, A: Allocator> CountedList<K, A> {
+impl<K: ListKind, S: Store> CountedList<K, S> {
     /// Returns the number of entries.
     pub fn len(&self) -> u32
-        ensures { result ≡ length self.now }
+        ensures { result ≡ (S.model.joins self.now).number }
     {
-        self.pieces.len()
+        self.entries.count()
     }
 
     /// Returns `true` if there are no entries.
     pub fn is_empty(&self) -> bool
-        ensures { IsTrue result ↔ (length self.now ≡ 0) }
+        ensures { IsTrue result ↔ ((S.model.joins self.now).number ≡ 0) }
     {
-        self.pieces.is_empty()
+        self.entries.count() == 0
     }
 
     /// Adds the encoding of the record as an entry.
     pub(crate) fn add_record<T: Encode>(&mut self, given: &T) -> Result<()>
         requires { T.encodable given.now → IsEncodingOf K.member_encoding K.is_member (T.encoding given.now) }
-        ensures { Adds (T.encoding given.now) (T.encodable given.now) self.old self.new result }
+        ensures { AddsTo S.model (T.encoding given.now) (T.encodable given.now) self.old self.new result }
     {
-        self.pieces.add_encoded(given)?;
+        S::grows::<MembersOf<K>>();
+        self.entries.add_item(given)?;
         Ok(())
     }
 
     /// Proves that the entries are the encodings of a list of members. The function does nothing.
     pub fn members_law(&self)
-        ensures { ContainsList K.member_encoding K.is_member self.now }
+        ensures entries { S.model.holds (λ pieces. ContainsList K.member_encoding K.is_member pieces) self.now }
+        ensures cut { Cut (λ pieces. ContainsList K.member_encoding K.is_member pieces) (S.model.joins self.now) }
     {
-        let _ = self.pieces.len();
+        self.entries.cut::<MembersOf<K>>();
     }
 }
 
-impl<K: ListKind, A: Allocator + Copy> CountedList<K, A> {
+impl<K: ListKind, S: NewStore> CountedList<K, S> {
     /// Returns a list without entries, and allocates nothing.
-    pub fn new(alloc: A) -> Self
-        ensures { result ≡ [] }
+    pub fn new(alloc: S::Alloc) -> Self
+        ensures { result ≡ S.none }
     {
+        S::begins::<MembersOf<K>>();
         CountedList {
-            pieces: Pieces::new(alloc),
+            entries: S::new_in(alloc),
             kind: PhantomData,
         }
     }
@@ -99,7 +113,7 @@ impl<K: ListKind, A: Allocator + Copy> CountedList<K, A> {
         ensures memory { result ≢ Err TooLong }
     {
         Ok(CountedList {
-            pieces: self.pieces.clone()?,
+            entries: self.entries.copy()?,
             kind: PhantomData,
         })
     }
@@ -107,37 +121,40 @@ impl<K: ListKind, A: Allocator + Copy> CountedList<K, A> {
 
 /// The vector of a list's entries, as a component of an encoding.
 #[derive(Clone, Copy)]
-pub(crate) struct Entries<'a, K: ListKind, A: Allocator>(pub &'a CountedList<K, A>);
+pub(crate) struct Entries<'a, K: ListKind, S: Store>(pub &'a CountedList<K, S>);
 
-impl<K: ListKind, A: Allocator> Encode for Entries<'_, K, A> {
-    ghost encoding = { λ entries. list_encoding entries.0.now };
+impl<K: ListKind, S: Store> Encode for Entries<'_, K, S> {
+    ghost encoding = { λ entries. list_encoding (S.model.joins entries.0.now) };
 
     ghost encodable = { λ _. ⊤ };
 
     #[tactic(auto, unfolding(crate::specs::Lists::list_encoding))]
     fn encode<B: Allocator>(&self, sink: &mut Vec<u8, B>) -> Result<()> {
         let list = self.0;
-        let count = list.pieces.len();
-        sink.reserve(encoding_size(count).saturating_add(list.pieces.raw_len()))?;
+        let entries = &list.entries;
+        let count = entries.count();
+        let content = entries.content();
+        sink.reserve(encoding_size(count).saturating_add(content.len()))?;
         count.encode(sink).unwrap();
-        sink.extend_from_slice(list.pieces.bytes()).unwrap();
+        sink.extend_from_slice(content).unwrap();
         Ok(())
     }
 }
 
-impl<K: ListKind, A: Allocator> Content for Entries<'_, K, A> {
+impl<K: ListKind, S: Store> Content for Entries<'_, K, S> {
     #[tactic(auto, unfolding(crate::specs::Lists::list_encoding))]
     fn size(&self) -> usize {
         let list = self.0;
-        encoding_size(list.pieces.len()).saturating_add(list.pieces.raw_len())
+        let entries = &list.entries;
+        encoding_size(entries.count()).saturating_add(entries.content().len())
     }
 }
 
 /// Encodes the vector of the entries: alone, or as the content of the kind's subsection.
-impl<K: ListKind, A: Allocator> Encode for CountedList<K, A> {
-    ghost encoding = { listed_encoding K.subsection };
+impl<K: ListKind, S: Store> Encode for CountedList<K, S> {
+    ghost encoding = { λ list. listed_encoding K.subsection (S.model.joins list) };
 
-    ghost encodable = { IsEncodableList K.subsection };
+    ghost encodable = { λ list. IsEncodableList K.subsection (S.model.joins list) };
 
     fn encode<B: Allocator>(&self, sink: &mut Vec<u8, B>) -> Result<()> {
         let entries = Entries(self);

@@ -1,6 +1,6 @@
 // The name section: its builder, its reader and its minimizer.
 ghost use Rattle.std.specs.Prelude.{None, ◌≡◌, ◌++◌, [], false, ⊤, ◌≢◌, IfOk, IfErr, Err, OnOk, OnErr, map};
-ghost use Rattle.wasm_base.specs.Calls.{Adds, AddsTo};
+ghost use Rattle.wasm_base.specs.Calls.{AddsTo};
 ghost use Rattle.wasm_base.specs.Cow.{items_of, utf8_of};
 ghost use Rattle.wasm_base.specs.Formats.{fixed, u32};
 ghost use Rattle.wasm_base.specs.Continuing.{RejectsWhole};
@@ -28,7 +28,7 @@ use wasm_base::{
 
 /// A name map: indices and their names. The calls check neither their order nor whether an index is
 /// repeated.
-pub type NameMap<A = Global> = CountedList<NameMembers, A>;
+pub type NameMap<A = Global> = CountedList<NameMembers, Pieces<A>>;
 
 /// The kind of a name map's members: an index, and its name.
 #[derive(Clone, Copy, Debug)]
@@ -48,10 +48,10 @@ impl ListKind for NameMembers {
     }
 }
 
-impl<A: Allocator> NameMap<A> {
+impl<S: Store> CountedList<NameMembers, S> {
     /// Adds the name of this index.
     pub fn append(&mut self, index: u32, name: &str) -> Result<()>
-        ensures { Adds (unsigned_encoding index ++ size_prefixed_encoding name.now) (HasEncodableSize name.now) self.old self.new result }
+        ensures { AddsTo S.model (unsigned_encoding index ++ size_prefixed_encoding name.now) (HasEncodableSize name.now) self.old self.new result }
     {
         self.add_record(&IndexedName { index, name })
     }
@@ -88,7 +88,7 @@ impl Encode for IndexedName<'_> {
 
 /// An indirect name map: indices, each with a name map for the items in it, such as the locals of
 /// functions. The calls check neither their order nor whether an index is repeated.
-pub type IndirectNameMap<A = Global> = CountedList<IndirectMembers, A>;
+pub type IndirectNameMap<A = Global> = CountedList<IndirectMembers, Pieces<A>>;
 
 /// The kind of an indirect name map's members: an index, and the names of the items in it.
 #[derive(Clone, Copy, Debug)]
@@ -108,10 +108,14 @@ impl ListKind for IndirectMembers {
     }
 }
 
-impl<A: Allocator> IndirectNameMap<A> {
+impl<S: Store> CountedList<IndirectMembers, S> {
     /// Adds the names of the items in this index.
-    pub fn append<B: Allocator>(&mut self, index: u32, names: &NameMap<B>) -> Result<()>
-        ensures { Adds (unsigned_encoding index ++ list_encoding names.now) ⊤ self.old self.new result }
+    pub fn append<T: Store>(
+        &mut self,
+        index: u32,
+        names: &CountedList<NameMembers, T>,
+    ) -> Result<()>
+        ensures { AddsTo S.model (unsigned_encoding index ++ list_encoding (T.model.joins names.now)) ⊤ self.old self.new result }
     {
         names.members_law();
         self.add_record(&(index, Lent(names)))
@@ -173,16 +177,20 @@ impl CustomKind for NameItems {
 
 impl<S: Store> CustomEntries<NameItems, S> {
     /// Adds a subsection with a name map.
-    fn map<B: Allocator>(&mut self, id: u8, names: &NameMap<B>) -> Result<()>
-        ensures { AddsTo S.model (subsection_encoding id (list_encoding names.now)) (HasEncodableSize (list_encoding names.now) × ⊤) self.old self.new result }
+    fn map<T: Store>(&mut self, id: u8, names: &CountedList<NameMembers, T>) -> Result<()>
+        ensures { AddsTo S.model (subsection_encoding id (list_encoding (T.model.joins names.now))) (HasEncodableSize (list_encoding (T.model.joins names.now)) × ⊤) self.old self.new result }
     {
         let content = &Entries(names);
         self.add_record(&Subsection { id, content })
     }
 
     /// Adds a subsection with an indirect name map.
-    fn indirect_map<B: Allocator>(&mut self, id: u8, names: &IndirectNameMap<B>) -> Result<()>
-        ensures { AddsTo S.model (subsection_encoding id (list_encoding names.now)) (HasEncodableSize (list_encoding names.now) × ⊤) self.old self.new result }
+    fn indirect_map<T: Store>(
+        &mut self,
+        id: u8,
+        names: &CountedList<IndirectMembers, T>,
+    ) -> Result<()>
+        ensures { AddsTo S.model (subsection_encoding id (list_encoding (T.model.joins names.now))) (HasEncodableSize (list_encoding (T.model.joins names.now)) × ⊤) self.old self.new result }
     {
         let content = &Entries(names);
         self.add_record(&Subsection { id, content })
@@ -199,99 +207,102 @@ impl<S: Store> CustomEntries<NameItems, S> {
     }
 
     /// Adds the names of functions.
-    pub fn functions<B: Allocator>(&mut self, names: &NameMap<B>) -> Result<()>
-        ensures { AddsTo S.model (subsection_encoding 1 (list_encoding names.now)) (HasEncodableSize (list_encoding names.now) × ⊤) self.old self.new result }
+    pub fn functions<T: Store>(&mut self, names: &CountedList<NameMembers, T>) -> Result<()>
+        ensures { AddsTo S.model (subsection_encoding 1 (list_encoding (T.model.joins names.now))) (HasEncodableSize (list_encoding (T.model.joins names.now)) × ⊤) self.old self.new result }
     {
         self.map(1, names)
     }
 
     /// Adds the names of types.
-    pub fn types<B: Allocator>(&mut self, names: &NameMap<B>) -> Result<()>
-        ensures { AddsTo S.model (subsection_encoding 4 (list_encoding names.now)) (HasEncodableSize (list_encoding names.now) × ⊤) self.old self.new result }
+    pub fn types<T: Store>(&mut self, names: &CountedList<NameMembers, T>) -> Result<()>
+        ensures { AddsTo S.model (subsection_encoding 4 (list_encoding (T.model.joins names.now))) (HasEncodableSize (list_encoding (T.model.joins names.now)) × ⊤) self.old self.new result }
     {
         self.map(4, names)
     }
 
     /// Adds the names of tables.
-    pub fn tables<B: Allocator>(&mut self, names: &NameMap<B>) -> Result<()>
-        ensures { AddsTo S.model (subsection_encoding 5 (list_encoding names.now)) (HasEncodableSize (list_encoding names.now) × ⊤) self.old self.new result }
+    pub fn tables<T: Store>(&mut self, names: &CountedList<NameMembers, T>) -> Result<()>
+        ensures { AddsTo S.model (subsection_encoding 5 (list_encoding (T.model.joins names.now))) (HasEncodableSize (list_encoding (T.model.joins names.now)) × ⊤) self.old self.new result }
     {
         self.map(5, names)
     }
 
     /// Adds the names of memories.
-    pub fn memories<B: Allocator>(&mut self, names: &NameMap<B>) -> Result<()>
-        ensures { AddsTo S.model (subsection_encoding 6 (list_encoding names.now)) (HasEncodableSize (list_encoding names.now) × ⊤) self.old self.new result }
+    pub fn memories<T: Store>(&mut self, names: &CountedList<NameMembers, T>) -> Result<()>
+        ensures { AddsTo S.model (subsection_encoding 6 (list_encoding (T.model.joins names.now))) (HasEncodableSize (list_encoding (T.model.joins names.now)) × ⊤) self.old self.new result }
     {
         self.map(6, names)
     }
 
     /// Adds the names of globals.
-    pub fn globals<B: Allocator>(&mut self, names: &NameMap<B>) -> Result<()>
-        ensures { AddsTo S.model (subsection_encoding 7 (list_encoding names.now)) (HasEncodableSize (list_encoding names.now) × ⊤) self.old self.new result }
+    pub fn globals<T: Store>(&mut self, names: &CountedList<NameMembers, T>) -> Result<()>
+        ensures { AddsTo S.model (subsection_encoding 7 (list_encoding (T.model.joins names.now))) (HasEncodableSize (list_encoding (T.model.joins names.now)) × ⊤) self.old self.new result }
     {
         self.map(7, names)
     }
 
     /// Adds the names of element segments.
-    pub fn elements<B: Allocator>(&mut self, names: &NameMap<B>) -> Result<()>
-        ensures { AddsTo S.model (subsection_encoding 8 (list_encoding names.now)) (HasEncodableSize (list_encoding names.now) × ⊤) self.old self.new result }
+    pub fn elements<T: Store>(&mut self, names: &CountedList<NameMembers, T>) -> Result<()>
+        ensures { AddsTo S.model (subsection_encoding 8 (list_encoding (T.model.joins names.now))) (HasEncodableSize (list_encoding (T.model.joins names.now)) × ⊤) self.old self.new result }
     {
         self.map(8, names)
     }
 
     /// Adds the names of data segments.
-    pub fn data<B: Allocator>(&mut self, names: &NameMap<B>) -> Result<()>
-        ensures { AddsTo S.model (subsection_encoding 9 (list_encoding names.now)) (HasEncodableSize (list_encoding names.now) × ⊤) self.old self.new result }
+    pub fn data<T: Store>(&mut self, names: &CountedList<NameMembers, T>) -> Result<()>
+        ensures { AddsTo S.model (subsection_encoding 9 (list_encoding (T.model.joins names.now))) (HasEncodableSize (list_encoding (T.model.joins names.now)) × ⊤) self.old self.new result }
     {
         self.map(9, names)
     }
 
     /// Adds the names of tags, as `tags` does.
-    pub fn tag<B: Allocator>(&mut self, names: &NameMap<B>) -> Result<()>
-        ensures { AddsTo S.model (subsection_encoding 11 (list_encoding names.now)) (HasEncodableSize (list_encoding names.now) × ⊤) self.old self.new result }
+    pub fn tag<T: Store>(&mut self, names: &CountedList<NameMembers, T>) -> Result<()>
+        ensures { AddsTo S.model (subsection_encoding 11 (list_encoding (T.model.joins names.now))) (HasEncodableSize (list_encoding (T.model.joins names.now)) × ⊤) self.old self.new result }
     {
         self.tags(names)
     }
 
     /// Adds the names of tags.
-    pub fn tags<B: Allocator>(&mut self, names: &NameMap<B>) -> Result<()>
-        ensures { AddsTo S.model (subsection_encoding 11 (list_encoding names.now)) (HasEncodableSize (list_encoding names.now) × ⊤) self.old self.new result }
+    pub fn tags<T: Store>(&mut self, names: &CountedList<NameMembers, T>) -> Result<()>
+        ensures { AddsTo S.model (subsection_encoding 11 (list_encoding (T.model.joins names.now))) (HasEncodableSize (list_encoding (T.model.joins names.now)) × ⊤) self.old self.new result }
     {
         self.map(11, names)
     }
 
     /// Adds the names of the locals of functions, including parameters.
-    pub fn locals<B: Allocator>(&mut self, names: &IndirectNameMap<B>) -> Result<()>
-        ensures { AddsTo S.model (subsection_encoding 2 (list_encoding names.now)) (HasEncodableSize (list_encoding names.now) × ⊤) self.old self.new result }
+    pub fn locals<T: Store>(&mut self, names: &CountedList<IndirectMembers, T>) -> Result<()>
+        ensures { AddsTo S.model (subsection_encoding 2 (list_encoding (T.model.joins names.now))) (HasEncodableSize (list_encoding (T.model.joins names.now)) × ⊤) self.old self.new result }
     {
         self.indirect_map(2, names)
     }
 
     /// Adds the names of the labels of functions.
-    pub fn labels<B: Allocator>(&mut self, names: &IndirectNameMap<B>) -> Result<()>
-        ensures { AddsTo S.model (subsection_encoding 3 (list_encoding names.now)) (HasEncodableSize (list_encoding names.now) × ⊤) self.old self.new result }
+    pub fn labels<T: Store>(&mut self, names: &CountedList<IndirectMembers, T>) -> Result<()>
+        ensures { AddsTo S.model (subsection_encoding 3 (list_encoding (T.model.joins names.now))) (HasEncodableSize (list_encoding (T.model.joins names.now)) × ⊤) self.old self.new result }
     {
         self.indirect_map(3, names)
     }
 
     /// Adds the names of the fields of types.
-    pub fn fields<B: Allocator>(&mut self, names: &IndirectNameMap<B>) -> Result<()>
-        ensures { AddsTo S.model (subsection_encoding 10 (list_encoding names.now)) (HasEncodableSize (list_encoding names.now) × ⊤) self.old self.new result }
+    pub fn fields<T: Store>(&mut self, names: &CountedList<IndirectMembers, T>) -> Result<()>
+        ensures { AddsTo S.model (subsection_encoding 10 (list_encoding (T.model.joins names.now))) (HasEncodableSize (list_encoding (T.model.joins names.now)) × ⊤) self.old self.new result }
     {
         self.indirect_map(10, names)
     }
 
     /// Adds the names of the parameters of function types.
-    pub fn parameters<B: Allocator>(&mut self, names: &IndirectNameMap<B>) -> Result<()>
-        ensures { AddsTo S.model (subsection_encoding 12 (list_encoding names.now)) (HasEncodableSize (list_encoding names.now) × ⊤) self.old self.new result }
+    pub fn parameters<T: Store>(&mut self, names: &CountedList<IndirectMembers, T>) -> Result<()>
+        ensures { AddsTo S.model (subsection_encoding 12 (list_encoding (T.model.joins names.now))) (HasEncodableSize (list_encoding (T.model.joins names.now)) × ⊤) self.old self.new result }
     {
         self.indirect_map(12, names)
     }
 
     /// Adds the names of the parameters of tags.
-    pub fn tag_parameters<B: Allocator>(&mut self, names: &IndirectNameMap<B>) -> Result<()>
-        ensures { AddsTo S.model (subsection_encoding 13 (list_encoding names.now)) (HasEncodableSize (list_encoding names.now) × ⊤) self.old self.new result }
+    pub fn tag_parameters<T: Store>(
+        &mut self,
+        names: &CountedList<IndirectMembers, T>,
+    ) -> Result<()>
+        ensures { AddsTo S.model (subsection_encoding 13 (list_encoding (T.model.joins names.now))) (HasEncodableSize (list_encoding (T.model.joins names.now)) × ⊤) self.old self.new result }
     {
         self.indirect_map(13, names)
     }

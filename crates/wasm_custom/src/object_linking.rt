@@ -1,19 +1,20 @@
 // The linking section of an object file, which has subsections of all kinds: its builder.
 ghost use Rattle.std.specs.Prelude.{◌∷◌, [], false, ⊤};
-ghost use Rattle.wasm_base.specs.Calls.{Adds, AddsTo};
+ghost use Rattle.wasm_base.specs.Calls.{AddsTo};
 ghost use Rattle.wasm_base.specs.Encodings.{size_prefixed_encoding, HasEncodableSize};
 ghost use Rattle.wasm_base.specs.Formats.{u32 as u32_format, just};
 ghost use Rattle.wasm_custom.specs.Customs.{subsection_encoding};
 ghost use Rattle.wasm_custom.specs.Linking.{object_items, LinkItem as LinkModel, linking_name, version};
 ghost use Rattle.wasm_custom.specs.Lists.{list_encoding};
 
-use crate::comdats::Comdats;
+use crate::comdats::ComdatMembers;
 use crate::entries::{CustomEntries, CustomKind};
-use crate::init_functions::InitFunctions;
-use crate::object_symbols::ObjectSymbols;
-use crate::segments::SegmentInfos;
+use crate::init_functions::InitMembers;
+use crate::lists::CountedList;
+use crate::object_symbols::ObjectSymbolMembers;
+use crate::segments::SegmentMembers;
 use crate::subsections::Subsection;
-use std::alloc::{Allocator, Global};
+use std::alloc::Global;
 use wasm_base::{Kind, Pieces, Result, Store};
 
 /// The linking section of an object file, in version 2 of the format: symbols of all kinds,
@@ -77,29 +78,35 @@ impl CustomKind for ObjectLinkingItems {
 
 impl<S: Store> CustomEntries<ObjectLinkingItems, S> {
     /// Adds the segments.
-    pub fn segments<B: Allocator>(&mut self, segments: &SegmentInfos<B>) -> Result<()>
-        ensures { AddsTo S.model (subsection_encoding 5 (list_encoding segments.now)) (HasEncodableSize (list_encoding segments.now) × ⊤) self.old self.new result }
+    pub fn segments<T: Store>(&mut self, segments: &CountedList<SegmentMembers, T>) -> Result<()>
+        ensures { AddsTo S.model (subsection_encoding 5 (list_encoding (T.model.joins segments.now))) (HasEncodableSize (list_encoding (T.model.joins segments.now)) × ⊤) self.old self.new result }
     {
         self.add_record(segments)
     }
 
     /// Adds the init functions.
-    pub fn init_functions<B: Allocator>(&mut self, functions: &InitFunctions<B>) -> Result<()>
-        ensures { AddsTo S.model (subsection_encoding 6 (list_encoding functions.now)) (HasEncodableSize (list_encoding functions.now) × ⊤) self.old self.new result }
+    pub fn init_functions<T: Store>(
+        &mut self,
+        functions: &CountedList<InitMembers, T>,
+    ) -> Result<()>
+        ensures { AddsTo S.model (subsection_encoding 6 (list_encoding (T.model.joins functions.now))) (HasEncodableSize (list_encoding (T.model.joins functions.now)) × ⊤) self.old self.new result }
     {
         self.add_record(functions)
     }
 
     /// Adds the COMDAT groups.
-    pub fn comdats<B: Allocator>(&mut self, comdats: &Comdats<B>) -> Result<()>
-        ensures { AddsTo S.model (subsection_encoding 7 (list_encoding comdats.now)) (HasEncodableSize (list_encoding comdats.now) × ⊤) self.old self.new result }
+    pub fn comdats<T: Store>(&mut self, comdats: &CountedList<ComdatMembers, T>) -> Result<()>
+        ensures { AddsTo S.model (subsection_encoding 7 (list_encoding (T.model.joins comdats.now))) (HasEncodableSize (list_encoding (T.model.joins comdats.now)) × ⊤) self.old self.new result }
     {
         self.add_record(comdats)
     }
 
     /// Adds the symbols.
-    pub fn symbol_table<B: Allocator>(&mut self, symbols: &ObjectSymbols<B>) -> Result<()>
-        ensures { AddsTo S.model (subsection_encoding 8 (list_encoding symbols.now)) (HasEncodableSize (list_encoding symbols.now) × ⊤) self.old self.new result }
+    pub fn symbol_table<T: Store>(
+        &mut self,
+        symbols: &CountedList<ObjectSymbolMembers, T>,
+    ) -> Result<()>
+        ensures { AddsTo S.model (subsection_encoding 8 (list_encoding (T.model.joins symbols.now))) (HasEncodableSize (list_encoding (T.model.joins symbols.now)) × ⊤) self.old self.new result }
     {
         self.add_record(symbols)
     }

@@ -1,6 +1,6 @@
 // The producers section: its builder, its reader and its minimizer.
 ghost use Rattle.std.specs.Prelude.{None, ◌≡◌, ◌++◌, [], true, ⊤, ◌≢◌, IfOk, IfErr, Err, OnOk, OnErr, map};
-ghost use Rattle.wasm_base.specs.Calls.{Adds, AddsTo};
+ghost use Rattle.wasm_base.specs.Calls.{AddsTo};
 ghost use Rattle.wasm_base.specs.Formats.{fixed};
 ghost use Rattle.wasm_base.specs.Continuing.{RejectsWhole};
 ghost use Rattle.wasm_base.specs.Numbers.{padded_of};
@@ -19,7 +19,7 @@ use std::alloc::{Allocator, Global};
 use wasm_base::{DecodeError, Grammar, Kind, Lent, Pieces, Readable, Result, Shorten, Store};
 
 /// The values of a producers field: the tools that produced the module, and their versions.
-pub type ProducersField<A = Global> = CountedList<ValueMembers, A>;
+pub type ProducersField<A = Global> = CountedList<ValueMembers, Pieces<A>>;
 
 /// The kind of a field's members: a name, and its version.
 #[derive(Clone, Copy, Debug)]
@@ -39,10 +39,10 @@ impl ListKind for ValueMembers {
     }
 }
 
-impl<A: Allocator> ProducersField<A> {
+impl<S: Store> CountedList<ValueMembers, S> {
     /// Adds a value.
     pub fn value(&mut self, name: &str, version: &str) -> Result<()>
-        ensures { Adds (size_prefixed_encoding name.now ++ size_prefixed_encoding version.now) (HasEncodableSize name.now × HasEncodableSize version.now) self.old self.new result }
+        ensures { AddsTo S.model (size_prefixed_encoding name.now ++ size_prefixed_encoding version.now) (HasEncodableSize name.now × HasEncodableSize version.now) self.old self.new result }
     {
         self.add_record(&(name, version))
     }
@@ -101,8 +101,12 @@ impl CustomKind for ProducerItems {
 
 impl<S: Store> CustomEntries<ProducerItems, S> {
     /// Adds a field, such as `language`, `processed-by` or `sdk`.
-    pub fn field<B: Allocator>(&mut self, name: &str, values: &ProducersField<B>) -> Result<()>
-        ensures { AddsTo S.model (size_prefixed_encoding name.now ++ list_encoding values.now) (HasEncodableSize name.now × ⊤) self.old self.new result }
+    pub fn field<T: Store>(
+        &mut self,
+        name: &str,
+        values: &CountedList<ValueMembers, T>,
+    ) -> Result<()>
+        ensures { AddsTo S.model (size_prefixed_encoding name.now ++ list_encoding (T.model.joins values.now)) (HasEncodableSize name.now × ⊤) self.old self.new result }
     {
         self.add_record(&(name, Lent(values)))
     }

@@ -1,6 +1,6 @@
 // The segment information of a linking section: its builder, its reader and its minimizer.
 ghost use Rattle.std.specs.Prelude.{Some, ◌++◌};
-ghost use Rattle.wasm_base.specs.Calls.{Adds};
+ghost use Rattle.wasm_base.specs.Calls.{AddsTo};
 ghost use Rattle.wasm_base.specs.Decoding.{Unambiguous};
 ghost use Rattle.wasm_base.specs.Encodings.{size_prefixed_encoding, HasEncodableSize};
 ghost use Rattle.wasm_base.specs.Numbers.{unsigned_encoding};
@@ -9,7 +9,7 @@ ghost use Rattle.wasm_base.specs.Minimal.{both_grammars};
 
 use crate::lists::{CountedList, ListKind};
 use std::alloc::{Allocator, Global};
-use wasm_base::{DecodeError, Grammar, Layout, Readable, Result, Shorten};
+use wasm_base::{DecodeError, Grammar, Layout, Pieces, Readable, Result, Shorten, Store};
 
 /// The segments of a module, in the order in which they are added, which is that of the data
 /// section. They are encoded as subsection 5 of a linking section.
@@ -18,7 +18,7 @@ use wasm_base::{DecodeError, Grammar, Layout, Readable, Result, Shorten};
 /// let mut segments = SegmentInfos::new(alloc);
 /// segments.segment(".rodata.greeting", 0, 0)?;
 /// ```
-pub type SegmentInfos<A = Global> = CountedList<SegmentMembers, A>;
+pub type SegmentInfos<A = Global> = CountedList<SegmentMembers, Pieces<A>>;
 
 /// The kind of the members of a list of segments.
 #[derive(Clone, Copy, Debug)]
@@ -38,10 +38,10 @@ impl ListKind for SegmentMembers {
     }
 }
 
-impl<A: Allocator> SegmentInfos<A> {
+impl<S: Store> CountedList<SegmentMembers, S> {
     /// Adds a segment. Its alignment is 2 to the power `alignment`, in bytes.
     pub fn segment(&mut self, name: &str, alignment: u32, flags: u32) -> Result<()>
-        ensures { Adds (size_prefixed_encoding name.now ++ (unsigned_encoding alignment ++ unsigned_encoding flags)) (HasEncodableSize name.now) self.old self.new result }
+        ensures { AddsTo S.model (size_prefixed_encoding name.now ++ (unsigned_encoding alignment ++ unsigned_encoding flags)) (HasEncodableSize name.now) self.old self.new result }
     {
         self.add_record(&(name, alignment, flags))
     }

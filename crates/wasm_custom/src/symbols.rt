@@ -1,6 +1,6 @@
 // The symbol table of a linking section: its builder, its reader and its minimizer.
 ghost use Rattle.std.specs.Prelude.{◌≡◌, ◌∷◌, [], IfSome, IsUtf8, ⊤, ◌≢◌, IfOk, IfErr, Err, OnOk, option_map, None, Some};
-ghost use Rattle.wasm_base.specs.Calls.{Adds};
+ghost use Rattle.wasm_base.specs.Calls.{AddsTo};
 ghost use Rattle.wasm_base.specs.Formats.{name as name_format, optional, prefixed};
 ghost use Rattle.wasm_base.specs.Numbers.{padded_of};
 ghost use Rattle.wasm_base.specs.Decoding.{Unambiguous, Decodes, Rejects};
@@ -17,8 +17,8 @@ use crate::standard::require_standard;
 use std::alloc::{Allocator, Global};
 use wasm_base::laws::plain_name;
 use wasm_base::{
-    DecodeError, Encode, Grammar, Layout, Optional, ReadFault, Readable, Result, Shorten,
-    read_optional,
+    DecodeError, Encode, Grammar, Layout, Optional, Pieces, ReadFault, Readable, Result, Shorten,
+    Store, read_optional,
 };
 
 /// A symbol table: the symbols of a module, in the order in which they are added. It is encoded as
@@ -28,7 +28,7 @@ use wasm_base::{
 /// let mut symbols = SymbolTable::new(alloc);
 /// symbols.function(SymbolTable::WASM_SYM_EXPORTED, 0, Some("f"))?;
 /// ```
-pub type SymbolTable<A = Global> = CountedList<SymbolMembers, A>;
+pub type SymbolTable<A = Global> = CountedList<SymbolMembers, Pieces<A>>;
 
 /// The kind of a symbol table's members.
 #[derive(Clone, Copy, Debug)]
@@ -144,7 +144,7 @@ const _: () = prove!(<SymbolTable>::WASM_SYM_EXPLICIT_NAME == 0x40);
 
 const _: () = prove!(<SymbolTable>::WASM_SYM_NO_STRIP == 0x80);
 
-impl<A: Allocator> SymbolTable<A> {
+impl<S: Store> CountedList<SymbolMembers, S> {
     /// Adds a symbol with an index, of a kind that the builders' grammar has.
     fn indexed(
         &mut self,
@@ -154,7 +154,7 @@ impl<A: Allocator> SymbolTable<A> {
         name: Option<&str>,
     ) -> Result<()>
         requires { IsBuiltKind kind }
-        ensures { Adds (indexed_encoding kind flags index (optional_encoding (λ n. size_prefixed_encoding n.now) name.entry)) (IfSome name.entry (λ n. HasEncodableSize n.now)) self.old self.new result }
+        ensures { AddsTo S.model (indexed_encoding kind flags index (optional_encoding (λ n. size_prefixed_encoding n.now) name.entry)) (IfSome name.entry (λ n. HasEncodableSize n.now)) self.old self.new result }
     {
         given_name(name);
         self.add_record(&((kind, flags), index, Optional(name)))
@@ -163,21 +163,21 @@ impl<A: Allocator> SymbolTable<A> {
     /// Adds a function. A function has a name if it is defined here, or if `flags` say that its
     /// name is explicit. The call does not check that `name` agrees.
     pub fn function(&mut self, flags: u32, index: u32, name: Option<&str>) -> Result<()>
-        ensures { Adds (indexed_encoding kinds.Function flags index (optional_encoding (λ n. size_prefixed_encoding n.now) name.entry)) (IfSome name.entry (λ n. HasEncodableSize n.now)) self.old self.new result }
+        ensures { AddsTo S.model (indexed_encoding kinds.Function flags index (optional_encoding (λ n. size_prefixed_encoding n.now) name.entry)) (IfSome name.entry (λ n. HasEncodableSize n.now)) self.old self.new result }
     {
         self.indexed(SymbolKind::Function, flags, index, name)
     }
 
     /// Adds a global. It has a name in the same cases as in `function`.
     pub fn global(&mut self, flags: u32, index: u32, name: Option<&str>) -> Result<()>
-        ensures { Adds (indexed_encoding kinds.Global flags index (optional_encoding (λ n. size_prefixed_encoding n.now) name.entry)) (IfSome name.entry (λ n. HasEncodableSize n.now)) self.old self.new result }
+        ensures { AddsTo S.model (indexed_encoding kinds.Global flags index (optional_encoding (λ n. size_prefixed_encoding n.now) name.entry)) (IfSome name.entry (λ n. HasEncodableSize n.now)) self.old self.new result }
     {
         self.indexed(SymbolKind::Global, flags, index, name)
     }
 
     /// Adds a table. It has a name in the same cases as in `function`.
     pub fn table(&mut self, flags: u32, index: u32, name: Option<&str>) -> Result<()>
-        ensures { Adds (indexed_encoding kinds.Table flags index (optional_encoding (λ n. size_prefixed_encoding n.now) name.entry)) (IfSome name.entry (λ n. HasEncodableSize n.now)) self.old self.new result }
+        ensures { AddsTo S.model (indexed_encoding kinds.Table flags index (optional_encoding (λ n. size_prefixed_encoding n.now) name.entry)) (IfSome name.entry (λ n. HasEncodableSize n.now)) self.old self.new result }
     {
         self.indexed(SymbolKind::Table, flags, index, name)
     }
@@ -190,7 +190,7 @@ impl<A: Allocator> SymbolTable<A> {
         name: &str,
         definition: Option<DataSymbolDefinition>,
     ) -> Result<()>
-        ensures { Adds (of_data_encoding flags name.now (optional_encoding definition_encoding definition)) (HasEncodableSize name.now) self.old self.new result }
+        ensures { AddsTo S.model (of_data_encoding flags name.now (optional_encoding definition_encoding definition)) (HasEncodableSize name.now) self.old self.new result }
     {
         given_definition(definition);
         self.add_record(&((0x01u8, flags), name, Optional(definition)))

@@ -158,6 +158,22 @@ pub trait Store: Encode {
     ///
     /// Definitions: [`Cut`](crate::definitions::base::stores::Cut). [How to read clauses](crate::definitions).
     fn cut<P: Property>(&self);
+
+    /// Proves that entries with a property have another one after a call that adds an entry, if
+    /// pieces do. The function does nothing.
+    ///
+    /// # Proved
+    ///
+    /// ```text
+    /// ensures { (encoding : List ℕ) (old new : Self) (before after : P.Items)
+    ///     → Extends (model.joins old).number encoding (λ pieces. P.says pieces before)
+    ///     (λ pieces. P.says pieces after) → model.gains encoding old new
+    ///     → model.holds (λ pieces. P.says pieces before) old
+    ///     → model.holds (λ pieces. P.says pieces after) new }
+    /// ```
+    ///
+    /// Definitions: [`Extends`](crate::definitions::base::stores::Extends). [How to read clauses](crate::definitions).
+    fn grows<P: Property>();
 }
 
 /// A store that begins without entries, with memory of an allocator.
@@ -195,6 +211,19 @@ pub trait NewStore: Store + Sized {
     ///
     /// [How to read clauses](crate::definitions).
     fn new_in(alloc: Self::Alloc) -> Self;
+
+    /// Proves that the store without entries has each property of no pieces. The function does
+    /// nothing.
+    ///
+    /// # Proved
+    ///
+    /// ```text
+    /// ensures { (items : P.Items) → P.says [] items
+    ///     → Self.model.holds (λ pieces. P.says pieces items) none }
+    /// ```
+    ///
+    /// [How to read clauses](crate::definitions).
+    fn begins<P: Property>();
 
     /// Returns a copy of the entries in newly allocated memory.
     ///
@@ -308,6 +337,8 @@ impl<A: Allocator> Store for Pieces<A> {
     }
 
     fn cut<P: Property>(&self) {}
+
+    fn grows<P: Property>() {}
 }
 
 /// # Defined
@@ -318,6 +349,8 @@ impl<A: Allocator> Store for Pieces<A> {
 ///
 /// [How to read clauses](crate::definitions).
 impl<A: Allocator + Copy> NewStore for Pieces<A> {
+    fn begins<P: Property>() {}
+
     fn new_in(alloc: A) -> Self {
         Pieces::new(alloc)
     }
@@ -432,6 +465,8 @@ impl<A: Allocator> Store for Entries<A> {
     }
 
     fn cut<P: Property>(&self) {}
+
+    fn grows<P: Property>() {}
 }
 
 /// # Defined
@@ -442,6 +477,8 @@ impl<A: Allocator> Store for Entries<A> {
 ///
 /// [How to read clauses](crate::definitions).
 impl<A: Allocator + Copy> NewStore for Entries<A> {
+    fn begins<P: Property>() {}
+
     fn new_in(alloc: A) -> Self {
         Entries {
             bytes: Vec::new(alloc),

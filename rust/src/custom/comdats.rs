@@ -4,7 +4,7 @@
 use crate::vec::{Sink, Vec};
 use crate::custom::lists::{CountedList, ListKind};
 use crate::alloc::{Allocator, Global};
-use crate::base::{DecodeError, Encode, Grammar, Layout, Lent, Readable, Result, Shorten};
+use crate::base::{DecodeError, Encode, Grammar, Layout, Lent, Pieces, Readable, Result, Shorten, Store};
 
 /// The members of a COMDAT group, in the order in which they are added.
 ///
@@ -23,7 +23,7 @@ use crate::base::{DecodeError, Encode, Grammar, Layout, Lent, Readable, Result, 
 /// assert_eq!(bytes, [1, 1, 7]);
 /// # Ok::<(), dolzhytik::fallible::Refused>(())
 /// ```
-pub type ComdatSymbols<A = Global> = CountedList<ComdatSymbolMembers, A>;
+pub type ComdatSymbols<A = Global> = CountedList<ComdatSymbolMembers, Pieces<A>>;
 
 /// The kind of the members of a list of a group's members.
 ///
@@ -54,7 +54,7 @@ impl ListKind for ComdatSymbolMembers {
     }
 }
 
-impl<A: Allocator> ComdatSymbols<A> {
+impl<S: Store> CountedList<ComdatSymbolMembers, S> {
     /// Adds a member of this kind, with its index among those of the kind. The kind is 0 for a data
     /// segment, 1 for a function, 2 for a global, 3 for a tag, 4 for a table, and 5 for a section.
     ///
@@ -66,13 +66,13 @@ impl<A: Allocator> ComdatSymbols<A> {
     ///
     /// # Proved
     ///
-    /// `AddsTo` of a builder whose entries are a list of pieces.
+    /// The builder gains one entry with this encoding, or the call returns an error and changes nothing. A full builder, with 2^32 - 1 entries, returns `TooLong`.
     ///
     /// ```text
-    /// ensures { Adds (kind ∷ unsigned_encoding index) ⊤ self.old self.new result }
+    /// ensures { AddsTo S.model (kind ∷ unsigned_encoding index) ⊤ self.old self.new result }
     /// ```
     ///
-    /// Definitions: [`Adds`](crate::definitions::base::calls::Adds), [`unsigned_encoding`](crate::definitions::base::numbers::unsigned_encoding). [How to read clauses](crate::definitions).
+    /// Definitions: [`AddsTo`](crate::definitions::base::calls::AddsTo), [`unsigned_encoding`](crate::definitions::base::numbers::unsigned_encoding). [How to read clauses](crate::definitions).
     pub fn symbol(&mut self, kind: u8, index: u32) -> Result<()> {
         self.add_record(&(kind, index))
     }
@@ -94,7 +94,7 @@ impl<A: Allocator> ComdatSymbols<A> {
 /// # }
 /// # example().unwrap();
 /// ```
-pub type Comdats<A = Global> = CountedList<ComdatMembers, A>;
+pub type Comdats<A = Global> = CountedList<ComdatMembers, Pieces<A>>;
 
 /// The kind of the members of a list of groups.
 ///
@@ -125,7 +125,7 @@ impl ListKind for ComdatMembers {
     }
 }
 
-impl<A: Allocator> Comdats<A> {
+impl<S: Store> CountedList<ComdatMembers, S> {
     /// Adds a group. In the tool conventions, `flags` are 0.
     ///
     /// # Errors
@@ -137,20 +137,21 @@ impl<A: Allocator> Comdats<A> {
     ///
     /// # Proved
     ///
-    /// `AddsTo` of a builder whose entries are a list of pieces.
+    /// The builder gains one entry with this encoding, or the call returns an error and changes nothing. A full builder, with 2^32 - 1 entries, returns `TooLong`.
     ///
     /// ```text
-    /// ensures { Adds (size_prefixed_encoding name.now
-    ///         ++ (unsigned_encoding flags ++ list_encoding symbols.now))
+    /// ensures { AddsTo S.model
+    ///     (size_prefixed_encoding name.now
+    ///         ++ (unsigned_encoding flags ++ list_encoding (T.model.joins symbols.now)))
     ///     (HasEncodableSize name.now) self.old self.new result }
     /// ```
     ///
-    /// Definitions: [`Adds`](crate::definitions::base::calls::Adds), [`size_prefixed_encoding`](crate::definitions::base::encodings::size_prefixed_encoding), [`unsigned_encoding`](crate::definitions::base::numbers::unsigned_encoding), [`list_encoding`](crate::definitions::custom::lists::list_encoding), [`HasEncodableSize`](crate::definitions::base::encodings::HasEncodableSize). [How to read clauses](crate::definitions).
-    pub fn comdat<B: Allocator>(
+    /// Definitions: [`AddsTo`](crate::definitions::base::calls::AddsTo), [`size_prefixed_encoding`](crate::definitions::base::encodings::size_prefixed_encoding), [`unsigned_encoding`](crate::definitions::base::numbers::unsigned_encoding), [`list_encoding`](crate::definitions::custom::lists::list_encoding), [`HasEncodableSize`](crate::definitions::base::encodings::HasEncodableSize). [How to read clauses](crate::definitions).
+    pub fn comdat<T: Store>(
         &mut self,
         name: &str,
         flags: u32,
-        symbols: &ComdatSymbols<B>,
+        symbols: &CountedList<ComdatSymbolMembers, T>,
     ) -> Result<()> {
         symbols.members_law();
         self.add_record(&(name, flags, Lent(symbols)))

@@ -9,7 +9,7 @@ use crate::custom::entries::{data_of, encode_entries};
 use crate::custom::marked::read_marked;
 use crate::custom::named::after_name;
 use crate::alloc::{Allocator, Global};
-use crate::base::{CowSlice, CowStr, DecodeError, Encode, Grammar, Layout, Pieces, Readable, Result, Section, SectionId, Shorten, read_whole, vec_of};
+use crate::base::{CowSlice, CowStr, DecodeError, Encode, Grammar, ItemsOf, Kind, Layout, NewStore, Pieces, Readable, Result, Section, SectionId, Shorten, Store, read_whole, vec_of};
 
 /// The `corestack` section of a thread.
 ///
@@ -25,22 +25,41 @@ use crate::base::{CowSlice, CowStr, DecodeError, Encode, Grammar, Layout, Pieces
 /// # example().unwrap();
 /// ```
 ///
-/// # Errors
-///
-/// An adding call that returns an error leaves the section unchanged. The error is `TooLong` only
-/// if the section is full or an item does not fit, and `Memory` only if an allocation fails.
-///
 /// # Model
 ///
 /// Contracts model it as the bytes before its stack frames and the bytes of each frame. The
 /// former are the byte 00 and the name of the thread.
-#[derive(Debug)]
-pub struct CoreDumpStackSection<A: Allocator = Global> {
-    front: Vec<u8, A>,
-    pub(crate) frames: Pieces<A>,
+pub type CoreDumpStackSection<A = Global> = CoreDumpStackIn<Pieces<A>>;
+
+/// The kind of a stack's items: frames.
+#[derive(Clone, Copy, Debug)]
+pub struct FrameItems;
+
+/// # Defined
+///
+/// ```text
+/// Record = { StackFrame }
+/// Item = { StackFrame }
+/// kind = { frame_items }
+/// ```
+///
+/// Definitions: [`StackFrame`](crate::definitions::custom::core_stacks::StackFrame), [`frame_items`](crate::definitions::custom::core_stacks::frame_items). [How to read clauses](crate::definitions).
+impl Kind for FrameItems {
+    fn laws() {}
 }
 
-impl<A: Allocator + Copy> CoreDumpStackSection<A> {
+/// The `corestack` section of a thread, whose frames a store of the type `E` keeps.
+///
+/// # Errors
+///
+/// An adding call that returns an error leaves the section unchanged. The error is `TooLong` only
+/// if the section is full or an item does not fit, and `Memory` only if an allocation fails.
+#[derive(Debug)]
+pub struct CoreDumpStackIn<E: Store = Pieces> {
+    pub(crate) front: Vec<u8, E::Alloc>, pub(crate) frames: E,
+}
+
+impl<A: Allocator + Copy, E: NewStore<Alloc = A>> CoreDumpStackIn<E> {
     /// Returns the stack of the thread of this name, without frames.
     ///
     /// # Errors
@@ -55,7 +74,7 @@ impl<A: Allocator + Copy> CoreDumpStackSection<A> {
     /// - `too_long`: a name of at most 4294967295 bytes never gives `TooLong`.
     ///
     /// ```text
-    /// ensures is { IfOk result (λ s. s ≡ (marked_encoding thread_name.now, [])) }
+    /// ensures is { IfOk result (λ s. s ≡ (marked_encoding thread_name.now, E.none)) }
     /// ensures was_encodable { IfOk result (λ _. HasEncodableSize thread_name.now) }
     /// ensures too_long { HasEncodableSize thread_name.now → result ≢ Err TooLong }
     /// ```
@@ -64,9 +83,9 @@ impl<A: Allocator + Copy> CoreDumpStackSection<A> {
     pub fn new(alloc: A, thread_name: &str) -> Result<Self> {
         let mut front = Vec::new(alloc);
         (0x00u8, thread_name).encode(&mut front)?;
-        Ok(CoreDumpStackSection {
+        Ok(CoreDumpStackIn {
             front,
-            frames: Pieces::new(alloc),
+            frames: E::new_in(alloc),
         })
     }
 
@@ -87,14 +106,14 @@ impl<A: Allocator + Copy> CoreDumpStackSection<A> {
     ///
     /// [How to read clauses](crate::definitions).
     pub fn clone(&self) -> Result<Self> {
-        Ok(CoreDumpStackSection {
+        Ok(CoreDumpStackIn {
             front: Vec::from_slice(*self.front.allocator(), &self.front)?,
-            frames: self.frames.clone()?,
+            frames: self.frames.copy()?,
         })
     }
 }
 
-impl<A: Allocator> CoreDumpStackSection<A> {
+impl<E: Store> CoreDumpStackIn<E> {
     /// Adds a stack frame: its instance and function, the offset in the function, its locals, and
     /// its operand stack.
     ///
@@ -127,7 +146,7 @@ impl<A: Allocator> CoreDumpStackSection<A> {
     /// - `same_thread`: the part before the entries is unchanged.
     ///
     /// ```text
-    /// ensures adds { AddsTwoLists pieces_model L.into_iter_gives L.IntoIter.next_gives
+    /// ensures adds { AddsTwoLists E.model L.into_iter_gives L.IntoIter.next_gives
     ///     L.IntoIter.remaining locals S.into_iter_gives S.IntoIter.next_gives
     ///     S.IntoIter.remaining stack (λ _. ⊤) (λ _. ⊤)
     ///     (λ xs ys. (0x00 ∷ (unsigned_encoding instanceidx
@@ -137,7 +156,7 @@ impl<A: Allocator> CoreDumpStackSection<A> {
     /// ensures same_thread { self.new.0 ≡ self.old.0 }
     /// ```
     ///
-    /// Definitions: [`AddsTwoLists`](crate::definitions::custom::adding::AddsTwoLists), [`pieces_model`](crate::definitions::base::stores::pieces_model), [`unsigned_encoding`](crate::definitions::base::numbers::unsigned_encoding), [`vec_encoding`](crate::definitions::base::encodings::vec_encoding), [`value_encoding`](crate::definitions::custom::core_values::value_encoding). [How to read clauses](crate::definitions).
+    /// Definitions: [`AddsTwoLists`](crate::definitions::custom::adding::AddsTwoLists), [`unsigned_encoding`](crate::definitions::base::numbers::unsigned_encoding), [`vec_encoding`](crate::definitions::base::encodings::vec_encoding), [`value_encoding`](crate::definitions::custom::core_values::value_encoding). [How to read clauses](crate::definitions).
     pub fn frame<
         L: IntoIterator<Item = CoreDumpValue>,
         S: IntoIterator<Item = CoreDumpValue>,
@@ -149,7 +168,7 @@ impl<A: Allocator> CoreDumpStackSection<A> {
         let locals = vec_of(locals)?;
         let stack = vec_of(stack)?;
         let place = (instanceidx, funcidx, codeoffset);
-        self.frames.add_once(((0x00u8, place), locals, stack))
+        self.frames.add_item_once(((0x00u8, place), locals, stack))
     }
 
     /// Returns the section as a custom section, which owns a copy of the data.
@@ -160,16 +179,16 @@ impl<A: Allocator> CoreDumpStackSection<A> {
     ///
     /// # Proved
     ///
-    /// After `Ok`: `same`, the result has the name and the data of the section. In any case: `memory`, no error is `TooLong`.
+    /// In any case: `memory`, no error is `TooLong`.
     ///
     /// ```text
     /// ensures same { IfOk result
     ///     (λ s. (utf8_of s.name ≡ stack_name)
-    ///         × (items_of s.bytes ≡ entries_encoding self.now.0 true self.now.1)) }
+    ///         × (items_of s.bytes ≡ joined_data self.now.0 true (E.model.joins self.now.1))) }
     /// ensures memory { result ≢ Err TooLong }
     /// ```
     ///
-    /// Definitions: [`utf8_of`](crate::definitions::base::cow::utf8_of), [`stack_name`](crate::definitions::custom::core_stacks::stack_name), [`items_of`](crate::definitions::base::cow::items_of), [`entries_encoding`](crate::definitions::custom::entries::entries_encoding). [How to read clauses](crate::definitions).
+    /// Definitions: [`utf8_of`](crate::definitions::base::cow::utf8_of), [`stack_name`](crate::definitions::custom::core_stacks::stack_name), [`items_of`](crate::definitions::base::cow::items_of), [`joined_data`](crate::definitions::custom::entries::joined_data). [How to read clauses](crate::definitions).
     pub fn as_custom<B: Allocator>(&self, alloc: B) -> Result<CustomSection<'_, B>> {
         let data = data_of(alloc, &self.front, true, &self.frames)?;
         Ok(CustomSection {
@@ -185,15 +204,17 @@ impl<A: Allocator> CoreDumpStackSection<A> {
 /// # Defined
 ///
 /// ```text
-/// encoding = { λ s. named_encoding stack_name (entries_encoding s.0 true s.1) }
-/// encodable = { λ s. IsEncodableNamed stack_name (entries_encoding s.0 true s.1) }
-/// decoding = { λ s. DecodesBack stack_section (SaysStack s.0 s.1)
-///     (named_encoding stack_name (entries_encoding s.0 true s.1)) }
+/// encoding = { λ s. named_encoding stack_name (joined_data s.0 true (E.model.joins s.1)) }
+/// encodable = { λ s. IsEncodableNamed stack_name
+///     (joined_data s.0 true (E.model.joins s.1)) }
+/// decoding = { λ s. DecodesBack stack_section (SaysStackIn E.model s.0 s.1)
+///     (named_encoding stack_name (joined_data s.0 true (E.model.joins s.1))) }
 /// ```
 ///
-/// Definitions: [`named_encoding`](crate::definitions::custom::customs::named_encoding), [`stack_name`](crate::definitions::custom::core_stacks::stack_name), [`entries_encoding`](crate::definitions::custom::entries::entries_encoding), [`IsEncodableNamed`](crate::definitions::custom::customs::IsEncodableNamed), [`DecodesBack`](crate::definitions::base::calls::DecodesBack), [`stack_section`](crate::definitions::custom::core_stacks::stack_section), [`SaysStack`](crate::definitions::custom::core_stacks::SaysStack). [How to read clauses](crate::definitions).
-impl<A: Allocator> Encode for CoreDumpStackSection<A> {
+/// Definitions: [`named_encoding`](crate::definitions::custom::customs::named_encoding), [`stack_name`](crate::definitions::custom::core_stacks::stack_name), [`joined_data`](crate::definitions::custom::entries::joined_data), [`IsEncodableNamed`](crate::definitions::custom::customs::IsEncodableNamed), [`DecodesBack`](crate::definitions::base::calls::DecodesBack), [`stack_section`](crate::definitions::custom::core_stacks::stack_section), [`SaysStackIn`](crate::definitions::custom::core_stacks::SaysStackIn). [How to read clauses](crate::definitions).
+impl<E: Store> Encode for CoreDumpStackIn<E> {
     fn encode<B: Sink>(&self, sink: &mut B) -> Result<()> {
+        self.frames.cut::<ItemsOf<FrameItems>>();
         encode_entries(sink, "corestack", &self.front, true, &self.frames)
     }
 }
@@ -204,15 +225,15 @@ impl<A: Allocator> Encode for CoreDumpStackSection<A> {
 /// id_of = { λ _. number_of ids.Custom }
 /// Items = { List ℕ × List StackFrame }
 /// format = { stack_section }
-/// says = { λ s. SaysStack s.0 s.1 }
-/// payload = { λ s. NamedPayload stack_name (entries_encoding s.0 true s.1) }
+/// says = { λ s. SaysStackIn E.model s.0 s.1 }
+/// payload = { λ s. NamedPayload stack_name (joined_data s.0 true (E.model.joins s.1)) }
 /// sized = { λ s bytes encodable pays. named_sized stack_name
-///     (entries_encoding s.0 true s.1) bytes encodable pays }
+///     (joined_data s.0 true (E.model.joins s.1)) bytes encodable pays }
 /// decodes_back = { λ s promised. promised }
 /// ```
 ///
-/// Definitions: [`number_of`](crate::definitions::base::section_id::number_of), [`StackFrame`](crate::definitions::custom::core_stacks::StackFrame), [`stack_section`](crate::definitions::custom::core_stacks::stack_section), [`SaysStack`](crate::definitions::custom::core_stacks::SaysStack), [`NamedPayload`](crate::definitions::custom::customs::NamedPayload), [`stack_name`](crate::definitions::custom::core_stacks::stack_name), [`entries_encoding`](crate::definitions::custom::entries::entries_encoding), [`named_sized`](crate::definitions::custom::customs::named_sized). [How to read clauses](crate::definitions).
-impl<A: Allocator> Section for CoreDumpStackSection<A> {
+/// Definitions: [`number_of`](crate::definitions::base::section_id::number_of), [`StackFrame`](crate::definitions::custom::core_stacks::StackFrame), [`stack_section`](crate::definitions::custom::core_stacks::stack_section), [`SaysStackIn`](crate::definitions::custom::core_stacks::SaysStackIn), [`NamedPayload`](crate::definitions::custom::customs::NamedPayload), [`stack_name`](crate::definitions::custom::core_stacks::stack_name), [`joined_data`](crate::definitions::custom::entries::joined_data), [`named_sized`](crate::definitions::custom::customs::named_sized). [How to read clauses](crate::definitions).
+impl<E: Store> Section for CoreDumpStackIn<E> {
     fn id(&self) -> u8 {
         SectionId::Custom.into()
     }

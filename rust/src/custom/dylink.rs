@@ -2,8 +2,9 @@
 // The section of a dynamic library: its builder, its reader and its minimizer.
 
 use crate::vec::{Sink, Vec};
-use crate::custom::dylink_symbols::{DylinkExport, DylinkExports, DylinkImport, DylinkImports, DylinkMemory, DylinkNeeded, DylinkPath};
+use crate::custom::dylink_symbols::{DylinkExport, DylinkImport, DylinkMemory, ExportFlagMembers, ImportFlagMembers, NeededMembers, PathMembers};
 use crate::custom::entries::{CustomEntries, CustomKind};
+use crate::custom::lists::CountedList;
 use crate::custom::linking::{append_other, append_vector, read_vector};
 use crate::custom::named::after_name;
 use crate::custom::standard::require_standard;
@@ -172,12 +173,14 @@ impl<S: Store> CustomEntries<DylinkItems, S> {
     /// The builder gains one entry with this encoding, or the call returns an error and changes nothing. A full builder, with 2^32 - 1 entries, returns `TooLong`.
     ///
     /// ```text
-    /// ensures { AddsTo S.model (subsection_encoding 2 (list_encoding libraries.now))
-    ///     (HasEncodableSize (list_encoding libraries.now) × ⊤) self.old self.new result }
+    /// ensures { AddsTo S.model
+    ///     (subsection_encoding 2 (list_encoding (T.model.joins libraries.now)))
+    ///     (HasEncodableSize (list_encoding (T.model.joins libraries.now)) × ⊤) self.old
+    ///     self.new result }
     /// ```
     ///
     /// Definitions: [`AddsTo`](crate::definitions::base::calls::AddsTo), [`subsection_encoding`](crate::definitions::custom::customs::subsection_encoding), [`list_encoding`](crate::definitions::custom::lists::list_encoding), [`HasEncodableSize`](crate::definitions::base::encodings::HasEncodableSize). [How to read clauses](crate::definitions).
-    pub fn needed<B: Allocator>(&mut self, libraries: &DylinkNeeded<B>) -> Result<()> {
+    pub fn needed<T: Store>(&mut self, libraries: &CountedList<NeededMembers, T>) -> Result<()> {
         self.add_record(libraries)
     }
 
@@ -195,12 +198,14 @@ impl<S: Store> CustomEntries<DylinkItems, S> {
     /// The builder gains one entry with this encoding, or the call returns an error and changes nothing. A full builder, with 2^32 - 1 entries, returns `TooLong`.
     ///
     /// ```text
-    /// ensures { AddsTo S.model (subsection_encoding 3 (list_encoding exports.now))
-    ///     (HasEncodableSize (list_encoding exports.now) × ⊤) self.old self.new result }
+    /// ensures { AddsTo S.model
+    ///     (subsection_encoding 3 (list_encoding (T.model.joins exports.now)))
+    ///     (HasEncodableSize (list_encoding (T.model.joins exports.now)) × ⊤) self.old self.new
+    ///     result }
     /// ```
     ///
     /// Definitions: [`AddsTo`](crate::definitions::base::calls::AddsTo), [`subsection_encoding`](crate::definitions::custom::customs::subsection_encoding), [`list_encoding`](crate::definitions::custom::lists::list_encoding), [`HasEncodableSize`](crate::definitions::base::encodings::HasEncodableSize). [How to read clauses](crate::definitions).
-    pub fn exports<B: Allocator>(&mut self, exports: &DylinkExports<B>) -> Result<()> {
+    pub fn exports<T: Store>(&mut self, exports: &CountedList<ExportFlagMembers, T>) -> Result<()> {
         self.add_record(exports)
     }
 
@@ -218,12 +223,14 @@ impl<S: Store> CustomEntries<DylinkItems, S> {
     /// The builder gains one entry with this encoding, or the call returns an error and changes nothing. A full builder, with 2^32 - 1 entries, returns `TooLong`.
     ///
     /// ```text
-    /// ensures { AddsTo S.model (subsection_encoding 4 (list_encoding imports.now))
-    ///     (HasEncodableSize (list_encoding imports.now) × ⊤) self.old self.new result }
+    /// ensures { AddsTo S.model
+    ///     (subsection_encoding 4 (list_encoding (T.model.joins imports.now)))
+    ///     (HasEncodableSize (list_encoding (T.model.joins imports.now)) × ⊤) self.old self.new
+    ///     result }
     /// ```
     ///
     /// Definitions: [`AddsTo`](crate::definitions::base::calls::AddsTo), [`subsection_encoding`](crate::definitions::custom::customs::subsection_encoding), [`list_encoding`](crate::definitions::custom::lists::list_encoding), [`HasEncodableSize`](crate::definitions::base::encodings::HasEncodableSize). [How to read clauses](crate::definitions).
-    pub fn imports<B: Allocator>(&mut self, imports: &DylinkImports<B>) -> Result<()> {
+    pub fn imports<T: Store>(&mut self, imports: &CountedList<ImportFlagMembers, T>) -> Result<()> {
         self.add_record(imports)
     }
 
@@ -257,13 +264,15 @@ impl<S: Store> CustomEntries<DylinkItems, S> {
     /// The builder gains one entry with this encoding, or the call returns an error and changes nothing. A full builder, with 2^32 - 1 entries, returns `TooLong`.
     ///
     /// ```text
-    /// ensures { AddsTo S.model (subsection_encoding 5 (list_encoding folders.now))
-    ///     (HasEncodableSize (list_encoding folders.now) × ⊤) self.old self.new result }
+    /// ensures { AddsTo S.model
+    ///     (subsection_encoding 5 (list_encoding (T.model.joins folders.now)))
+    ///     (HasEncodableSize (list_encoding (T.model.joins folders.now)) × ⊤) self.old self.new
+    ///     result }
     /// ```
     ///
     /// Definitions: [`AddsTo`](crate::definitions::base::calls::AddsTo), [`subsection_encoding`](crate::definitions::custom::customs::subsection_encoding), [`list_encoding`](crate::definitions::custom::lists::list_encoding), [`HasEncodableSize`](crate::definitions::base::encodings::HasEncodableSize). [How to read clauses](crate::definitions).
     #[doc(alias = "rpath")]
-    pub fn runtime_path<B: Allocator>(&mut self, folders: &DylinkPath<B>) -> Result<()> {
+    pub fn runtime_path<T: Store>(&mut self, folders: &CountedList<PathMembers, T>) -> Result<()> {
         self.add_record(folders)
     }
 }

@@ -6,7 +6,7 @@ use crate::vec::Sink;
 use crate::custom::lists::{CountedList, ListKind};
 use crate::custom::subsections::Content;
 use crate::alloc::{Allocator, Global};
-use crate::base::{DecodeError, Encode, Grammar, Layout, Readable, Result, Shorten, encoding_size};
+use crate::base::{DecodeError, Encode, Grammar, Layout, Pieces, Readable, Result, Shorten, Store, encoding_size};
 
 /// The memory and the table that a dynamic library needs at load time.
 ///
@@ -138,7 +138,7 @@ impl Shorten for DylinkMemory {
 /// assert_eq!(bytes, *b"\x02\x06\x01\x04a.so");
 /// # Ok::<(), dolzhytik::fallible::Refused>(())
 /// ```
-pub type DylinkNeeded<A = Global> = CountedList<NeededMembers, A>;
+pub type DylinkNeeded<A = Global> = CountedList<NeededMembers, Pieces<A>>;
 
 /// The kind of the members of a list of libraries: their names.
 ///
@@ -169,7 +169,7 @@ impl ListKind for NeededMembers {
     }
 }
 
-impl<A: Allocator> DylinkNeeded<A> {
+impl<S: Store> CountedList<NeededMembers, S> {
     /// Adds a library.
     ///
     /// # Errors
@@ -181,14 +181,14 @@ impl<A: Allocator> DylinkNeeded<A> {
     ///
     /// # Proved
     ///
-    /// `AddsTo` of a builder whose entries are a list of pieces.
+    /// The builder gains one entry with this encoding, or the call returns an error and changes nothing. A full builder, with 2^32 - 1 entries, returns `TooLong`.
     ///
     /// ```text
-    /// ensures { Adds (size_prefixed_encoding name.now)
+    /// ensures { AddsTo S.model (size_prefixed_encoding name.now)
     ///     (HasEncodableSize name.now) self.old self.new result }
     /// ```
     ///
-    /// Definitions: [`Adds`](crate::definitions::base::calls::Adds), [`size_prefixed_encoding`](crate::definitions::base::encodings::size_prefixed_encoding), [`HasEncodableSize`](crate::definitions::base::encodings::HasEncodableSize). [How to read clauses](crate::definitions).
+    /// Definitions: [`AddsTo`](crate::definitions::base::calls::AddsTo), [`size_prefixed_encoding`](crate::definitions::base::encodings::size_prefixed_encoding), [`HasEncodableSize`](crate::definitions::base::encodings::HasEncodableSize). [How to read clauses](crate::definitions).
     pub fn library(&mut self, name: &str) -> Result<()> {
         self.add_record(&name)
     }
@@ -212,7 +212,7 @@ impl<A: Allocator> DylinkNeeded<A> {
 /// assert_eq!(bytes, *b"\x05\x04\x01\x02/l");
 /// # Ok::<(), dolzhytik::fallible::Refused>(())
 /// ```
-pub type DylinkPath<A = Global> = CountedList<PathMembers, A>;
+pub type DylinkPath<A = Global> = CountedList<PathMembers, Pieces<A>>;
 
 /// The kind of the members of a list of folders: their paths.
 ///
@@ -243,7 +243,7 @@ impl ListKind for PathMembers {
     }
 }
 
-impl<A: Allocator> DylinkPath<A> {
+impl<S: Store> CountedList<PathMembers, S> {
     /// Adds a folder.
     ///
     /// # Errors
@@ -255,14 +255,14 @@ impl<A: Allocator> DylinkPath<A> {
     ///
     /// # Proved
     ///
-    /// `AddsTo` of a builder whose entries are a list of pieces.
+    /// The builder gains one entry with this encoding, or the call returns an error and changes nothing. A full builder, with 2^32 - 1 entries, returns `TooLong`.
     ///
     /// ```text
-    /// ensures { Adds (size_prefixed_encoding path.now)
+    /// ensures { AddsTo S.model (size_prefixed_encoding path.now)
     ///     (HasEncodableSize path.now) self.old self.new result }
     /// ```
     ///
-    /// Definitions: [`Adds`](crate::definitions::base::calls::Adds), [`size_prefixed_encoding`](crate::definitions::base::encodings::size_prefixed_encoding), [`HasEncodableSize`](crate::definitions::base::encodings::HasEncodableSize). [How to read clauses](crate::definitions).
+    /// Definitions: [`AddsTo`](crate::definitions::base::calls::AddsTo), [`size_prefixed_encoding`](crate::definitions::base::encodings::size_prefixed_encoding), [`HasEncodableSize`](crate::definitions::base::encodings::HasEncodableSize). [How to read clauses](crate::definitions).
     pub fn folder(&mut self, path: &str) -> Result<()> {
         self.add_record(&path)
     }
@@ -286,7 +286,7 @@ impl<A: Allocator> DylinkPath<A> {
 /// assert_eq!(bytes, *b"\x03\x04\x01\x01f\x01");
 /// # Ok::<(), dolzhytik::fallible::Refused>(())
 /// ```
-pub type DylinkExports<A = Global> = CountedList<ExportFlagMembers, A>;
+pub type DylinkExports<A = Global> = CountedList<ExportFlagMembers, Pieces<A>>;
 
 /// The kind of the members of a list of flags of exported symbols.
 ///
@@ -317,7 +317,7 @@ impl ListKind for ExportFlagMembers {
     }
 }
 
-impl<A: Allocator> DylinkExports<A> {
+impl<S: Store> CountedList<ExportFlagMembers, S> {
     /// Adds the flags of an exported symbol. They are those of a symbol table, such as
     /// `WASM_SYM_BINDING_WEAK`.
     ///
@@ -330,14 +330,14 @@ impl<A: Allocator> DylinkExports<A> {
     ///
     /// # Proved
     ///
-    /// `AddsTo` of a builder whose entries are a list of pieces.
+    /// The builder gains one entry with this encoding, or the call returns an error and changes nothing. A full builder, with 2^32 - 1 entries, returns `TooLong`.
     ///
     /// ```text
-    /// ensures { Adds (size_prefixed_encoding name.now ++ unsigned_encoding flags)
+    /// ensures { AddsTo S.model (size_prefixed_encoding name.now ++ unsigned_encoding flags)
     ///     (HasEncodableSize name.now × ⊤) self.old self.new result }
     /// ```
     ///
-    /// Definitions: [`Adds`](crate::definitions::base::calls::Adds), [`size_prefixed_encoding`](crate::definitions::base::encodings::size_prefixed_encoding), [`unsigned_encoding`](crate::definitions::base::numbers::unsigned_encoding), [`HasEncodableSize`](crate::definitions::base::encodings::HasEncodableSize). [How to read clauses](crate::definitions).
+    /// Definitions: [`AddsTo`](crate::definitions::base::calls::AddsTo), [`size_prefixed_encoding`](crate::definitions::base::encodings::size_prefixed_encoding), [`unsigned_encoding`](crate::definitions::base::numbers::unsigned_encoding), [`HasEncodableSize`](crate::definitions::base::encodings::HasEncodableSize). [How to read clauses](crate::definitions).
     pub fn export(&mut self, name: &str, flags: u32) -> Result<()> {
         self.add_record(&(name, flags))
     }
@@ -435,7 +435,7 @@ impl<'a> Shorten for DylinkExport<'a> {
 /// assert_eq!(bytes, *b"\x04\x08\x01\x03env\x01g\x01");
 /// # Ok::<(), dolzhytik::fallible::Refused>(())
 /// ```
-pub type DylinkImports<A = Global> = CountedList<ImportFlagMembers, A>;
+pub type DylinkImports<A = Global> = CountedList<ImportFlagMembers, Pieces<A>>;
 
 /// The kind of the members of a list of flags of imported symbols.
 ///
@@ -466,7 +466,7 @@ impl ListKind for ImportFlagMembers {
     }
 }
 
-impl<A: Allocator> DylinkImports<A> {
+impl<S: Store> CountedList<ImportFlagMembers, S> {
     /// Adds the flags of an imported symbol. They are those of a symbol table, such as
     /// `WASM_SYM_BINDING_WEAK`.
     ///
@@ -479,16 +479,17 @@ impl<A: Allocator> DylinkImports<A> {
     ///
     /// # Proved
     ///
-    /// `AddsTo` of a builder whose entries are a list of pieces.
+    /// The builder gains one entry with this encoding, or the call returns an error and changes nothing. A full builder, with 2^32 - 1 entries, returns `TooLong`.
     ///
     /// ```text
-    /// ensures { Adds (size_prefixed_encoding module_name.now
+    /// ensures { AddsTo S.model
+    ///     (size_prefixed_encoding module_name.now
     ///         ++ (size_prefixed_encoding name.now ++ unsigned_encoding flags))
     ///     (HasEncodableSize module_name.now × HasEncodableSize name.now × ⊤) self.old self.new
     ///     result }
     /// ```
     ///
-    /// Definitions: [`Adds`](crate::definitions::base::calls::Adds), [`size_prefixed_encoding`](crate::definitions::base::encodings::size_prefixed_encoding), [`unsigned_encoding`](crate::definitions::base::numbers::unsigned_encoding), [`HasEncodableSize`](crate::definitions::base::encodings::HasEncodableSize). [How to read clauses](crate::definitions).
+    /// Definitions: [`AddsTo`](crate::definitions::base::calls::AddsTo), [`size_prefixed_encoding`](crate::definitions::base::encodings::size_prefixed_encoding), [`unsigned_encoding`](crate::definitions::base::numbers::unsigned_encoding), [`HasEncodableSize`](crate::definitions::base::encodings::HasEncodableSize). [How to read clauses](crate::definitions).
     pub fn import(&mut self, module_name: &str, name: &str, flags: u32) -> Result<()> {
         self.add_record(&(module_name, (name, flags)))
     }

@@ -4,7 +4,7 @@
 use crate::vec::Sink;
 use crate::custom::lists::{CountedList, ListKind};
 use crate::alloc::{Allocator, Global};
-use crate::base::{DecodeError, Grammar, Layout, Readable, Result, Shorten};
+use crate::base::{DecodeError, Grammar, Layout, Pieces, Readable, Result, Shorten, Store};
 
 /// The init functions of a module, in the order in which they are added. They are encoded as
 /// subsection 6 of a linking section.
@@ -20,7 +20,7 @@ use crate::base::{DecodeError, Grammar, Layout, Readable, Result, Shorten};
 /// # }
 /// # example().unwrap();
 /// ```
-pub type InitFunctions<A = Global> = CountedList<InitMembers, A>;
+pub type InitFunctions<A = Global> = CountedList<InitMembers, Pieces<A>>;
 
 /// The kind of the members of a list of init functions.
 ///
@@ -51,7 +51,7 @@ impl ListKind for InitMembers {
     }
 }
 
-impl<A: Allocator> InitFunctions<A> {
+impl<S: Store> CountedList<InitMembers, S> {
     /// Adds the function of this symbol. Functions of a lower priority are called first.
     ///
     /// # Errors
@@ -62,14 +62,15 @@ impl<A: Allocator> InitFunctions<A> {
     ///
     /// # Proved
     ///
-    /// `AddsTo` of a builder whose entries are a list of pieces.
+    /// The builder gains one entry with this encoding, or the call returns an error and changes nothing. A full builder, with 2^32 - 1 entries, returns `TooLong`.
     ///
     /// ```text
-    /// ensures { Adds (unsigned_encoding priority ++ unsigned_encoding symbol) ⊤ self.old
-    ///     self.new result }
+    /// ensures { AddsTo S.model
+    ///     (unsigned_encoding priority ++ unsigned_encoding symbol) ⊤ self.old self.new result
+    ///     }
     /// ```
     ///
-    /// Definitions: [`Adds`](crate::definitions::base::calls::Adds), [`unsigned_encoding`](crate::definitions::base::numbers::unsigned_encoding). [How to read clauses](crate::definitions).
+    /// Definitions: [`AddsTo`](crate::definitions::base::calls::AddsTo), [`unsigned_encoding`](crate::definitions::base::numbers::unsigned_encoding). [How to read clauses](crate::definitions).
     pub fn function(&mut self, priority: u32, symbol: u32) -> Result<()> {
         self.add_record(&(priority, symbol))
     }

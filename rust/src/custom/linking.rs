@@ -4,12 +4,13 @@
 use crate::vec::{Sink, Vec};
 use crate::custom::comdats::Comdat;
 use crate::custom::entries::{CustomEntries, CustomKind};
+use crate::custom::lists::CountedList;
 use crate::custom::init_functions::InitFunction;
 use crate::custom::named::after_name;
 use crate::custom::segments::SegmentInfo;
 use crate::custom::standard::require_standard;
 use crate::custom::subsections::Subsection;
-use crate::custom::symbols::{Symbol, SymbolTable};
+use crate::custom::symbols::{Symbol, SymbolMembers};
 use crate::alloc::{Allocator, Global};
 use crate::base::{DecodeError, Encode, Grammar, Kind, Layout, Pieces, ReadFault, Readable, Result, Shorten, SizePrefixed, Store, append_all, prefix_size_since, read_to_end};
 
@@ -100,12 +101,14 @@ impl<S: Store> CustomEntries<LinkingItems, S> {
     /// The builder gains one entry with this encoding, or the call returns an error and changes nothing. A full builder, with 2^32 - 1 entries, returns `TooLong`.
     ///
     /// ```text
-    /// ensures { AddsTo S.model (subsection_encoding 8 (list_encoding symbols.now))
-    ///     (HasEncodableSize (list_encoding symbols.now) × ⊤) self.old self.new result }
+    /// ensures { AddsTo S.model
+    ///     (subsection_encoding 8 (list_encoding (T.model.joins symbols.now)))
+    ///     (HasEncodableSize (list_encoding (T.model.joins symbols.now)) × ⊤) self.old self.new
+    ///     result }
     /// ```
     ///
     /// Definitions: [`AddsTo`](crate::definitions::base::calls::AddsTo), [`subsection_encoding`](crate::definitions::custom::customs::subsection_encoding), [`list_encoding`](crate::definitions::custom::lists::list_encoding), [`HasEncodableSize`](crate::definitions::base::encodings::HasEncodableSize). [How to read clauses](crate::definitions).
-    pub fn symbol_table<B: Allocator>(&mut self, symbols: &SymbolTable<B>) -> Result<()> {
+    pub fn symbol_table<T: Store>(&mut self, symbols: &CountedList<SymbolMembers, T>) -> Result<()> {
         self.add_record(symbols)
     }
 

@@ -3,9 +3,8 @@
 
 use crate::vec::Sink;
 use crate::custom::subsections::{Content, Subsection};
-use crate::alloc::{Allocator, Global};
 use core::marker::PhantomData;
-use crate::base::{Encode, Pieces, Result, encoding_size};
+use crate::base::{Encode, NewStore, Pieces, Property, Result, Store, encoding_size};
 
 /// A kind of members of a list, and their encoding.
 ///
@@ -51,7 +50,21 @@ pub trait ListKind {
     fn subsection() -> Option<u8>;
 }
 
-/// A list of counted members of the kind `K`.
+/// The pieces are the encodings of a list of members of the kind `K`.
+#[derive(Clone, Copy, Debug)]
+pub struct MembersOf<K>(PhantomData<K>);
+
+/// # Defined
+///
+/// ```text
+/// Items = { Unit {0} }
+/// says = { λ pieces _. ContainsList K.member_encoding K.is_member pieces }
+/// ```
+///
+/// Definitions: [`ContainsList`](crate::definitions::custom::lists::ContainsList). [How to read clauses](crate::definitions).
+impl<K: ListKind> Property for MembersOf<K> {}
+
+/// A list of counted members of the kind `K`, which a store of the type `S` keeps.
 ///
 /// It is a list in a custom section, such as [`NameMap`](crate::fallible::NameMap). The calls
 /// that add members are those of the kind `K`.
@@ -74,49 +87,44 @@ pub trait ListKind {
 /// assert_eq!(bytes, *b"\x01\x05\x01f");
 /// # Ok::<(), dolzhytik::fallible::Refused>(())
 /// ```
-///
-/// # Model
-///
-/// Contracts model it as the bytes of each entry.
 #[derive(Debug)]
-pub struct CountedList<K: ListKind, A: Allocator = Global> {
-    pub(crate) pieces: Pieces<A>, pub(crate) kind: PhantomData<K>,
+pub struct CountedList<K: ListKind, S: Store = Pieces> {
+    pub(crate) entries: S, pub(crate) kind: PhantomData<K>,
 }
 
 /// Invariant: the entries are the encodings of a list of members.
 
-impl<K: ListKind, A: Allocator> CountedList<K, A> {
+impl<K: ListKind, S: Store> CountedList<K, S> {
     /// Returns the number of entries.
     ///
     /// # Proved
     ///
     /// ```text
-    /// ensures { result ≡ length self.now }
+    /// ensures { result ≡ (S.model.joins self.now).number }
     /// ```
     ///
     /// [How to read clauses](crate::definitions).
     pub fn len(&self) -> u32 {
-        self.pieces.len()
+        self.entries.count()
     }
 
     /// Returns `true` if there are no entries.
     ///
     /// # Proved
     ///
-    /// The result is true exactly if there are no entries.
-    ///
     /// ```text
-    /// ensures { IsTrue result ↔ (length self.now ≡ 0) }
+    /// ensures { IsTrue result ↔ ((S.model.joins self.now).number ≡ 0) }
     /// ```
     ///
     /// [How to read clauses](crate::definitions).
     pub fn is_empty(&self) -> bool {
-        self.pieces.is_empty()
+        self.entries.count() == 0
     }
 
     /// Adds the encoding of the record as an entry.
     pub(crate) fn add_record<T: Encode>(&mut self, given: &T) -> Result<()> {
-        self.pieces.add_encoded(given)?;
+        S::grows::<MembersOf<K>>();
+        self.entries.add_item(given)?;
         Ok(())
     }
 
@@ -124,33 +132,35 @@ impl<K: ListKind, A: Allocator> CountedList<K, A> {
     ///
     /// # Proved
     ///
-    /// The pieces are the encodings of some members with the property.
+    /// `cut`: Some pieces, as many as there are entries, join to the content and have the property.
     ///
     /// ```text
-    /// ensures { ContainsList K.member_encoding K.is_member self.now }
+    /// ensures entries { S.model.holds
+    ///     (λ pieces. ContainsList K.member_encoding K.is_member pieces) self.now }
+    /// ensures cut { Cut (λ pieces. ContainsList K.member_encoding K.is_member pieces)
+    ///     (S.model.joins self.now) }
     /// ```
     ///
-    /// Definitions: [`ContainsList`](crate::definitions::custom::lists::ContainsList). [How to read clauses](crate::definitions).
+    /// Definitions: [`ContainsList`](crate::definitions::custom::lists::ContainsList), [`Cut`](crate::definitions::base::stores::Cut). [How to read clauses](crate::definitions).
     pub fn members_law(&self) {
-        let _ = self.pieces.len();
+        self.entries.cut::<MembersOf<K>>();
     }
 }
 
-impl<K: ListKind, A: Allocator + Copy> CountedList<K, A> {
+impl<K: ListKind, S: NewStore> CountedList<K, S> {
     /// Returns a list without entries, and allocates nothing.
     ///
     /// # Proved
     ///
-    /// The result has no entries.
-    ///
     /// ```text
-    /// ensures { result ≡ [] }
+    /// ensures { result ≡ S.none }
     /// ```
     ///
     /// [How to read clauses](crate::definitions).
-    pub fn new(alloc: A) -> Self {
+    pub fn new(alloc: S::Alloc) -> Self {
+        S::begins::<MembersOf<K>>();
         CountedList {
-            pieces: Pieces::new(alloc),
+            entries: S::new_in(alloc),
             kind: PhantomData,
         }
     }
@@ -173,7 +183,7 @@ impl<K: ListKind, A: Allocator + Copy> CountedList<K, A> {
     /// [How to read clauses](crate::definitions).
     pub fn clone(&self) -> Result<Self> {
         Ok(CountedList {
-            pieces: self.pieces.clone()?,
+            entries: self.entries.copy()?,
             kind: PhantomData,
         })
     }
@@ -181,31 +191,34 @@ impl<K: ListKind, A: Allocator + Copy> CountedList<K, A> {
 
 /// The vector of a list's entries, as a component of an encoding.
 #[derive(Clone, Copy)]
-pub(crate) struct Entries<'a, K: ListKind, A: Allocator>(pub &'a CountedList<K, A>);
+pub(crate) struct Entries<'a, K: ListKind, S: Store>(pub &'a CountedList<K, S>);
 
 /// # Defined
 ///
 /// ```text
-/// encoding = { λ entries. list_encoding entries.0.now }
+/// encoding = { λ entries. list_encoding (S.model.joins entries.0.now) }
 /// encodable = { λ _. ⊤ }
 /// ```
 ///
 /// Definitions: [`list_encoding`](crate::definitions::custom::lists::list_encoding). [How to read clauses](crate::definitions).
-impl<K: ListKind, A: Allocator> Encode for Entries<'_, K, A> {
+impl<K: ListKind, S: Store> Encode for Entries<'_, K, S> {
     fn encode<B: Sink>(&self, sink: &mut B) -> Result<()> {
         let list = self.0;
-        let count = list.pieces.len();
-        sink.reserve(encoding_size(count).saturating_add(list.pieces.raw_len()))?;
+        let entries = &list.entries;
+        let count = entries.count();
+        let content = entries.content();
+        sink.reserve(encoding_size(count).saturating_add(content.len()))?;
         count.encode(sink).unwrap();
-        sink.extend_from_slice(list.pieces.bytes()).unwrap();
+        sink.extend_from_slice(content).unwrap();
         Ok(())
     }
 }
 
-impl<K: ListKind, A: Allocator> Content for Entries<'_, K, A> {
+impl<K: ListKind, S: Store> Content for Entries<'_, K, S> {
     fn size(&self) -> usize {
         let list = self.0;
-        encoding_size(list.pieces.len()).saturating_add(list.pieces.raw_len())
+        let entries = &list.entries;
+        encoding_size(entries.count()).saturating_add(entries.content().len())
     }
 }
 
@@ -214,12 +227,12 @@ impl<K: ListKind, A: Allocator> Content for Entries<'_, K, A> {
 /// # Defined
 ///
 /// ```text
-/// encoding = { listed_encoding K.subsection }
-/// encodable = { IsEncodableList K.subsection }
+/// encoding = { λ list. listed_encoding K.subsection (S.model.joins list) }
+/// encodable = { λ list. IsEncodableList K.subsection (S.model.joins list) }
 /// ```
 ///
 /// Definitions: [`listed_encoding`](crate::definitions::custom::lists::listed_encoding), [`IsEncodableList`](crate::definitions::custom::lists::IsEncodableList). [How to read clauses](crate::definitions).
-impl<K: ListKind, A: Allocator> Encode for CountedList<K, A> {
+impl<K: ListKind, S: Store> Encode for CountedList<K, S> {
     fn encode<B: Sink>(&self, sink: &mut B) -> Result<()> {
         let entries = Entries(self);
         match K::subsection() {

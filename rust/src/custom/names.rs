@@ -27,7 +27,7 @@ use crate::base::{CowSlice, CowStr, DecodeError, Encode, Grammar, Kind, Layout, 
 /// assert_eq!(names.len(), 1);
 /// # Ok::<(), dolzhytik::fallible::Refused>(())
 /// ```
-pub type NameMap<A = Global> = CountedList<NameMembers, A>;
+pub type NameMap<A = Global> = CountedList<NameMembers, Pieces<A>>;
 
 /// The kind of a name map's members: an index, and its name.
 ///
@@ -58,7 +58,7 @@ impl ListKind for NameMembers {
     }
 }
 
-impl<A: Allocator> NameMap<A> {
+impl<S: Store> CountedList<NameMembers, S> {
     /// Adds the name of this index.
     ///
     /// # Errors
@@ -70,14 +70,14 @@ impl<A: Allocator> NameMap<A> {
     ///
     /// # Proved
     ///
-    /// `AddsTo` of a builder whose entries are a list of pieces.
+    /// The builder gains one entry with this encoding, or the call returns an error and changes nothing. A full builder, with 2^32 - 1 entries, returns `TooLong`.
     ///
     /// ```text
-    /// ensures { Adds (unsigned_encoding index ++ size_prefixed_encoding name.now)
+    /// ensures { AddsTo S.model (unsigned_encoding index ++ size_prefixed_encoding name.now)
     ///     (HasEncodableSize name.now) self.old self.new result }
     /// ```
     ///
-    /// Definitions: [`Adds`](crate::definitions::base::calls::Adds), [`unsigned_encoding`](crate::definitions::base::numbers::unsigned_encoding), [`size_prefixed_encoding`](crate::definitions::base::encodings::size_prefixed_encoding), [`HasEncodableSize`](crate::definitions::base::encodings::HasEncodableSize). [How to read clauses](crate::definitions).
+    /// Definitions: [`AddsTo`](crate::definitions::base::calls::AddsTo), [`unsigned_encoding`](crate::definitions::base::numbers::unsigned_encoding), [`size_prefixed_encoding`](crate::definitions::base::encodings::size_prefixed_encoding), [`HasEncodableSize`](crate::definitions::base::encodings::HasEncodableSize). [How to read clauses](crate::definitions).
     pub fn append(&mut self, index: u32, name: &str) -> Result<()> {
         self.add_record(&IndexedName { index, name })
     }
@@ -135,7 +135,7 @@ impl Encode for IndexedName<'_> {
 /// assert_eq!(bytes, [1, 5, 1, 0, 1, b'x']);
 /// # Ok::<(), dolzhytik::fallible::Refused>(())
 /// ```
-pub type IndirectNameMap<A = Global> = CountedList<IndirectMembers, A>;
+pub type IndirectNameMap<A = Global> = CountedList<IndirectMembers, Pieces<A>>;
 
 /// The kind of an indirect name map's members: an index, and the names of the items in it.
 ///
@@ -166,7 +166,7 @@ impl ListKind for IndirectMembers {
     }
 }
 
-impl<A: Allocator> IndirectNameMap<A> {
+impl<S: Store> CountedList<IndirectMembers, S> {
     /// Adds the names of the items in this index.
     ///
     /// # Errors
@@ -177,15 +177,16 @@ impl<A: Allocator> IndirectNameMap<A> {
     ///
     /// # Proved
     ///
-    /// `AddsTo` of a builder whose entries are a list of pieces.
+    /// The builder gains one entry with this encoding, or the call returns an error and changes nothing. A full builder, with 2^32 - 1 entries, returns `TooLong`.
     ///
     /// ```text
-    /// ensures { Adds (unsigned_encoding index ++ list_encoding names.now) ⊤ self.old self.new
-    ///     result }
+    /// ensures { AddsTo S.model
+    ///     (unsigned_encoding index ++ list_encoding (T.model.joins names.now)) ⊤ self.old
+    ///     self.new result }
     /// ```
     ///
-    /// Definitions: [`Adds`](crate::definitions::base::calls::Adds), [`unsigned_encoding`](crate::definitions::base::numbers::unsigned_encoding), [`list_encoding`](crate::definitions::custom::lists::list_encoding). [How to read clauses](crate::definitions).
-    pub fn append<B: Allocator>(&mut self, index: u32, names: &NameMap<B>) -> Result<()> {
+    /// Definitions: [`AddsTo`](crate::definitions::base::calls::AddsTo), [`unsigned_encoding`](crate::definitions::base::numbers::unsigned_encoding), [`list_encoding`](crate::definitions::custom::lists::list_encoding). [How to read clauses](crate::definitions).
+    pub fn append<T: Store>(&mut self, index: u32, names: &CountedList<NameMembers, T>) -> Result<()> {
         names.members_law();
         self.add_record(&(index, Lent(names)))
     }
@@ -266,13 +267,13 @@ impl CustomKind for NameItems {
 
 impl<S: Store> CustomEntries<NameItems, S> {
     /// Adds a subsection with a name map.
-    fn map<B: Allocator>(&mut self, id: u8, names: &NameMap<B>) -> Result<()> {
+    fn map<T: Store>(&mut self, id: u8, names: &CountedList<NameMembers, T>) -> Result<()> {
         let content = &Entries(names);
         self.add_record(&Subsection { id, content })
     }
 
     /// Adds a subsection with an indirect name map.
-    fn indirect_map<B: Allocator>(&mut self, id: u8, names: &IndirectNameMap<B>) -> Result<()> {
+    fn indirect_map<T: Store>(&mut self, id: u8, names: &CountedList<IndirectMembers, T>) -> Result<()> {
         let content = &Entries(names);
         self.add_record(&Subsection { id, content })
     }
@@ -330,12 +331,14 @@ impl<S: Store> CustomEntries<NameItems, S> {
     /// The builder gains one entry with this encoding, or the call returns an error and changes nothing. A full builder, with 2^32 - 1 entries, returns `TooLong`.
     ///
     /// ```text
-    /// ensures { AddsTo S.model (subsection_encoding 1 (list_encoding names.now))
-    ///     (HasEncodableSize (list_encoding names.now) × ⊤) self.old self.new result }
+    /// ensures { AddsTo S.model
+    ///     (subsection_encoding 1 (list_encoding (T.model.joins names.now)))
+    ///     (HasEncodableSize (list_encoding (T.model.joins names.now)) × ⊤) self.old self.new
+    ///     result }
     /// ```
     ///
     /// Definitions: [`AddsTo`](crate::definitions::base::calls::AddsTo), [`subsection_encoding`](crate::definitions::custom::customs::subsection_encoding), [`list_encoding`](crate::definitions::custom::lists::list_encoding), [`HasEncodableSize`](crate::definitions::base::encodings::HasEncodableSize). [How to read clauses](crate::definitions).
-    pub fn functions<B: Allocator>(&mut self, names: &NameMap<B>) -> Result<()> {
+    pub fn functions<T: Store>(&mut self, names: &CountedList<NameMembers, T>) -> Result<()> {
         self.map(1, names)
     }
 
@@ -353,12 +356,14 @@ impl<S: Store> CustomEntries<NameItems, S> {
     /// The builder gains one entry with this encoding, or the call returns an error and changes nothing. A full builder, with 2^32 - 1 entries, returns `TooLong`.
     ///
     /// ```text
-    /// ensures { AddsTo S.model (subsection_encoding 4 (list_encoding names.now))
-    ///     (HasEncodableSize (list_encoding names.now) × ⊤) self.old self.new result }
+    /// ensures { AddsTo S.model
+    ///     (subsection_encoding 4 (list_encoding (T.model.joins names.now)))
+    ///     (HasEncodableSize (list_encoding (T.model.joins names.now)) × ⊤) self.old self.new
+    ///     result }
     /// ```
     ///
     /// Definitions: [`AddsTo`](crate::definitions::base::calls::AddsTo), [`subsection_encoding`](crate::definitions::custom::customs::subsection_encoding), [`list_encoding`](crate::definitions::custom::lists::list_encoding), [`HasEncodableSize`](crate::definitions::base::encodings::HasEncodableSize). [How to read clauses](crate::definitions).
-    pub fn types<B: Allocator>(&mut self, names: &NameMap<B>) -> Result<()> {
+    pub fn types<T: Store>(&mut self, names: &CountedList<NameMembers, T>) -> Result<()> {
         self.map(4, names)
     }
 
@@ -376,12 +381,14 @@ impl<S: Store> CustomEntries<NameItems, S> {
     /// The builder gains one entry with this encoding, or the call returns an error and changes nothing. A full builder, with 2^32 - 1 entries, returns `TooLong`.
     ///
     /// ```text
-    /// ensures { AddsTo S.model (subsection_encoding 5 (list_encoding names.now))
-    ///     (HasEncodableSize (list_encoding names.now) × ⊤) self.old self.new result }
+    /// ensures { AddsTo S.model
+    ///     (subsection_encoding 5 (list_encoding (T.model.joins names.now)))
+    ///     (HasEncodableSize (list_encoding (T.model.joins names.now)) × ⊤) self.old self.new
+    ///     result }
     /// ```
     ///
     /// Definitions: [`AddsTo`](crate::definitions::base::calls::AddsTo), [`subsection_encoding`](crate::definitions::custom::customs::subsection_encoding), [`list_encoding`](crate::definitions::custom::lists::list_encoding), [`HasEncodableSize`](crate::definitions::base::encodings::HasEncodableSize). [How to read clauses](crate::definitions).
-    pub fn tables<B: Allocator>(&mut self, names: &NameMap<B>) -> Result<()> {
+    pub fn tables<T: Store>(&mut self, names: &CountedList<NameMembers, T>) -> Result<()> {
         self.map(5, names)
     }
 
@@ -399,12 +406,14 @@ impl<S: Store> CustomEntries<NameItems, S> {
     /// The builder gains one entry with this encoding, or the call returns an error and changes nothing. A full builder, with 2^32 - 1 entries, returns `TooLong`.
     ///
     /// ```text
-    /// ensures { AddsTo S.model (subsection_encoding 6 (list_encoding names.now))
-    ///     (HasEncodableSize (list_encoding names.now) × ⊤) self.old self.new result }
+    /// ensures { AddsTo S.model
+    ///     (subsection_encoding 6 (list_encoding (T.model.joins names.now)))
+    ///     (HasEncodableSize (list_encoding (T.model.joins names.now)) × ⊤) self.old self.new
+    ///     result }
     /// ```
     ///
     /// Definitions: [`AddsTo`](crate::definitions::base::calls::AddsTo), [`subsection_encoding`](crate::definitions::custom::customs::subsection_encoding), [`list_encoding`](crate::definitions::custom::lists::list_encoding), [`HasEncodableSize`](crate::definitions::base::encodings::HasEncodableSize). [How to read clauses](crate::definitions).
-    pub fn memories<B: Allocator>(&mut self, names: &NameMap<B>) -> Result<()> {
+    pub fn memories<T: Store>(&mut self, names: &CountedList<NameMembers, T>) -> Result<()> {
         self.map(6, names)
     }
 
@@ -422,12 +431,14 @@ impl<S: Store> CustomEntries<NameItems, S> {
     /// The builder gains one entry with this encoding, or the call returns an error and changes nothing. A full builder, with 2^32 - 1 entries, returns `TooLong`.
     ///
     /// ```text
-    /// ensures { AddsTo S.model (subsection_encoding 7 (list_encoding names.now))
-    ///     (HasEncodableSize (list_encoding names.now) × ⊤) self.old self.new result }
+    /// ensures { AddsTo S.model
+    ///     (subsection_encoding 7 (list_encoding (T.model.joins names.now)))
+    ///     (HasEncodableSize (list_encoding (T.model.joins names.now)) × ⊤) self.old self.new
+    ///     result }
     /// ```
     ///
     /// Definitions: [`AddsTo`](crate::definitions::base::calls::AddsTo), [`subsection_encoding`](crate::definitions::custom::customs::subsection_encoding), [`list_encoding`](crate::definitions::custom::lists::list_encoding), [`HasEncodableSize`](crate::definitions::base::encodings::HasEncodableSize). [How to read clauses](crate::definitions).
-    pub fn globals<B: Allocator>(&mut self, names: &NameMap<B>) -> Result<()> {
+    pub fn globals<T: Store>(&mut self, names: &CountedList<NameMembers, T>) -> Result<()> {
         self.map(7, names)
     }
 
@@ -445,12 +456,14 @@ impl<S: Store> CustomEntries<NameItems, S> {
     /// The builder gains one entry with this encoding, or the call returns an error and changes nothing. A full builder, with 2^32 - 1 entries, returns `TooLong`.
     ///
     /// ```text
-    /// ensures { AddsTo S.model (subsection_encoding 8 (list_encoding names.now))
-    ///     (HasEncodableSize (list_encoding names.now) × ⊤) self.old self.new result }
+    /// ensures { AddsTo S.model
+    ///     (subsection_encoding 8 (list_encoding (T.model.joins names.now)))
+    ///     (HasEncodableSize (list_encoding (T.model.joins names.now)) × ⊤) self.old self.new
+    ///     result }
     /// ```
     ///
     /// Definitions: [`AddsTo`](crate::definitions::base::calls::AddsTo), [`subsection_encoding`](crate::definitions::custom::customs::subsection_encoding), [`list_encoding`](crate::definitions::custom::lists::list_encoding), [`HasEncodableSize`](crate::definitions::base::encodings::HasEncodableSize). [How to read clauses](crate::definitions).
-    pub fn elements<B: Allocator>(&mut self, names: &NameMap<B>) -> Result<()> {
+    pub fn elements<T: Store>(&mut self, names: &CountedList<NameMembers, T>) -> Result<()> {
         self.map(8, names)
     }
 
@@ -468,12 +481,14 @@ impl<S: Store> CustomEntries<NameItems, S> {
     /// The builder gains one entry with this encoding, or the call returns an error and changes nothing. A full builder, with 2^32 - 1 entries, returns `TooLong`.
     ///
     /// ```text
-    /// ensures { AddsTo S.model (subsection_encoding 9 (list_encoding names.now))
-    ///     (HasEncodableSize (list_encoding names.now) × ⊤) self.old self.new result }
+    /// ensures { AddsTo S.model
+    ///     (subsection_encoding 9 (list_encoding (T.model.joins names.now)))
+    ///     (HasEncodableSize (list_encoding (T.model.joins names.now)) × ⊤) self.old self.new
+    ///     result }
     /// ```
     ///
     /// Definitions: [`AddsTo`](crate::definitions::base::calls::AddsTo), [`subsection_encoding`](crate::definitions::custom::customs::subsection_encoding), [`list_encoding`](crate::definitions::custom::lists::list_encoding), [`HasEncodableSize`](crate::definitions::base::encodings::HasEncodableSize). [How to read clauses](crate::definitions).
-    pub fn data<B: Allocator>(&mut self, names: &NameMap<B>) -> Result<()> {
+    pub fn data<T: Store>(&mut self, names: &CountedList<NameMembers, T>) -> Result<()> {
         self.map(9, names)
     }
 
@@ -491,12 +506,14 @@ impl<S: Store> CustomEntries<NameItems, S> {
     /// The builder gains one entry with this encoding, or the call returns an error and changes nothing. A full builder, with 2^32 - 1 entries, returns `TooLong`.
     ///
     /// ```text
-    /// ensures { AddsTo S.model (subsection_encoding 11 (list_encoding names.now))
-    ///     (HasEncodableSize (list_encoding names.now) × ⊤) self.old self.new result }
+    /// ensures { AddsTo S.model
+    ///     (subsection_encoding 11 (list_encoding (T.model.joins names.now)))
+    ///     (HasEncodableSize (list_encoding (T.model.joins names.now)) × ⊤) self.old self.new
+    ///     result }
     /// ```
     ///
     /// Definitions: [`AddsTo`](crate::definitions::base::calls::AddsTo), [`subsection_encoding`](crate::definitions::custom::customs::subsection_encoding), [`list_encoding`](crate::definitions::custom::lists::list_encoding), [`HasEncodableSize`](crate::definitions::base::encodings::HasEncodableSize). [How to read clauses](crate::definitions).
-    pub fn tag<B: Allocator>(&mut self, names: &NameMap<B>) -> Result<()> {
+    pub fn tag<T: Store>(&mut self, names: &CountedList<NameMembers, T>) -> Result<()> {
         self.tags(names)
     }
 
@@ -514,12 +531,14 @@ impl<S: Store> CustomEntries<NameItems, S> {
     /// The builder gains one entry with this encoding, or the call returns an error and changes nothing. A full builder, with 2^32 - 1 entries, returns `TooLong`.
     ///
     /// ```text
-    /// ensures { AddsTo S.model (subsection_encoding 11 (list_encoding names.now))
-    ///     (HasEncodableSize (list_encoding names.now) × ⊤) self.old self.new result }
+    /// ensures { AddsTo S.model
+    ///     (subsection_encoding 11 (list_encoding (T.model.joins names.now)))
+    ///     (HasEncodableSize (list_encoding (T.model.joins names.now)) × ⊤) self.old self.new
+    ///     result }
     /// ```
     ///
     /// Definitions: [`AddsTo`](crate::definitions::base::calls::AddsTo), [`subsection_encoding`](crate::definitions::custom::customs::subsection_encoding), [`list_encoding`](crate::definitions::custom::lists::list_encoding), [`HasEncodableSize`](crate::definitions::base::encodings::HasEncodableSize). [How to read clauses](crate::definitions).
-    pub fn tags<B: Allocator>(&mut self, names: &NameMap<B>) -> Result<()> {
+    pub fn tags<T: Store>(&mut self, names: &CountedList<NameMembers, T>) -> Result<()> {
         self.map(11, names)
     }
 
@@ -537,12 +556,14 @@ impl<S: Store> CustomEntries<NameItems, S> {
     /// The builder gains one entry with this encoding, or the call returns an error and changes nothing. A full builder, with 2^32 - 1 entries, returns `TooLong`.
     ///
     /// ```text
-    /// ensures { AddsTo S.model (subsection_encoding 2 (list_encoding names.now))
-    ///     (HasEncodableSize (list_encoding names.now) × ⊤) self.old self.new result }
+    /// ensures { AddsTo S.model
+    ///     (subsection_encoding 2 (list_encoding (T.model.joins names.now)))
+    ///     (HasEncodableSize (list_encoding (T.model.joins names.now)) × ⊤) self.old self.new
+    ///     result }
     /// ```
     ///
     /// Definitions: [`AddsTo`](crate::definitions::base::calls::AddsTo), [`subsection_encoding`](crate::definitions::custom::customs::subsection_encoding), [`list_encoding`](crate::definitions::custom::lists::list_encoding), [`HasEncodableSize`](crate::definitions::base::encodings::HasEncodableSize). [How to read clauses](crate::definitions).
-    pub fn locals<B: Allocator>(&mut self, names: &IndirectNameMap<B>) -> Result<()> {
+    pub fn locals<T: Store>(&mut self, names: &CountedList<IndirectMembers, T>) -> Result<()> {
         self.indirect_map(2, names)
     }
 
@@ -560,12 +581,14 @@ impl<S: Store> CustomEntries<NameItems, S> {
     /// The builder gains one entry with this encoding, or the call returns an error and changes nothing. A full builder, with 2^32 - 1 entries, returns `TooLong`.
     ///
     /// ```text
-    /// ensures { AddsTo S.model (subsection_encoding 3 (list_encoding names.now))
-    ///     (HasEncodableSize (list_encoding names.now) × ⊤) self.old self.new result }
+    /// ensures { AddsTo S.model
+    ///     (subsection_encoding 3 (list_encoding (T.model.joins names.now)))
+    ///     (HasEncodableSize (list_encoding (T.model.joins names.now)) × ⊤) self.old self.new
+    ///     result }
     /// ```
     ///
     /// Definitions: [`AddsTo`](crate::definitions::base::calls::AddsTo), [`subsection_encoding`](crate::definitions::custom::customs::subsection_encoding), [`list_encoding`](crate::definitions::custom::lists::list_encoding), [`HasEncodableSize`](crate::definitions::base::encodings::HasEncodableSize). [How to read clauses](crate::definitions).
-    pub fn labels<B: Allocator>(&mut self, names: &IndirectNameMap<B>) -> Result<()> {
+    pub fn labels<T: Store>(&mut self, names: &CountedList<IndirectMembers, T>) -> Result<()> {
         self.indirect_map(3, names)
     }
 
@@ -583,12 +606,14 @@ impl<S: Store> CustomEntries<NameItems, S> {
     /// The builder gains one entry with this encoding, or the call returns an error and changes nothing. A full builder, with 2^32 - 1 entries, returns `TooLong`.
     ///
     /// ```text
-    /// ensures { AddsTo S.model (subsection_encoding 10 (list_encoding names.now))
-    ///     (HasEncodableSize (list_encoding names.now) × ⊤) self.old self.new result }
+    /// ensures { AddsTo S.model
+    ///     (subsection_encoding 10 (list_encoding (T.model.joins names.now)))
+    ///     (HasEncodableSize (list_encoding (T.model.joins names.now)) × ⊤) self.old self.new
+    ///     result }
     /// ```
     ///
     /// Definitions: [`AddsTo`](crate::definitions::base::calls::AddsTo), [`subsection_encoding`](crate::definitions::custom::customs::subsection_encoding), [`list_encoding`](crate::definitions::custom::lists::list_encoding), [`HasEncodableSize`](crate::definitions::base::encodings::HasEncodableSize). [How to read clauses](crate::definitions).
-    pub fn fields<B: Allocator>(&mut self, names: &IndirectNameMap<B>) -> Result<()> {
+    pub fn fields<T: Store>(&mut self, names: &CountedList<IndirectMembers, T>) -> Result<()> {
         self.indirect_map(10, names)
     }
 
@@ -606,12 +631,14 @@ impl<S: Store> CustomEntries<NameItems, S> {
     /// The builder gains one entry with this encoding, or the call returns an error and changes nothing. A full builder, with 2^32 - 1 entries, returns `TooLong`.
     ///
     /// ```text
-    /// ensures { AddsTo S.model (subsection_encoding 12 (list_encoding names.now))
-    ///     (HasEncodableSize (list_encoding names.now) × ⊤) self.old self.new result }
+    /// ensures { AddsTo S.model
+    ///     (subsection_encoding 12 (list_encoding (T.model.joins names.now)))
+    ///     (HasEncodableSize (list_encoding (T.model.joins names.now)) × ⊤) self.old self.new
+    ///     result }
     /// ```
     ///
     /// Definitions: [`AddsTo`](crate::definitions::base::calls::AddsTo), [`subsection_encoding`](crate::definitions::custom::customs::subsection_encoding), [`list_encoding`](crate::definitions::custom::lists::list_encoding), [`HasEncodableSize`](crate::definitions::base::encodings::HasEncodableSize). [How to read clauses](crate::definitions).
-    pub fn parameters<B: Allocator>(&mut self, names: &IndirectNameMap<B>) -> Result<()> {
+    pub fn parameters<T: Store>(&mut self, names: &CountedList<IndirectMembers, T>) -> Result<()> {
         self.indirect_map(12, names)
     }
 
@@ -629,12 +656,14 @@ impl<S: Store> CustomEntries<NameItems, S> {
     /// The builder gains one entry with this encoding, or the call returns an error and changes nothing. A full builder, with 2^32 - 1 entries, returns `TooLong`.
     ///
     /// ```text
-    /// ensures { AddsTo S.model (subsection_encoding 13 (list_encoding names.now))
-    ///     (HasEncodableSize (list_encoding names.now) × ⊤) self.old self.new result }
+    /// ensures { AddsTo S.model
+    ///     (subsection_encoding 13 (list_encoding (T.model.joins names.now)))
+    ///     (HasEncodableSize (list_encoding (T.model.joins names.now)) × ⊤) self.old self.new
+    ///     result }
     /// ```
     ///
     /// Definitions: [`AddsTo`](crate::definitions::base::calls::AddsTo), [`subsection_encoding`](crate::definitions::custom::customs::subsection_encoding), [`list_encoding`](crate::definitions::custom::lists::list_encoding), [`HasEncodableSize`](crate::definitions::base::encodings::HasEncodableSize). [How to read clauses](crate::definitions).
-    pub fn tag_parameters<B: Allocator>(&mut self, names: &IndirectNameMap<B>) -> Result<()> {
+    pub fn tag_parameters<T: Store>(&mut self, names: &CountedList<IndirectMembers, T>) -> Result<()> {
         self.indirect_map(13, names)
     }
 

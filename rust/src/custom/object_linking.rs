@@ -1,13 +1,14 @@
 // Written by tools/to-rust from crates/wasm_custom/src/object_linking.rt: change that.
 // The linking section of an object file, which has subsections of all kinds: its builder.
 
-use crate::custom::comdats::Comdats;
+use crate::custom::comdats::ComdatMembers;
 use crate::custom::entries::{CustomEntries, CustomKind};
-use crate::custom::init_functions::InitFunctions;
-use crate::custom::object_symbols::ObjectSymbols;
-use crate::custom::segments::SegmentInfos;
+use crate::custom::lists::CountedList;
+use crate::custom::init_functions::InitMembers;
+use crate::custom::object_symbols::ObjectSymbolMembers;
+use crate::custom::segments::SegmentMembers;
 use crate::custom::subsections::Subsection;
-use crate::alloc::{Allocator, Global};
+use crate::alloc::Global;
 use crate::base::{Kind, Pieces, Result, Store};
 
 /// The linking section of an object file, in version 2 of the format: symbols of all kinds,
@@ -106,12 +107,14 @@ impl<S: Store> CustomEntries<ObjectLinkingItems, S> {
     /// The builder gains one entry with this encoding, or the call returns an error and changes nothing. A full builder, with 2^32 - 1 entries, returns `TooLong`.
     ///
     /// ```text
-    /// ensures { AddsTo S.model (subsection_encoding 5 (list_encoding segments.now))
-    ///     (HasEncodableSize (list_encoding segments.now) × ⊤) self.old self.new result }
+    /// ensures { AddsTo S.model
+    ///     (subsection_encoding 5 (list_encoding (T.model.joins segments.now)))
+    ///     (HasEncodableSize (list_encoding (T.model.joins segments.now)) × ⊤) self.old
+    ///     self.new result }
     /// ```
     ///
     /// Definitions: [`AddsTo`](crate::definitions::base::calls::AddsTo), [`subsection_encoding`](crate::definitions::custom::customs::subsection_encoding), [`list_encoding`](crate::definitions::custom::lists::list_encoding), [`HasEncodableSize`](crate::definitions::base::encodings::HasEncodableSize). [How to read clauses](crate::definitions).
-    pub fn segments<B: Allocator>(&mut self, segments: &SegmentInfos<B>) -> Result<()> {
+    pub fn segments<T: Store>(&mut self, segments: &CountedList<SegmentMembers, T>) -> Result<()> {
         self.add_record(segments)
     }
 
@@ -129,12 +132,14 @@ impl<S: Store> CustomEntries<ObjectLinkingItems, S> {
     /// The builder gains one entry with this encoding, or the call returns an error and changes nothing. A full builder, with 2^32 - 1 entries, returns `TooLong`.
     ///
     /// ```text
-    /// ensures { AddsTo S.model (subsection_encoding 6 (list_encoding functions.now))
-    ///     (HasEncodableSize (list_encoding functions.now) × ⊤) self.old self.new result }
+    /// ensures { AddsTo S.model
+    ///     (subsection_encoding 6 (list_encoding (T.model.joins functions.now)))
+    ///     (HasEncodableSize (list_encoding (T.model.joins functions.now)) × ⊤) self.old
+    ///     self.new result }
     /// ```
     ///
     /// Definitions: [`AddsTo`](crate::definitions::base::calls::AddsTo), [`subsection_encoding`](crate::definitions::custom::customs::subsection_encoding), [`list_encoding`](crate::definitions::custom::lists::list_encoding), [`HasEncodableSize`](crate::definitions::base::encodings::HasEncodableSize). [How to read clauses](crate::definitions).
-    pub fn init_functions<B: Allocator>(&mut self, functions: &InitFunctions<B>) -> Result<()> {
+    pub fn init_functions<T: Store>(&mut self, functions: &CountedList<InitMembers, T>) -> Result<()> {
         self.add_record(functions)
     }
 
@@ -152,12 +157,14 @@ impl<S: Store> CustomEntries<ObjectLinkingItems, S> {
     /// The builder gains one entry with this encoding, or the call returns an error and changes nothing. A full builder, with 2^32 - 1 entries, returns `TooLong`.
     ///
     /// ```text
-    /// ensures { AddsTo S.model (subsection_encoding 7 (list_encoding comdats.now))
-    ///     (HasEncodableSize (list_encoding comdats.now) × ⊤) self.old self.new result }
+    /// ensures { AddsTo S.model
+    ///     (subsection_encoding 7 (list_encoding (T.model.joins comdats.now)))
+    ///     (HasEncodableSize (list_encoding (T.model.joins comdats.now)) × ⊤) self.old self.new
+    ///     result }
     /// ```
     ///
     /// Definitions: [`AddsTo`](crate::definitions::base::calls::AddsTo), [`subsection_encoding`](crate::definitions::custom::customs::subsection_encoding), [`list_encoding`](crate::definitions::custom::lists::list_encoding), [`HasEncodableSize`](crate::definitions::base::encodings::HasEncodableSize). [How to read clauses](crate::definitions).
-    pub fn comdats<B: Allocator>(&mut self, comdats: &Comdats<B>) -> Result<()> {
+    pub fn comdats<T: Store>(&mut self, comdats: &CountedList<ComdatMembers, T>) -> Result<()> {
         self.add_record(comdats)
     }
 
@@ -175,12 +182,14 @@ impl<S: Store> CustomEntries<ObjectLinkingItems, S> {
     /// The builder gains one entry with this encoding, or the call returns an error and changes nothing. A full builder, with 2^32 - 1 entries, returns `TooLong`.
     ///
     /// ```text
-    /// ensures { AddsTo S.model (subsection_encoding 8 (list_encoding symbols.now))
-    ///     (HasEncodableSize (list_encoding symbols.now) × ⊤) self.old self.new result }
+    /// ensures { AddsTo S.model
+    ///     (subsection_encoding 8 (list_encoding (T.model.joins symbols.now)))
+    ///     (HasEncodableSize (list_encoding (T.model.joins symbols.now)) × ⊤) self.old self.new
+    ///     result }
     /// ```
     ///
     /// Definitions: [`AddsTo`](crate::definitions::base::calls::AddsTo), [`subsection_encoding`](crate::definitions::custom::customs::subsection_encoding), [`list_encoding`](crate::definitions::custom::lists::list_encoding), [`HasEncodableSize`](crate::definitions::base::encodings::HasEncodableSize). [How to read clauses](crate::definitions).
-    pub fn symbol_table<B: Allocator>(&mut self, symbols: &ObjectSymbols<B>) -> Result<()> {
+    pub fn symbol_table<T: Store>(&mut self, symbols: &CountedList<ObjectSymbolMembers, T>) -> Result<()> {
         self.add_record(symbols)
     }
 

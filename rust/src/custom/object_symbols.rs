@@ -3,8 +3,8 @@
 
 use crate::custom::lists::{CountedList, ListKind};
 use crate::custom::symbols::{DataSymbolDefinition, SymbolKind, given_definition, given_name};
-use crate::alloc::{Allocator, Global};
-use crate::base::{Optional, Result};
+use crate::alloc::Global;
+use crate::base::{Optional, Pieces, Result, Store};
 
 /// The symbol table of an object file: symbols of all kinds of the tool conventions, in the order
 /// in which they are added. It is encoded as subsection 8 of a linking section. `SymbolTable` names
@@ -22,7 +22,7 @@ use crate::base::{Optional, Result};
 /// # }
 /// # example().unwrap();
 /// ```
-pub type ObjectSymbols<A = Global> = CountedList<ObjectSymbolMembers, A>;
+pub type ObjectSymbols<A = Global> = CountedList<ObjectSymbolMembers, Pieces<A>>;
 
 /// The kind of the members of an object file's symbol table.
 ///
@@ -53,7 +53,7 @@ impl ListKind for ObjectSymbolMembers {
     }
 }
 
-impl<A: Allocator> ObjectSymbols<A> {
+impl<S: Store> CountedList<ObjectSymbolMembers, S> {
     /// Adds a symbol with an index.
     fn indexed(
         &mut self,
@@ -78,15 +78,16 @@ impl<A: Allocator> ObjectSymbols<A> {
     ///
     /// # Proved
     ///
-    /// `AddsTo` of a builder whose entries are a list of pieces.
+    /// The builder gains one entry with this encoding, or the call returns an error and changes nothing. A full builder, with 2^32 - 1 entries, returns `TooLong`.
     ///
     /// ```text
-    /// ensures { Adds (indexed_encoding kinds.Function flags index
+    /// ensures { AddsTo S.model
+    ///     (indexed_encoding kinds.Function flags index
     ///         (optional_encoding (λ n. size_prefixed_encoding n.now) name.entry))
     ///     (IfSome name.entry (λ n. HasEncodableSize n.now)) self.old self.new result }
     /// ```
     ///
-    /// Definitions: [`Adds`](crate::definitions::base::calls::Adds), [`indexed_encoding`](crate::definitions::custom::symbols::indexed_encoding), [`optional_encoding`](crate::definitions::base::encodings::optional_encoding), [`size_prefixed_encoding`](crate::definitions::base::encodings::size_prefixed_encoding), [`HasEncodableSize`](crate::definitions::base::encodings::HasEncodableSize). [How to read clauses](crate::definitions).
+    /// Definitions: [`AddsTo`](crate::definitions::base::calls::AddsTo), [`indexed_encoding`](crate::definitions::custom::symbols::indexed_encoding), [`optional_encoding`](crate::definitions::base::encodings::optional_encoding), [`size_prefixed_encoding`](crate::definitions::base::encodings::size_prefixed_encoding), [`HasEncodableSize`](crate::definitions::base::encodings::HasEncodableSize). [How to read clauses](crate::definitions).
     pub fn function(&mut self, flags: u32, index: u32, name: Option<&str>) -> Result<()> {
         self.indexed(SymbolKind::Function, flags, index, name)
     }
@@ -102,15 +103,16 @@ impl<A: Allocator> ObjectSymbols<A> {
     ///
     /// # Proved
     ///
-    /// `AddsTo` of a builder whose entries are a list of pieces.
+    /// The builder gains one entry with this encoding, or the call returns an error and changes nothing. A full builder, with 2^32 - 1 entries, returns `TooLong`.
     ///
     /// ```text
-    /// ensures { Adds (indexed_encoding kinds.Global flags index
+    /// ensures { AddsTo S.model
+    ///     (indexed_encoding kinds.Global flags index
     ///         (optional_encoding (λ n. size_prefixed_encoding n.now) name.entry))
     ///     (IfSome name.entry (λ n. HasEncodableSize n.now)) self.old self.new result }
     /// ```
     ///
-    /// Definitions: [`Adds`](crate::definitions::base::calls::Adds), [`indexed_encoding`](crate::definitions::custom::symbols::indexed_encoding), [`optional_encoding`](crate::definitions::base::encodings::optional_encoding), [`size_prefixed_encoding`](crate::definitions::base::encodings::size_prefixed_encoding), [`HasEncodableSize`](crate::definitions::base::encodings::HasEncodableSize). [How to read clauses](crate::definitions).
+    /// Definitions: [`AddsTo`](crate::definitions::base::calls::AddsTo), [`indexed_encoding`](crate::definitions::custom::symbols::indexed_encoding), [`optional_encoding`](crate::definitions::base::encodings::optional_encoding), [`size_prefixed_encoding`](crate::definitions::base::encodings::size_prefixed_encoding), [`HasEncodableSize`](crate::definitions::base::encodings::HasEncodableSize). [How to read clauses](crate::definitions).
     pub fn global(&mut self, flags: u32, index: u32, name: Option<&str>) -> Result<()> {
         self.indexed(SymbolKind::Global, flags, index, name)
     }
@@ -126,15 +128,16 @@ impl<A: Allocator> ObjectSymbols<A> {
     ///
     /// # Proved
     ///
-    /// `AddsTo` of a builder whose entries are a list of pieces.
+    /// The builder gains one entry with this encoding, or the call returns an error and changes nothing. A full builder, with 2^32 - 1 entries, returns `TooLong`.
     ///
     /// ```text
-    /// ensures { Adds (indexed_encoding kinds.Tag flags index
+    /// ensures { AddsTo S.model
+    ///     (indexed_encoding kinds.Tag flags index
     ///         (optional_encoding (λ n. size_prefixed_encoding n.now) name.entry))
     ///     (IfSome name.entry (λ n. HasEncodableSize n.now)) self.old self.new result }
     /// ```
     ///
-    /// Definitions: [`Adds`](crate::definitions::base::calls::Adds), [`indexed_encoding`](crate::definitions::custom::symbols::indexed_encoding), [`optional_encoding`](crate::definitions::base::encodings::optional_encoding), [`size_prefixed_encoding`](crate::definitions::base::encodings::size_prefixed_encoding), [`HasEncodableSize`](crate::definitions::base::encodings::HasEncodableSize). [How to read clauses](crate::definitions).
+    /// Definitions: [`AddsTo`](crate::definitions::base::calls::AddsTo), [`indexed_encoding`](crate::definitions::custom::symbols::indexed_encoding), [`optional_encoding`](crate::definitions::base::encodings::optional_encoding), [`size_prefixed_encoding`](crate::definitions::base::encodings::size_prefixed_encoding), [`HasEncodableSize`](crate::definitions::base::encodings::HasEncodableSize). [How to read clauses](crate::definitions).
     pub fn tag(&mut self, flags: u32, index: u32, name: Option<&str>) -> Result<()> {
         self.indexed(SymbolKind::Tag, flags, index, name)
     }
@@ -150,15 +153,16 @@ impl<A: Allocator> ObjectSymbols<A> {
     ///
     /// # Proved
     ///
-    /// `AddsTo` of a builder whose entries are a list of pieces.
+    /// The builder gains one entry with this encoding, or the call returns an error and changes nothing. A full builder, with 2^32 - 1 entries, returns `TooLong`.
     ///
     /// ```text
-    /// ensures { Adds (indexed_encoding kinds.Table flags index
+    /// ensures { AddsTo S.model
+    ///     (indexed_encoding kinds.Table flags index
     ///         (optional_encoding (λ n. size_prefixed_encoding n.now) name.entry))
     ///     (IfSome name.entry (λ n. HasEncodableSize n.now)) self.old self.new result }
     /// ```
     ///
-    /// Definitions: [`Adds`](crate::definitions::base::calls::Adds), [`indexed_encoding`](crate::definitions::custom::symbols::indexed_encoding), [`optional_encoding`](crate::definitions::base::encodings::optional_encoding), [`size_prefixed_encoding`](crate::definitions::base::encodings::size_prefixed_encoding), [`HasEncodableSize`](crate::definitions::base::encodings::HasEncodableSize). [How to read clauses](crate::definitions).
+    /// Definitions: [`AddsTo`](crate::definitions::base::calls::AddsTo), [`indexed_encoding`](crate::definitions::custom::symbols::indexed_encoding), [`optional_encoding`](crate::definitions::base::encodings::optional_encoding), [`size_prefixed_encoding`](crate::definitions::base::encodings::size_prefixed_encoding), [`HasEncodableSize`](crate::definitions::base::encodings::HasEncodableSize). [How to read clauses](crate::definitions).
     pub fn table(&mut self, flags: u32, index: u32, name: Option<&str>) -> Result<()> {
         self.indexed(SymbolKind::Table, flags, index, name)
     }
@@ -175,15 +179,15 @@ impl<A: Allocator> ObjectSymbols<A> {
     ///
     /// # Proved
     ///
-    /// `AddsTo` of a builder whose entries are a list of pieces.
+    /// The builder gains one entry with this encoding, or the call returns an error and changes nothing. A full builder, with 2^32 - 1 entries, returns `TooLong`.
     ///
     /// ```text
-    /// ensures { Adds (of_data_encoding flags name.now
-    ///         (optional_encoding definition_encoding definition))
+    /// ensures { AddsTo S.model
+    ///     (of_data_encoding flags name.now (optional_encoding definition_encoding definition))
     ///     (HasEncodableSize name.now) self.old self.new result }
     /// ```
     ///
-    /// Definitions: [`Adds`](crate::definitions::base::calls::Adds), [`of_data_encoding`](crate::definitions::custom::symbols::of_data_encoding), [`optional_encoding`](crate::definitions::base::encodings::optional_encoding), [`definition_encoding`](crate::definitions::custom::symbols::definition_encoding), [`HasEncodableSize`](crate::definitions::base::encodings::HasEncodableSize). [How to read clauses](crate::definitions).
+    /// Definitions: [`AddsTo`](crate::definitions::base::calls::AddsTo), [`of_data_encoding`](crate::definitions::custom::symbols::of_data_encoding), [`optional_encoding`](crate::definitions::base::encodings::optional_encoding), [`definition_encoding`](crate::definitions::custom::symbols::definition_encoding), [`HasEncodableSize`](crate::definitions::base::encodings::HasEncodableSize). [How to read clauses](crate::definitions).
     pub fn data(
         &mut self,
         flags: u32,
@@ -204,13 +208,14 @@ impl<A: Allocator> ObjectSymbols<A> {
     ///
     /// # Proved
     ///
-    /// `AddsTo` of a builder whose entries are a list of pieces.
+    /// The builder gains one entry with this encoding, or the call returns an error and changes nothing. A full builder, with 2^32 - 1 entries, returns `TooLong`.
     ///
     /// ```text
-    /// ensures { Adds (of_section_encoding flags section) ⊤ self.old self.new result }
+    /// ensures { AddsTo S.model
+    ///     (of_section_encoding flags section) ⊤ self.old self.new result }
     /// ```
     ///
-    /// Definitions: [`Adds`](crate::definitions::base::calls::Adds), [`of_section_encoding`](crate::definitions::custom::symbols::of_section_encoding). [How to read clauses](crate::definitions).
+    /// Definitions: [`AddsTo`](crate::definitions::base::calls::AddsTo), [`of_section_encoding`](crate::definitions::custom::symbols::of_section_encoding). [How to read clauses](crate::definitions).
     pub fn section(&mut self, flags: u32, section: u32) -> Result<()> {
         self.add_record(&(0x03u8, flags, section))
     }

@@ -25,7 +25,7 @@ use crate::base::{DecodeError, Grammar, Kind, Lent, Pieces, Readable, Result, Sh
 /// assert_eq!(bytes, *b"\x01\x01C\x0299");
 /// # Ok::<(), dolzhytik::fallible::Refused>(())
 /// ```
-pub type ProducersField<A = Global> = CountedList<ValueMembers, A>;
+pub type ProducersField<A = Global> = CountedList<ValueMembers, Pieces<A>>;
 
 /// The kind of a field's members: a name, and its version.
 ///
@@ -56,7 +56,7 @@ impl ListKind for ValueMembers {
     }
 }
 
-impl<A: Allocator> ProducersField<A> {
+impl<S: Store> CountedList<ValueMembers, S> {
     /// Adds a value.
     ///
     /// # Errors
@@ -68,15 +68,16 @@ impl<A: Allocator> ProducersField<A> {
     ///
     /// # Proved
     ///
-    /// `AddsTo` of a builder whose entries are a list of pieces.
+    /// The builder gains one entry with this encoding, or the call returns an error and changes nothing. A full builder, with 2^32 - 1 entries, returns `TooLong`.
     ///
     /// ```text
-    /// ensures { Adds (size_prefixed_encoding name.now ++ size_prefixed_encoding version.now)
+    /// ensures { AddsTo S.model
+    ///     (size_prefixed_encoding name.now ++ size_prefixed_encoding version.now)
     ///     (HasEncodableSize name.now × HasEncodableSize version.now) self.old self.new result
     ///     }
     /// ```
     ///
-    /// Definitions: [`Adds`](crate::definitions::base::calls::Adds), [`size_prefixed_encoding`](crate::definitions::base::encodings::size_prefixed_encoding), [`HasEncodableSize`](crate::definitions::base::encodings::HasEncodableSize). [How to read clauses](crate::definitions).
+    /// Definitions: [`AddsTo`](crate::definitions::base::calls::AddsTo), [`size_prefixed_encoding`](crate::definitions::base::encodings::size_prefixed_encoding), [`HasEncodableSize`](crate::definitions::base::encodings::HasEncodableSize). [How to read clauses](crate::definitions).
     pub fn value(&mut self, name: &str, version: &str) -> Result<()> {
         self.add_record(&(name, version))
     }
@@ -168,12 +169,13 @@ impl<S: Store> CustomEntries<ProducerItems, S> {
     /// The builder gains one entry with this encoding, or the call returns an error and changes nothing. A full builder, with 2^32 - 1 entries, returns `TooLong`.
     ///
     /// ```text
-    /// ensures { AddsTo S.model (size_prefixed_encoding name.now ++ list_encoding values.now)
+    /// ensures { AddsTo S.model
+    ///     (size_prefixed_encoding name.now ++ list_encoding (T.model.joins values.now))
     ///     (HasEncodableSize name.now × ⊤) self.old self.new result }
     /// ```
     ///
     /// Definitions: [`AddsTo`](crate::definitions::base::calls::AddsTo), [`size_prefixed_encoding`](crate::definitions::base::encodings::size_prefixed_encoding), [`list_encoding`](crate::definitions::custom::lists::list_encoding), [`HasEncodableSize`](crate::definitions::base::encodings::HasEncodableSize). [How to read clauses](crate::definitions).
-    pub fn field<B: Allocator>(&mut self, name: &str, values: &ProducersField<B>) -> Result<()> {
+    pub fn field<T: Store>(&mut self, name: &str, values: &CountedList<ValueMembers, T>) -> Result<()> {
         self.add_record(&(name, Lent(values)))
     }
 }

@@ -4,7 +4,7 @@
 use crate::vec::Sink;
 use crate::custom::lists::{CountedList, ListKind};
 use crate::alloc::{Allocator, Global};
-use crate::base::{DecodeError, Grammar, Layout, Readable, Result, Shorten};
+use crate::base::{DecodeError, Grammar, Layout, Pieces, Readable, Result, Shorten, Store};
 
 /// The segments of a module, in the order in which they are added, which is that of the data
 /// section. They are encoded as subsection 5 of a linking section.
@@ -20,7 +20,7 @@ use crate::base::{DecodeError, Grammar, Layout, Readable, Result, Shorten};
 /// # }
 /// # example().unwrap();
 /// ```
-pub type SegmentInfos<A = Global> = CountedList<SegmentMembers, A>;
+pub type SegmentInfos<A = Global> = CountedList<SegmentMembers, Pieces<A>>;
 
 /// The kind of the members of a list of segments.
 ///
@@ -51,7 +51,7 @@ impl ListKind for SegmentMembers {
     }
 }
 
-impl<A: Allocator> SegmentInfos<A> {
+impl<S: Store> CountedList<SegmentMembers, S> {
     /// Adds a segment. Its alignment is 2 to the power `alignment`, in bytes.
     ///
     /// # Errors
@@ -63,15 +63,16 @@ impl<A: Allocator> SegmentInfos<A> {
     ///
     /// # Proved
     ///
-    /// `AddsTo` of a builder whose entries are a list of pieces.
+    /// The builder gains one entry with this encoding, or the call returns an error and changes nothing. A full builder, with 2^32 - 1 entries, returns `TooLong`.
     ///
     /// ```text
-    /// ensures { Adds (size_prefixed_encoding name.now
+    /// ensures { AddsTo S.model
+    ///     (size_prefixed_encoding name.now
     ///         ++ (unsigned_encoding alignment ++ unsigned_encoding flags))
     ///     (HasEncodableSize name.now) self.old self.new result }
     /// ```
     ///
-    /// Definitions: [`Adds`](crate::definitions::base::calls::Adds), [`size_prefixed_encoding`](crate::definitions::base::encodings::size_prefixed_encoding), [`unsigned_encoding`](crate::definitions::base::numbers::unsigned_encoding), [`HasEncodableSize`](crate::definitions::base::encodings::HasEncodableSize). [How to read clauses](crate::definitions).
+    /// Definitions: [`AddsTo`](crate::definitions::base::calls::AddsTo), [`size_prefixed_encoding`](crate::definitions::base::encodings::size_prefixed_encoding), [`unsigned_encoding`](crate::definitions::base::numbers::unsigned_encoding), [`HasEncodableSize`](crate::definitions::base::encodings::HasEncodableSize). [How to read clauses](crate::definitions).
     pub fn segment(&mut self, name: &str, alignment: u32, flags: u32) -> Result<()> {
         self.add_record(&(name, alignment, flags))
     }

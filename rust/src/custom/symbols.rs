@@ -6,7 +6,7 @@ use crate::custom::lists::{CountedList, ListKind};
 use crate::custom::standard::require_standard;
 use crate::alloc::{Allocator, Global};
 use crate::base::laws::plain_name;
-use crate::base::{DecodeError, Encode, Grammar, Layout, Optional, ReadFault, Readable, Result, Shorten, read_optional};
+use crate::base::{DecodeError, Encode, Grammar, Layout, Optional, Pieces, ReadFault, Readable, Result, Shorten, Store, read_optional};
 
 /// A symbol table: the symbols of a module, in the order in which they are added. It is encoded as
 /// subsection 8 of a linking section. `ObjectSymbols` has further kinds of symbols.
@@ -22,7 +22,7 @@ use crate::base::{DecodeError, Encode, Grammar, Layout, Optional, ReadFault, Rea
 /// # }
 /// # example().unwrap();
 /// ```
-pub type SymbolTable<A = Global> = CountedList<SymbolMembers, A>;
+pub type SymbolTable<A = Global> = CountedList<SymbolMembers, Pieces<A>>;
 
 /// The kind of a symbol table's members.
 ///
@@ -187,7 +187,7 @@ const _: () = assert!(<SymbolTable>::WASM_SYM_EXPLICIT_NAME == 0x40);
 
 const _: () = assert!(<SymbolTable>::WASM_SYM_NO_STRIP == 0x80);
 
-impl<A: Allocator> SymbolTable<A> {
+impl<S: Store> CountedList<SymbolMembers, S> {
     /// Adds a symbol with an index, of a kind that the builders' grammar has.
     fn indexed(
         &mut self,
@@ -226,15 +226,16 @@ impl<A: Allocator> SymbolTable<A> {
     ///
     /// # Proved
     ///
-    /// `AddsTo` of a builder whose entries are a list of pieces.
+    /// The builder gains one entry with this encoding, or the call returns an error and changes nothing. A full builder, with 2^32 - 1 entries, returns `TooLong`.
     ///
     /// ```text
-    /// ensures { Adds (indexed_encoding kinds.Function flags index
+    /// ensures { AddsTo S.model
+    ///     (indexed_encoding kinds.Function flags index
     ///         (optional_encoding (λ n. size_prefixed_encoding n.now) name.entry))
     ///     (IfSome name.entry (λ n. HasEncodableSize n.now)) self.old self.new result }
     /// ```
     ///
-    /// Definitions: [`Adds`](crate::definitions::base::calls::Adds), [`indexed_encoding`](crate::definitions::custom::symbols::indexed_encoding), [`optional_encoding`](crate::definitions::base::encodings::optional_encoding), [`size_prefixed_encoding`](crate::definitions::base::encodings::size_prefixed_encoding), [`HasEncodableSize`](crate::definitions::base::encodings::HasEncodableSize). [How to read clauses](crate::definitions).
+    /// Definitions: [`AddsTo`](crate::definitions::base::calls::AddsTo), [`indexed_encoding`](crate::definitions::custom::symbols::indexed_encoding), [`optional_encoding`](crate::definitions::base::encodings::optional_encoding), [`size_prefixed_encoding`](crate::definitions::base::encodings::size_prefixed_encoding), [`HasEncodableSize`](crate::definitions::base::encodings::HasEncodableSize). [How to read clauses](crate::definitions).
     pub fn function(&mut self, flags: u32, index: u32, name: Option<&str>) -> Result<()> {
         self.indexed(SymbolKind::Function, flags, index, name)
     }
@@ -250,15 +251,16 @@ impl<A: Allocator> SymbolTable<A> {
     ///
     /// # Proved
     ///
-    /// `AddsTo` of a builder whose entries are a list of pieces.
+    /// The builder gains one entry with this encoding, or the call returns an error and changes nothing. A full builder, with 2^32 - 1 entries, returns `TooLong`.
     ///
     /// ```text
-    /// ensures { Adds (indexed_encoding kinds.Global flags index
+    /// ensures { AddsTo S.model
+    ///     (indexed_encoding kinds.Global flags index
     ///         (optional_encoding (λ n. size_prefixed_encoding n.now) name.entry))
     ///     (IfSome name.entry (λ n. HasEncodableSize n.now)) self.old self.new result }
     /// ```
     ///
-    /// Definitions: [`Adds`](crate::definitions::base::calls::Adds), [`indexed_encoding`](crate::definitions::custom::symbols::indexed_encoding), [`optional_encoding`](crate::definitions::base::encodings::optional_encoding), [`size_prefixed_encoding`](crate::definitions::base::encodings::size_prefixed_encoding), [`HasEncodableSize`](crate::definitions::base::encodings::HasEncodableSize). [How to read clauses](crate::definitions).
+    /// Definitions: [`AddsTo`](crate::definitions::base::calls::AddsTo), [`indexed_encoding`](crate::definitions::custom::symbols::indexed_encoding), [`optional_encoding`](crate::definitions::base::encodings::optional_encoding), [`size_prefixed_encoding`](crate::definitions::base::encodings::size_prefixed_encoding), [`HasEncodableSize`](crate::definitions::base::encodings::HasEncodableSize). [How to read clauses](crate::definitions).
     pub fn global(&mut self, flags: u32, index: u32, name: Option<&str>) -> Result<()> {
         self.indexed(SymbolKind::Global, flags, index, name)
     }
@@ -274,15 +276,16 @@ impl<A: Allocator> SymbolTable<A> {
     ///
     /// # Proved
     ///
-    /// `AddsTo` of a builder whose entries are a list of pieces.
+    /// The builder gains one entry with this encoding, or the call returns an error and changes nothing. A full builder, with 2^32 - 1 entries, returns `TooLong`.
     ///
     /// ```text
-    /// ensures { Adds (indexed_encoding kinds.Table flags index
+    /// ensures { AddsTo S.model
+    ///     (indexed_encoding kinds.Table flags index
     ///         (optional_encoding (λ n. size_prefixed_encoding n.now) name.entry))
     ///     (IfSome name.entry (λ n. HasEncodableSize n.now)) self.old self.new result }
     /// ```
     ///
-    /// Definitions: [`Adds`](crate::definitions::base::calls::Adds), [`indexed_encoding`](crate::definitions::custom::symbols::indexed_encoding), [`optional_encoding`](crate::definitions::base::encodings::optional_encoding), [`size_prefixed_encoding`](crate::definitions::base::encodings::size_prefixed_encoding), [`HasEncodableSize`](crate::definitions::base::encodings::HasEncodableSize). [How to read clauses](crate::definitions).
+    /// Definitions: [`AddsTo`](crate::definitions::base::calls::AddsTo), [`indexed_encoding`](crate::definitions::custom::symbols::indexed_encoding), [`optional_encoding`](crate::definitions::base::encodings::optional_encoding), [`size_prefixed_encoding`](crate::definitions::base::encodings::size_prefixed_encoding), [`HasEncodableSize`](crate::definitions::base::encodings::HasEncodableSize). [How to read clauses](crate::definitions).
     pub fn table(&mut self, flags: u32, index: u32, name: Option<&str>) -> Result<()> {
         self.indexed(SymbolKind::Table, flags, index, name)
     }
@@ -299,15 +302,15 @@ impl<A: Allocator> SymbolTable<A> {
     ///
     /// # Proved
     ///
-    /// `AddsTo` of a builder whose entries are a list of pieces.
+    /// The builder gains one entry with this encoding, or the call returns an error and changes nothing. A full builder, with 2^32 - 1 entries, returns `TooLong`.
     ///
     /// ```text
-    /// ensures { Adds (of_data_encoding flags name.now
-    ///         (optional_encoding definition_encoding definition))
+    /// ensures { AddsTo S.model
+    ///     (of_data_encoding flags name.now (optional_encoding definition_encoding definition))
     ///     (HasEncodableSize name.now) self.old self.new result }
     /// ```
     ///
-    /// Definitions: [`Adds`](crate::definitions::base::calls::Adds), [`of_data_encoding`](crate::definitions::custom::symbols::of_data_encoding), [`optional_encoding`](crate::definitions::base::encodings::optional_encoding), [`definition_encoding`](crate::definitions::custom::symbols::definition_encoding), [`HasEncodableSize`](crate::definitions::base::encodings::HasEncodableSize). [How to read clauses](crate::definitions).
+    /// Definitions: [`AddsTo`](crate::definitions::base::calls::AddsTo), [`of_data_encoding`](crate::definitions::custom::symbols::of_data_encoding), [`optional_encoding`](crate::definitions::base::encodings::optional_encoding), [`definition_encoding`](crate::definitions::custom::symbols::definition_encoding), [`HasEncodableSize`](crate::definitions::base::encodings::HasEncodableSize). [How to read clauses](crate::definitions).
     pub fn data(
         &mut self,
         flags: u32,

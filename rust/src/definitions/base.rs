@@ -2015,6 +2015,15 @@ pub trait stores {
     ///
     /// Definitions: [`Joined`](stores::Joined), [`joined`](pieces::joined).
     type Cut;
+    /// One more piece of this encoding turns the property `P` of as many pieces as `number` into `Q`.
+    ///
+    /// ```text
+    /// abbrev pub Extends : ℕ → List ℕ → (List (List ℕ) → Type 0) → (List (List ℕ) → Type 0)
+    ///     → Type 0
+    /// Extends number encoding P Q = (pieces : List (List ℕ)) → length pieces ≡ number
+    ///     → P pieces → Q (pieces ++ encoding ∷ [])
+    /// ```
+    type Extends;
     /// How a state holds entries: their number and bytes, whether `new` has the entries of `old` and then one of this encoding, and whether the entries have a property of pieces.
     ///
     /// ```text

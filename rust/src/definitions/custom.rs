@@ -502,15 +502,25 @@ pub trait core_stacks {
     ///
     /// Definitions: [`Format`](super::base::formats::Format), [`StackFrame`](core_stacks::StackFrame), [`named_section`](customs::named_section), [`stack_name`](core_stacks::stack_name), [`pair`](super::base::formats::pair), [`marked_name`](core_dumps::marked_name), [`vec`](super::base::formats::vec), [`stack_frame`](core_stacks::stack_frame).
     type stack_section;
-    /// The front is the byte 00 and this name of the thread, which is UTF-8, and the pieces encode these frames.
+    /// The front is the byte 00 and this name of the thread, which is UTF-8, and the entries of the store encode these frames.
+    ///
+    /// ```text
+    /// abbrev pub SaysStackIn : {M : Type 0} → StoreModel M → List ℕ → M
+    ///     → List ℕ × List StackFrame → Type 0
+    /// SaysStackIn model front frames said = IsUtf8 said.0 × (front ≡ marked_encoding said.0)
+    ///     × model.holds (λ pieces. ContainsItems frame_items pieces said.1) frames
+    /// ```
+    ///
+    /// Definitions: [`StoreModel`](super::base::stores::StoreModel), [`StackFrame`](core_stacks::StackFrame), [`marked_encoding`](core_dumps::marked_encoding), [`ContainsItems`](super::base::entries::ContainsItems), [`frame_items`](core_stacks::frame_items).
+    type SaysStackIn;
+    /// [`SaysStackIn`](core_stacks::SaysStackIn) of frames that are a list of pieces.
     ///
     /// ```text
     /// abbrev pub SaysStack : List ℕ → List (List ℕ) → List ℕ × List StackFrame → Type 0
-    /// SaysStack front frames said = IsUtf8 said.0 × (front ≡ marked_encoding said.0)
-    ///     × ContainsItems frame_items frames said.1
+    /// SaysStack front frames said = SaysStackIn pieces_model front frames said
     /// ```
     ///
-    /// Definitions: [`StackFrame`](core_stacks::StackFrame), [`marked_encoding`](core_dumps::marked_encoding), [`ContainsItems`](super::base::entries::ContainsItems), [`frame_items`](core_stacks::frame_items).
+    /// Definitions: [`StackFrame`](core_stacks::StackFrame), [`SaysStackIn`](core_stacks::SaysStackIn), [`pieces_model`](super::base::stores::pieces_model).
     type SaysStack;
     /// The payload of the section: the section name, the name of the thread after the byte 00, and a vector of frames.
     ///
@@ -1671,31 +1681,31 @@ pub trait lists {
     /// The encoding of a list's entries as a vector: their count, then the entries.
     ///
     /// ```text
-    /// unfoldable pub list_encoding : List (List ℕ) → List ℕ
-    /// list_encoding pieces = unsigned_encoding (length pieces) ++ joined pieces
+    /// unfoldable pub list_encoding : Joined → List ℕ
+    /// list_encoding j = joined_payload j
     /// ```
     ///
-    /// Definitions: [`unsigned_encoding`](super::base::numbers::unsigned_encoding), [`joined`](super::base::pieces::joined).
+    /// Definitions: [`Joined`](super::base::stores::Joined), [`joined_payload`](super::base::stores::joined_payload).
     type list_encoding;
     /// The encoding of a list: the vector of its entries, by itself or as a subsection of this id.
     ///
     /// ```text
-    /// abbrev pub listed_encoding : Option ℕ → List (List ℕ) → List ℕ
-    /// listed_encoding None pieces = list_encoding pieces
-    /// listed_encoding (Some id) pieces = subsection_encoding id (list_encoding pieces)
+    /// abbrev pub listed_encoding : Option ℕ → Joined → List ℕ
+    /// listed_encoding None j = list_encoding j
+    /// listed_encoding (Some id) j = subsection_encoding id (list_encoding j)
     /// ```
     ///
-    /// Definitions: [`list_encoding`](lists::list_encoding), [`subsection_encoding`](customs::subsection_encoding).
+    /// Definitions: [`Joined`](super::base::stores::Joined), [`list_encoding`](lists::list_encoding), [`subsection_encoding`](customs::subsection_encoding).
     type listed_encoding;
     /// The size of a subsection is at most 2^32 - 1. A list by itself always fits.
     ///
     /// ```text
-    /// abbrev pub IsEncodableList : Option ℕ → List (List ℕ) → Type 0
-    /// IsEncodableList None pieces = ⊤
-    /// IsEncodableList (Some id) pieces = HasEncodableSize (list_encoding pieces) × ⊤
+    /// abbrev pub IsEncodableList : Option ℕ → Joined → Type 0
+    /// IsEncodableList None j = ⊤
+    /// IsEncodableList (Some id) j = HasEncodableSize (list_encoding j) × ⊤
     /// ```
     ///
-    /// Definitions: [`HasEncodableSize`](super::base::encodings::HasEncodableSize), [`list_encoding`](lists::list_encoding).
+    /// Definitions: [`Joined`](super::base::stores::Joined), [`HasEncodableSize`](super::base::encodings::HasEncodableSize), [`list_encoding`](lists::list_encoding).
     type IsEncodableList;
     /// The pieces are the encodings of these members, one each. There are at most 2^32 - 1 members, and each has the property.
     ///
@@ -1734,11 +1744,11 @@ pub trait lists {
     /// ```text
     /// pub record IsVectorOf {X : Type 0} (encoding : X → List ℕ) (Is : X → Type 0)
     ///     : Type 0 where
-    ///   pub is : (pieces : List (List ℕ)) (xs : List X) → IsListOf encoding Is pieces xs
-    ///       → list_encoding pieces ≡ vec_encoding encoding xs
+    ///   pub is : (j : Joined) (xs : List X) → Cut (λ pieces. IsListOf encoding Is pieces xs) j
+    ///       → list_encoding j ≡ vec_encoding encoding xs
     /// ```
     ///
-    /// Definitions: [`IsListOf`](lists::IsListOf), [`list_encoding`](lists::list_encoding), [`vec_encoding`](super::base::encodings::vec_encoding).
+    /// Definitions: [`Joined`](super::base::stores::Joined), [`Cut`](super::base::stores::Cut), [`IsListOf`](lists::IsListOf), [`list_encoding`](lists::list_encoding), [`vec_encoding`](super::base::encodings::vec_encoding).
     type IsVectorOf;
     /// A list without entries holds no members. An entry that is the encoding of a member adds this member, if the list is not full.
     ///

@@ -7,7 +7,7 @@ use super::{
     done, encoded, section, taken,
 };
 use crate::alloc::Global;
-use crate::base::{CowSlice, CowStr};
+use crate::base::{CowSlice, CowStr, Store};
 use crate::custom::{self, joined};
 use crate::ending::Root;
 use alloc_crate::borrow::Cow;
@@ -71,10 +71,9 @@ impl<'a> From<custom::CustomSection<'a>> for CustomSection<'a> {
     }
 }
 
-/// Defines a list or a section over the proved one of its name: a struct of that, whose field of
-/// entries is also named here.
+/// Defines a list or a section over the proved one of its name.
 macro_rules! over_proved {
-    ($($(#[$doc:meta])* $name:ident of $proved:path { $entries:ident })*) => {
+    ($($(#[$doc:meta])* $name:ident of $proved:path)*) => {
         $(
             $(#[$doc])*
             #[doc = concat!("\n\nIt is built by the calls of the proved [`fallible::", stringify!($name), "`](crate::fallible::", stringify!($name), "), which converts to this type.")]
@@ -97,7 +96,7 @@ macro_rules! over_proved {
             impl From<custom::$name> for $name {
                 fn from(built: custom::$name) -> Self {
                     let mut value = $name::new();
-                    value.0.$entries = built.$entries.into();
+                    value.0.entries = built.entries.into();
                     value
                 }
             }
@@ -122,7 +121,7 @@ over_proved! {
     /// // One name: index 5, "f".
     /// assert_eq!(bytes, [1, 5, 1, b'f']);
     /// ```
-    NameMap of custom::NameMap<Root> { pieces }
+    NameMap of joined::NameMap<Root>
     /// An indirect name map: indices of items, each with a [`NameMap`] of items in it, such as the
     /// locals of a function.
     ///
@@ -141,7 +140,7 @@ over_proved! {
     /// // One map: index 0, one name: index 1, "x".
     /// assert_eq!(bytes, [1, 0, 1, 1, 1, b'x']);
     /// ```
-    IndirectNameMap of custom::IndirectNameMap<Root> { pieces }
+    IndirectNameMap of joined::IndirectNameMap<Root>
     /// The custom section `name`: names of the module and of its items, for debuggers and stack
     /// traces.
     ///
@@ -161,7 +160,7 @@ over_proved! {
     /// // Size 15, "name"; subsection 0, size 2, "m"; subsection 1, size 4, one name, 0, "f".
     /// assert_eq!(bytes, *b"\x0F\x04name\0\x02\x01m\x01\x04\x01\0\x01f");
     /// ```
-    NameSection of joined::NameSection<Root> { entries }
+    NameSection of joined::NameSection<Root>
     /// The custom section `linking`, version 2: symbols and other data of an object file, for a
     /// linker.
     ///
@@ -183,7 +182,7 @@ over_proved! {
     /// // flags 0, index 1, "f".
     /// assert_eq!(bytes, *b"\x11\x07linking\x02\x08\x06\x01\0\0\x01\x01f");
     /// ```
-    LinkingSection of joined::LinkingSection<Root> { entries }
+    LinkingSection of joined::LinkingSection<Root>
     /// A symbol table: the functions, globals, tables and data that a linker knows by name.
     ///
     /// [`LinkingSection::symbol_table`] takes it. The flags of a symbol are a sum of the constants
@@ -203,7 +202,7 @@ over_proved! {
     /// // flags 0, "d", segment 1, offset 2, size 3.
     /// assert_eq!(bytes, [8, 11, 2, 0, 0x10, 0, 1, 0, 1, b'd', 1, 2, 3]);
     /// ```
-    SymbolTable of custom::SymbolTable<Root> { pieces }
+    SymbolTable of joined::SymbolTable<Root>
     /// The custom section `producers`: the languages and tools that made the module.
     ///
     /// The tool conventions define it in
@@ -222,7 +221,7 @@ over_proved! {
     /// // Size 31, "producers", one field: "language", one value, "Rust", "1.88".
     /// assert_eq!(bytes, *b"\x1F\x09producers\x01\x08language\x01\x04Rust\x041.88");
     /// ```
-    ProducersSection of joined::ProducersSection<Root> { entries }
+    ProducersSection of joined::ProducersSection<Root>
     /// The values of a field of the producers section: names and versions.
     ///
     /// [`ProducersSection::field`] takes it.
@@ -237,7 +236,7 @@ over_proved! {
     /// // One value: "ld", "1".
     /// assert_eq!(bytes, *b"\x01\x02ld\x011");
     /// ```
-    ProducersField of custom::ProducersField<Root> { pieces }
+    ProducersField of joined::ProducersField<Root>
     /// The custom section `metadata.code.branch_hint`: which branches of functions are likely.
     ///
     /// Add it before the code section. The branch hinting proposal defines it.
@@ -257,7 +256,7 @@ over_proved! {
     /// // Size 32, the name; one function, 7, with one hint: offset 3, one byte, likely.
     /// assert_eq!(bytes, *b"\x20\x19metadata.code.branch_hint\x01\x07\x01\x03\x01\x01");
     /// ```
-    BranchHints of joined::BranchHints<Root> { entries }
+    BranchHints of joined::BranchHints<Root>
     /// The custom section `coremodules` of a core dump: the names of modules.
     ///
     /// The tool conventions define it in
@@ -271,7 +270,7 @@ over_proved! {
     /// // One module: 00, "m".
     /// assert_eq!(modules.as_custom().data, [1, 0, 1, b'm'].as_slice());
     /// ```
-    CoreDumpModulesSection of joined::CoreDumpModulesSection<Root> { entries }
+    CoreDumpModulesSection of joined::CoreDumpModulesSection<Root>
     /// The custom section `coreinstances` of a core dump: instances of its modules.
     ///
     /// The tool conventions define it in
@@ -285,7 +284,7 @@ over_proved! {
     /// // One instance: 00, module 0, one memory, 42, one global, 17.
     /// assert_eq!(instances.as_custom().data, [1, 0, 0, 1, 42, 1, 17].as_slice());
     /// ```
-    CoreDumpInstancesSection of joined::CoreDumpInstancesSection<Root> { entries }
+    CoreDumpInstancesSection of joined::CoreDumpInstancesSection<Root>
 }
 
 copied!(NameMap, IndirectNameMap, NameSection, LinkingSection);
@@ -683,10 +682,9 @@ impl Default for CoreDumpSection {
 ///
 /// Its calls panic where a count or length would pass 4294967295. A failed allocation ends the
 /// program.
-pub struct CoreDumpStackSection(custom::CoreDumpStackSection);
+pub struct CoreDumpStackSection(joined::CoreDumpStackSection<Root>);
 
 copied!(CoreDumpStackSection);
-taken!(CoreDumpStackSection of custom);
 section!(CoreDumpStackSection of Custom);
 
 impl CoreDumpStackSection {
@@ -697,7 +695,7 @@ impl CoreDumpStackSection {
     /// Panics if the length of the name would pass 4294967295.
     pub fn new(name: impl Into<String>) -> Self {
         let name = name.into();
-        CoreDumpStackSection(done(custom::CoreDumpStackSection::new(Global, &name)))
+        CoreDumpStackSection(done(joined::CoreDumpStackSection::new(Root, &name)))
     }
 
     /// Appends a frame: the indices of the instance and the function, the offset in its code, and
@@ -722,13 +720,24 @@ impl CoreDumpStackSection {
         <S as IntoIterator>::IntoIter: ExactSizeIterator,
     {
         let front = (MARK, (instanceidx, funcidx, codeoffset));
-        done(self.0.frames.add_once((front, Later(locals), Later(stack))));
+        done(self.0.frames.add_item_once((front, Later(locals), Later(stack))));
         self
     }
 
     /// Returns the section as a custom section, whose data is owned.
     pub fn as_custom<'a>(&'a self) -> CustomSection<'a> {
         done(self.0.as_custom(Global)).into()
+    }
+}
+
+/// Converts a section built by the calls of
+/// [`fallible::CoreDumpStackSection`](crate::fallible::CoreDumpStackSection).
+impl From<custom::CoreDumpStackSection> for CoreDumpStackSection {
+    fn from(built: custom::CoreDumpStackSection) -> Self {
+        CoreDumpStackSection(joined::CoreDumpStackSection {
+            front: built.front.into_ending(),
+            frames: built.frames.into(),
+        })
     }
 }
 

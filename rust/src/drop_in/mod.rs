@@ -254,16 +254,6 @@ impl From<Pieces> for Entries<Root> {
     }
 }
 
-/// Takes the entries with their ends.
-impl From<Pieces> for Pieces<Root> {
-    fn from(pieces: Pieces) -> Self {
-        Pieces {
-            bytes: pieces.bytes.into_ending(),
-            ends: pieces.ends.into_ending(),
-        }
-    }
-}
-
 /// Converts items for a proved call. None is copied.
 fn handed<T: Clone>(items: Cow<'_, [T]>) -> CowSlice<'_, T> {
     match items {

@@ -181,7 +181,7 @@ pub(crate) fn check_copy<T: Encode>(
 }
 
 /// A list with an allocator that fails requests.
-pub(crate) type LentList<'h, K> = CountedList<K, &'h Refusing<Global>>;
+pub(crate) type LentList<'h, K> = CountedList<K, Pieces<&'h Refusing<Global>>>;
 
 /// A kind of list, and calls that add to it.
 pub(crate) trait ListCalls: ListKind + Sized {

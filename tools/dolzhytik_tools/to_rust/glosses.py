@@ -111,7 +111,7 @@ EXACT = {
     'IfOk result (λ segment. segment.mode ≡ self.now.mode)': 'the result has the same mode',
     'IfOk result (λ segment. D.is_clone self.now.bytes segment.bytes)': 'its bytes are a clone, as the type of the bytes defines it',
     'IfOk result (λ s. s ≡ marked_encoding name.now)': 'the section is that of a process of this name',
-    'IfOk result (λ s. s ≡ (marked_encoding thread_name.now, []))': 'the section has this name of a thread, and no frames',
+    'IfOk result (λ s. s ≡ (marked_encoding thread_name.now, E.none))': 'the section has this name of a thread, and no frames',
     'IfOk result (λ s. s ≡ ((relocations_name section_name.now, unsigned_encoding section), []))': 'the section is that of this section name and index, without relocations',
     'self.new.0 ≡ self.old.0': 'the part before the entries is unchanged',
     'result.cause ≡ self': 'the result has this cause',

@@ -211,14 +211,14 @@ PLACES = [
     Place('wasm_custom/src/object_symbols.rt', 'given_definition(definition);', 'given_definition(definition.clone());'),
     Place('wasm_custom/src/symbols.rt', 'match *self {', 'match self.clone() {', 'Symbol::Function'),
     # The root of the package measures the second list of a frame behind the first.
-    Place('wasm_custom/src/core_stack.rt', 'frames: Pieces<A>', 'pub(crate) frames: Pieces<A>'),
+    Place('wasm_custom/src/core_stack.rt', "front: Vec<u8, E::Alloc>, frames: E,", "pub(crate) front: Vec<u8, E::Alloc>, pub(crate) frames: E,"),
     # Inline, rustc splits no value type into its fields; Rattle's compiler does.
     Place('wasm_base/src/types.rt', '#[inline(never)]', '#[inline(always)]', 'fn encode<'),
     # The root of the package makes empty builders by a constant, prints their bytes, and takes those
     # of other builders.
     Place('wasm_base/src/pieces.rt', 'bytes: Vec<u8, A>, ends: Vec<usize, A>,', 'pub(crate) bytes: Vec<u8, A>, pub(crate) ends: Vec<usize, A>,'),
     Place('wasm_custom/src/entries.rt', 'entries: S, kind: PhantomData<K>,', 'pub(crate) entries: S, pub(crate) kind: PhantomData<K>,'),
-    Place('wasm_custom/src/lists.rt', 'pieces: Pieces<A>, kind: PhantomData<K>,', 'pub(crate) pieces: Pieces<A>, pub(crate) kind: PhantomData<K>,'),
+    Place('wasm_custom/src/lists.rt', 'entries: S, kind: PhantomData<K>,', 'pub(crate) entries: S, pub(crate) kind: PhantomData<K>,'),
     Place('wasm_base/src/store.rt', 'bytes: Vec<u8, A>, count: u32,', 'pub(crate) bytes: Vec<u8, A>, pub(crate) count: u32,'),
     Place('wasm_sections/src/counted_section.rt', 'entries: S, kind: PhantomData<K>,', 'pub(crate) entries: S, pub(crate) kind: PhantomData<K>,'),
     Place('wasm_types/src/type_section.rt', 'entries: S,', 'pub(crate) entries: S,'),
