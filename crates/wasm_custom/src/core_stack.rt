@@ -29,8 +29,7 @@ use wasm_base::{
     Readable, Result, Section, SectionId, Shorten, Store, read_whole, vec_of,
 };
 
-/// The `corestack` section of a thread, modelled as the bytes before its stack frames and the bytes
-/// of each frame. The former are the byte 00 and the name of the thread.
+/// The `corestack` section of a thread: the frames of its stack.
 ///
 /// ```rust
 /// let mut stack = CoreDumpStackSection::new(alloc, "main")?;
@@ -53,7 +52,8 @@ impl Kind for FrameItems {
     fn laws() {}
 }
 
-/// The `corestack` section of a thread, whose frames a store of the type `E` keeps.
+/// The `corestack` section of a thread, modelled as the bytes before its stack frames and the store
+/// of the frames. The former are the byte 00 and the name of the thread.
 ///
 /// # Errors
 ///

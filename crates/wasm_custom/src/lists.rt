@@ -40,7 +40,7 @@ impl<K: ListKind> Property for MembersOf<K> {
     ghost says = { λ pieces _. ContainsList K.member_encoding K.is_member pieces };
 }
 
-/// A list of counted members of the kind `K`, which a store of the type `S` keeps.
+/// A list of counted members of the kind `K`, whose entries a store of the type `S` keeps.
 ///
 /// # Errors
 ///

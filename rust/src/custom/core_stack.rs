@@ -11,7 +11,7 @@ use crate::custom::named::after_name;
 use crate::alloc::{Allocator, Global};
 use crate::base::{CowSlice, CowStr, DecodeError, Encode, Grammar, ItemsOf, Kind, Layout, NewStore, Pieces, Readable, Result, Section, SectionId, Shorten, Store, read_whole, vec_of};
 
-/// The `corestack` section of a thread.
+/// The `corestack` section of a thread: the frames of its stack.
 ///
 /// ```
 /// # fn example() -> Result<(), Box<dyn std::error::Error>> {
@@ -24,11 +24,6 @@ use crate::base::{CowSlice, CowStr, DecodeError, Encode, Grammar, ItemsOf, Kind,
 /// # }
 /// # example().unwrap();
 /// ```
-///
-/// # Model
-///
-/// Contracts model it as the bytes before its stack frames and the bytes of each frame. The
-/// former are the byte 00 and the name of the thread.
 pub type CoreDumpStackSection<A = Global> = CoreDumpStackIn<Pieces<A>>;
 
 /// The kind of a stack's items: frames.
@@ -48,12 +43,35 @@ impl Kind for FrameItems {
     fn laws() {}
 }
 
-/// The `corestack` section of a thread, whose frames a store of the type `E` keeps.
+/// The `corestack` section of a thread.
+///
+/// [`CoreDumpStackSection`](crate::fallible::CoreDumpStackSection) is the one that also keeps
+/// where its frames end.
 ///
 /// # Errors
 ///
 /// An adding call that returns an error leaves the section unchanged. The error is `TooLong` only
 /// if the section is full or an item does not fit, and `Memory` only if an allocation fails.
+///
+/// # Examples
+///
+/// ```
+/// use dolzhytik::fallible::{CoreDumpStackIn, CoreDumpValue, Encode, Entries, Global};
+///
+/// let mut stack = CoreDumpStackIn::<Entries>::new(Global, "t")?;
+/// stack.frame(0, 42, 51, [CoreDumpValue::I32(1)], [])?;
+/// let mut bytes = Vec::new();
+/// stack.encode(&mut bytes)?;
+/// // Size 22, "corestack"; 00, "t"; one frame: 00, instance 0, function 42, offset 51, one local,
+/// // 1 of type i32 (7F), and no values.
+/// assert_eq!(bytes, *b"\x16\x09corestack\0\x01t\x01\0\0\x2A\x33\x01\x7F\x01\0");
+/// # Ok::<(), dolzhytik::fallible::Refused>(())
+/// ```
+///
+/// # Model
+///
+/// Contracts model it as the bytes before its stack frames and the store of the frames. The
+/// former are the byte 00 and the name of the thread.
 #[derive(Debug)]
 pub struct CoreDumpStackIn<E: Store = Pieces> {
     pub(crate) front: Vec<u8, E::Alloc>, pub(crate) frames: E,

@@ -4,8 +4,8 @@
 use crate::vec::{Sink, Vec};
 use crate::custom::dylink_symbols::{DylinkExport, DylinkImport, DylinkMemory, ExportFlagMembers, ImportFlagMembers, NeededMembers, PathMembers};
 use crate::custom::entries::{CustomEntries, CustomKind};
-use crate::custom::lists::CountedList;
 use crate::custom::linking::{append_other, append_vector, read_vector};
+use crate::custom::lists::CountedList;
 use crate::custom::named::after_name;
 use crate::custom::standard::require_standard;
 use crate::custom::subsections::Subsection;

@@ -4,8 +4,8 @@
 use crate::vec::{Sink, Vec};
 use crate::custom::comdats::Comdat;
 use crate::custom::entries::{CustomEntries, CustomKind};
-use crate::custom::lists::CountedList;
 use crate::custom::init_functions::InitFunction;
+use crate::custom::lists::CountedList;
 use crate::custom::named::after_name;
 use crate::custom::segments::SegmentInfo;
 use crate::custom::standard::require_standard;

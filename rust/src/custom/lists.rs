@@ -64,7 +64,7 @@ pub struct MembersOf<K>(PhantomData<K>);
 /// Definitions: [`ContainsList`](crate::definitions::custom::lists::ContainsList). [How to read clauses](crate::definitions).
 impl<K: ListKind> Property for MembersOf<K> {}
 
-/// A list of counted members of the kind `K`, which a store of the type `S` keeps.
+/// A list of counted members of the kind `K`, whose entries a store of the type `S` keeps.
 ///
 /// It is a list in a custom section, such as [`NameMap`](crate::fallible::NameMap). The calls
 /// that add members are those of the kind `K`.

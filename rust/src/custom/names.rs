@@ -186,7 +186,11 @@ impl<S: Store> CountedList<IndirectMembers, S> {
     /// ```
     ///
     /// Definitions: [`AddsTo`](crate::definitions::base::calls::AddsTo), [`unsigned_encoding`](crate::definitions::base::numbers::unsigned_encoding), [`list_encoding`](crate::definitions::custom::lists::list_encoding). [How to read clauses](crate::definitions).
-    pub fn append<T: Store>(&mut self, index: u32, names: &CountedList<NameMembers, T>) -> Result<()> {
+    pub fn append<T: Store>(
+        &mut self,
+        index: u32,
+        names: &CountedList<NameMembers, T>,
+    ) -> Result<()> {
         names.members_law();
         self.add_record(&(index, Lent(names)))
     }
@@ -273,7 +277,11 @@ impl<S: Store> CustomEntries<NameItems, S> {
     }
 
     /// Adds a subsection with an indirect name map.
-    fn indirect_map<T: Store>(&mut self, id: u8, names: &CountedList<IndirectMembers, T>) -> Result<()> {
+    fn indirect_map<T: Store>(
+        &mut self,
+        id: u8,
+        names: &CountedList<IndirectMembers, T>,
+    ) -> Result<()> {
         let content = &Entries(names);
         self.add_record(&Subsection { id, content })
     }
@@ -663,7 +671,10 @@ impl<S: Store> CustomEntries<NameItems, S> {
     /// ```
     ///
     /// Definitions: [`AddsTo`](crate::definitions::base::calls::AddsTo), [`subsection_encoding`](crate::definitions::custom::customs::subsection_encoding), [`list_encoding`](crate::definitions::custom::lists::list_encoding), [`HasEncodableSize`](crate::definitions::base::encodings::HasEncodableSize). [How to read clauses](crate::definitions).
-    pub fn tag_parameters<T: Store>(&mut self, names: &CountedList<IndirectMembers, T>) -> Result<()> {
+    pub fn tag_parameters<T: Store>(
+        &mut self,
+        names: &CountedList<IndirectMembers, T>,
+    ) -> Result<()> {
         self.indirect_map(13, names)
     }
 

@@ -3,8 +3,8 @@
 
 use crate::custom::comdats::ComdatMembers;
 use crate::custom::entries::{CustomEntries, CustomKind};
-use crate::custom::lists::CountedList;
 use crate::custom::init_functions::InitMembers;
+use crate::custom::lists::CountedList;
 use crate::custom::object_symbols::ObjectSymbolMembers;
 use crate::custom::segments::SegmentMembers;
 use crate::custom::subsections::Subsection;
@@ -139,7 +139,10 @@ impl<S: Store> CustomEntries<ObjectLinkingItems, S> {
     /// ```
     ///
     /// Definitions: [`AddsTo`](crate::definitions::base::calls::AddsTo), [`subsection_encoding`](crate::definitions::custom::customs::subsection_encoding), [`list_encoding`](crate::definitions::custom::lists::list_encoding), [`HasEncodableSize`](crate::definitions::base::encodings::HasEncodableSize). [How to read clauses](crate::definitions).
-    pub fn init_functions<T: Store>(&mut self, functions: &CountedList<InitMembers, T>) -> Result<()> {
+    pub fn init_functions<T: Store>(
+        &mut self,
+        functions: &CountedList<InitMembers, T>,
+    ) -> Result<()> {
         self.add_record(functions)
     }
 
@@ -189,7 +192,10 @@ impl<S: Store> CustomEntries<ObjectLinkingItems, S> {
     /// ```
     ///
     /// Definitions: [`AddsTo`](crate::definitions::base::calls::AddsTo), [`subsection_encoding`](crate::definitions::custom::customs::subsection_encoding), [`list_encoding`](crate::definitions::custom::lists::list_encoding), [`HasEncodableSize`](crate::definitions::base::encodings::HasEncodableSize). [How to read clauses](crate::definitions).
-    pub fn symbol_table<T: Store>(&mut self, symbols: &CountedList<ObjectSymbolMembers, T>) -> Result<()> {
+    pub fn symbol_table<T: Store>(
+        &mut self,
+        symbols: &CountedList<ObjectSymbolMembers, T>,
+    ) -> Result<()> {
         self.add_record(symbols)
     }
 

@@ -175,7 +175,11 @@ impl<S: Store> CustomEntries<ProducerItems, S> {
     /// ```
     ///
     /// Definitions: [`AddsTo`](crate::definitions::base::calls::AddsTo), [`size_prefixed_encoding`](crate::definitions::base::encodings::size_prefixed_encoding), [`list_encoding`](crate::definitions::custom::lists::list_encoding), [`HasEncodableSize`](crate::definitions::base::encodings::HasEncodableSize). [How to read clauses](crate::definitions).
-    pub fn field<T: Store>(&mut self, name: &str, values: &CountedList<ValueMembers, T>) -> Result<()> {
+    pub fn field<T: Store>(
+        &mut self,
+        name: &str,
+        values: &CountedList<ValueMembers, T>,
+    ) -> Result<()> {
         self.add_record(&(name, Lent(values)))
     }
 }

@@ -10,7 +10,7 @@ use dolzhytik::fallible::{NameMap, NameSection, SymbolTable};
 /// # Proved
 ///
 /// ```text
-/// ensures { OnOk result (section.new ≡ section.old ++ subsection_encoding 4 (list_encoding names.now) ∷ []) }
+/// ensures { OnOk result (section.new ≡ section.old ++ subsection_encoding 4 (list_encoding (pieces_model.joins names.now)) ∷ []) }
 /// ```
 pub fn name_types<A: Allocator, B: Allocator>(
     section: &mut NameSection<A>,
@@ -24,7 +24,7 @@ pub fn name_types<A: Allocator, B: Allocator>(
 /// # Proved
 ///
 /// ```text
-/// ensures { OnOk result (section.new ≡ section.old ++ subsection_encoding 5 (list_encoding names.now) ∷ []) }
+/// ensures { OnOk result (section.new ≡ section.old ++ subsection_encoding 5 (list_encoding (pieces_model.joins names.now)) ∷ []) }
 /// ```
 pub fn name_tables<A: Allocator, B: Allocator>(
     section: &mut NameSection<A>,
@@ -38,7 +38,7 @@ pub fn name_tables<A: Allocator, B: Allocator>(
 /// # Proved
 ///
 /// ```text
-/// ensures { OnOk result (section.new ≡ section.old ++ subsection_encoding 6 (list_encoding names.now) ∷ []) }
+/// ensures { OnOk result (section.new ≡ section.old ++ subsection_encoding 6 (list_encoding (pieces_model.joins names.now)) ∷ []) }
 /// ```
 pub fn name_memories<A: Allocator, B: Allocator>(
     section: &mut NameSection<A>,
@@ -52,7 +52,7 @@ pub fn name_memories<A: Allocator, B: Allocator>(
 /// # Proved
 ///
 /// ```text
-/// ensures { OnOk result (section.new ≡ section.old ++ subsection_encoding 7 (list_encoding names.now) ∷ []) }
+/// ensures { OnOk result (section.new ≡ section.old ++ subsection_encoding 7 (list_encoding (pieces_model.joins names.now)) ∷ []) }
 /// ```
 pub fn name_globals<A: Allocator, B: Allocator>(
     section: &mut NameSection<A>,
@@ -66,7 +66,7 @@ pub fn name_globals<A: Allocator, B: Allocator>(
 /// # Proved
 ///
 /// ```text
-/// ensures { OnOk result (section.new ≡ section.old ++ subsection_encoding 8 (list_encoding names.now) ∷ []) }
+/// ensures { OnOk result (section.new ≡ section.old ++ subsection_encoding 8 (list_encoding (pieces_model.joins names.now)) ∷ []) }
 /// ```
 pub fn name_elements<A: Allocator, B: Allocator>(
     section: &mut NameSection<A>,
@@ -80,7 +80,7 @@ pub fn name_elements<A: Allocator, B: Allocator>(
 /// # Proved
 ///
 /// ```text
-/// ensures { OnOk result (section.new ≡ section.old ++ subsection_encoding 11 (list_encoding names.now) ∷ []) }
+/// ensures { OnOk result (section.new ≡ section.old ++ subsection_encoding 11 (list_encoding (pieces_model.joins names.now)) ∷ []) }
 /// ```
 pub fn name_tags<A: Allocator, B: Allocator>(
     section: &mut NameSection<A>,

@@ -1,11 +1,13 @@
 // Written by tools/to-rust from crates/examples/src/joined.rt: change that.
-// The module of `adding.rt`, of sections that keep their entries' bytes and number alone.
+// The module of `adding.rt`, and a name section, of builders that keep their entries' bytes and
+// number alone.
 
 use dolzhytik::fallible::Vec;
 use crate::examples::adding::sum;
 use dolzhytik::fallible::Allocator;
 use dolzhytik::fallible::{Module, Result, ValType};
 use dolzhytik::fallible::joined::CodeSection;
+use dolzhytik::fallible::joined::{NameMap, NameSection};
 use dolzhytik::fallible::ExportKind;
 use dolzhytik::fallible::joined::{ExportSection, FunctionSection};
 use dolzhytik::fallible::joined::TypeSection;
@@ -77,5 +79,31 @@ fn exports<A: Allocator + Copy>(alloc: A) -> Result<ExportSection<A>> {
 fn code<A: Allocator + Copy>(alloc: A) -> Result<CodeSection<A>> {
     let mut section = CodeSection::new(alloc);
     section.function(&sum(alloc)?)?;
+    Ok(section)
+}
+
+/// Returns the name of the function.
+///
+/// # Proved
+///
+/// ```text
+/// ensures { IfOk result (λ names. Cut (λ entries. AreNamings entries ((0, codes "add") ∷ [])) names) }
+/// ```
+fn function_names<A: Allocator + Copy>(alloc: A) -> Result<NameMap<A>> {
+    let mut names = NameMap::new(alloc);
+    names.append(0, "add")?;
+    Ok(names)
+}
+
+/// Returns a name section of the name of that function.
+///
+/// # Proved
+///
+/// ```text
+/// ensures { IfOk result (λ section. Cut (λ entries. ContainsNames entries (Map 1 ((0, codes "add") ∷ []) ∷ [])) section) }
+/// ```
+pub fn joined_names<A: Allocator + Copy>(alloc: A) -> Result<NameSection<A>> {
+    let mut section = NameSection::new(alloc);
+    section.functions(&function_names(alloc)?)?;
     Ok(section)
 }

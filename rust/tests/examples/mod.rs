@@ -31,7 +31,7 @@ pub use coverage::{CoverageError, MAX_LENGTH, covered};
 pub use filled::filled_module;
 pub use first::first_module;
 pub use grown::{encode_given_import, encode_memories, grow, grow_by_each};
-pub use joined::joined_module;
+pub use joined::{joined_module, joined_names};
 pub use large::large_module;
 pub use lowering::{Operation, Operator, compile, lower};
 pub use minimized::{minimal_body, minimal_payload, one_byte_reference};

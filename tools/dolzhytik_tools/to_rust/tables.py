@@ -68,7 +68,7 @@ BETWEEN = {
     },
     'wasm_insn': {'read_instruction'},
     'wasm_custom': {
-        'walk_build_id', 'walk_debug_file', 'walk_dylink', 'walk_features', 'walk_hints', 'walk_instances', 'walk_links',
+        'FrameItems', 'MembersOf', 'walk_build_id', 'walk_debug_file', 'walk_dylink', 'walk_features', 'walk_hints', 'walk_instances', 'walk_links',
         'walk_modules', 'walk_names', 'walk_process', 'walk_producers', 'walk_relocations', 'walk_source_map', 'walk_stack',
     },
 }
