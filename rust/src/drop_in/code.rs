@@ -2,7 +2,6 @@
 use super::bytes::{append, append_once};
 use super::short::{EMPTY_BLOCK, Short, put_short};
 use super::{Encode, Instruction, NONE, done, listed};
-use crate::alloc::Global;
 use crate::base::{self, Encode as _, Result, ValType, vec_of};
 use crate::code::{CodeSectionIn, joined};
 use crate::ending::{FEW, Growing, Root, grow};
@@ -170,7 +169,7 @@ impl<'a> InstructionSink<'a> {
 /// ```
 #[derive(Clone, Debug, PartialEq, Eq)]
 pub struct Function {
-    bytes: Vec<u8>,
+    pub(super) bytes: Vec<u8>,
 }
 
 /// Converts a body built by the calls of [`fallible::Function`](crate::fallible::Function).
@@ -196,27 +195,6 @@ impl Function {
         let mut bytes = Vec::with_capacity(FEW);
         append_once(done(vec_of(locals)), &mut bytes);
         Function { bytes }
-    }
-
-    /// Creates a body without instructions, with one local for each type. Neighbours of the same
-    /// type form one run.
-    ///
-    /// ```
-    /// use dolzhytik::{Function, ValType};
-    ///
-    /// let body = Function::new_with_locals_types([ValType::I32, ValType::I32, ValType::F32]);
-    /// // Two runs: 2 of i32, 7F, and 1 of f32, 7D.
-    /// assert_eq!(body.into_raw_body(), [2, 2, 0x7F, 1, 0x7D]);
-    /// ```
-    ///
-    /// # Panics
-    ///
-    /// Panics if the number of runs, or of locals in one, would pass 4294967295.
-    pub fn new_with_locals_types<L>(locals: L) -> Self
-    where
-        L: IntoIterator<Item = ValType>,
-    {
-        done(code::Function::new_with_locals_types(Global, locals)).into()
     }
 
     /// Returns the named calls that append instructions to this body.
@@ -308,46 +286,6 @@ impl Encode for Function {
 ///
 /// Its calls panic where the number of bodies, or the size of one, would pass 4294967295. A failed
 /// allocation ends the program.
-pub struct CodeSection(joined::CodeSection<Root>);
+pub struct CodeSection(pub(super) joined::CodeSection<Root>);
 
 listed!(CodeSection of code Code: CodeSectionIn { entries: NONE });
-
-impl CodeSection {
-    /// Returns the length of all bodies in bytes, with their size prefixes. The number of bodies,
-    /// which is encoded before them, is not included.
-    pub fn byte_len(&self) -> usize {
-        self.0.byte_len()
-    }
-
-    /// Appends a body.
-    ///
-    /// # Panics
-    ///
-    /// Panics if the body has more than 4294967295 bytes, or the section has 4294967295 bodies.
-    #[inline]
-    pub fn function(&mut self, func: &Function) -> &mut Self {
-        self.raw(&func.bytes)
-    }
-
-    /// Appends a body by its bytes, without the size prefix. They are not checked.
-    ///
-    /// ```
-    /// use dolzhytik::{CodeSection, Encode};
-    ///
-    /// let mut code = CodeSection::new();
-    /// code.raw(&[0x00, 0x0B]); // No locals; end.
-    /// let mut bytes = Vec::new();
-    /// code.encode(&mut bytes);
-    /// // Size 4, one body, of size 2.
-    /// assert_eq!(bytes, [4, 1, 2, 0x00, 0x0B]);
-    /// ```
-    ///
-    /// # Panics
-    ///
-    /// Panics if there are more than 4294967295 bytes, or the section has 4294967295 bodies.
-    #[inline]
-    pub fn raw(&mut self, data: &[u8]) -> &mut Self {
-        done(self.0.raw(data));
-        self
-    }
-}

@@ -1,12 +1,7 @@
 //! Custom sections, and the lists that they hold.
 use super::bytes::append;
 use super::debug::{self, Before, debugged};
-use super::later::Later;
-use super::{
-    BranchHint, CoreDumpValue, DataSymbolDefinition, Encode, Section, SectionId, copied, default,
-    done, encoded, section, taken,
-};
-use crate::alloc::Global;
+use super::{Encode, Section, SectionId, copied, default, encoded, section, taken};
 use crate::base::{CowSlice, CowStr};
 use crate::custom::{self, joined};
 use crate::ending::Root;
@@ -83,7 +78,7 @@ macro_rules! over_proved {
             ///
             /// Its calls panic where a count or length would pass 4294967295. A failed allocation
             /// ends the program.
-            pub struct $name($proved);
+            pub struct $name(pub(super) $proved);
 
             #[allow(clippy::new_without_default, reason = "two sections of core dumps have no default")]
             impl $name {
@@ -145,8 +140,10 @@ over_proved! {
     /// The custom section `name`: names of the module and of its items, for debuggers and stack
     /// traces.
     ///
-    /// Each call appends a subsection. Add each once, in the order of their ids: the calls do not
-    /// check it. Core specification, Appendix, Custom Sections, Name Section.
+    /// Each call appends a subsection. Add each once, in the order of their ids: module, functions,
+    /// locals, labels, types, tables, memories, globals, elements, data, fields, tags, parameters,
+    /// tag parameters. The calls do not check it. Core specification, Appendix, Custom Sections,
+    /// Name Section.
     ///
     /// ```
     /// use dolzhytik::{Encode, NameMap, NameSection};
@@ -312,300 +309,8 @@ debugged!(
     CoreDumpInstancesSection: num_added [Number Name Number],
 );
 
-impl NameMap {
-    /// Appends the name of the item with this index. Add them in the order of indices, each once:
-    /// the call does not check it. A name may be that of other items too.
-    ///
-    /// # Panics
-    ///
-    /// Panics if there are 4294967295 names, or if the length of the name would pass 4294967295.
-    #[inline]
-    pub fn append(&mut self, idx: u32, name: &str) {
-        done(self.0.append(idx, name))
-    }
-
-    /// Returns `true` if there are no names.
-    pub fn is_empty(&self) -> bool {
-        self.0.is_empty()
-    }
-}
-
-impl IndirectNameMap {
-    /// Appends the names of the items in the item with this index. Add them in the order of
-    /// indices, each once: the call does not check it.
-    ///
-    /// # Panics
-    ///
-    /// Panics if there are 4294967295 entries.
-    pub fn append(&mut self, idx: u32, names: &NameMap) {
-        done(self.0.append(idx, &names.0))
-    }
-}
-
-/// Defines the calls of `NameSection` that append a subsection of a map.
-macro_rules! subsections {
-    ($map:ident: $($call:ident $id:literal $what:literal)*) => {
-        $(
-            #[doc = concat!("Appends subsection ", $id, ": the names of ", $what, ".")]
-            ///
-            /// # Panics
-            ///
-            /// Panics if the section has 4294967295 subsections, or if the size of one would pass
-            /// 4294967295.
-            pub fn $call(&mut self, names: &$map) {
-                done(self.0.$call(&names.0))
-            }
-        )*
-    };
-}
-
-impl NameSection {
-    /// Appends subsection 0: the name of the module.
-    ///
-    /// # Panics
-    ///
-    /// Panics if the section has 4294967295 entries, or if the length of a name would pass
-    /// 4294967295.
-    pub fn module(&mut self, name: &str) {
-        done(self.0.module(name))
-    }
-
-    subsections! {
-        NameMap:
-        functions 1 "functions"
-        types 4 "types"
-        tables 5 "tables"
-        memories 6 "memories"
-        globals 7 "globals"
-        elements 8 "element segments"
-        data 9 "data segments"
-        tag 11 "tags, as `tags` does"
-        tags 11 "tags"
-    }
-
-    subsections! {
-        IndirectNameMap:
-        locals 2 "the locals of functions, parameters included"
-        labels 3 "the labels of functions"
-        fields 10 "the fields of types"
-        parameters 12 "the parameters of types"
-        tag_parameters 13 "the parameters of tags"
-    }
-
-    /// Appends a subsection of this id and raw content. The size prefix is added.
-    ///
-    /// # Panics
-    ///
-    /// Panics if the section has 4294967295 subsections, or if the size of one would pass
-    /// 4294967295.
-    pub fn raw(&mut self, id: u8, data: &[u8]) {
-        done(self.0.raw(id, data))
-    }
-
-    /// Returns the section as a custom section, whose data is borrowed.
-    pub fn as_custom<'a>(&'a self) -> CustomSection<'a> {
-        self.0.as_custom().into()
-    }
-}
-
-impl LinkingSection {
-    /// Appends subsection 8: a symbol table.
-    ///
-    /// # Panics
-    ///
-    /// Panics if the section has 4294967295 subsections, or if the size of one would pass
-    /// 4294967295.
-    pub fn symbol_table(&mut self, symbol_table: &SymbolTable) -> &mut Self {
-        done(self.0.symbol_table(&symbol_table.0));
-        self
-    }
-
-    /// Appends subsection 9: the architecture of the target.
-    ///
-    /// # Panics
-    ///
-    /// Panics if the section has 4294967295 subsections, or if the size of one would pass
-    /// 4294967295.
-    pub fn target_arch(&mut self, arch: &str) -> &mut Self {
-        done(self.0.target_arch(arch));
-        self
-    }
-}
-
-impl SymbolTable {
-    /// The symbol is weak: another definition of its name replaces it. It excludes
-    /// [`WASM_SYM_BINDING_LOCAL`](SymbolTable::WASM_SYM_BINDING_LOCAL).
-    pub const WASM_SYM_BINDING_WEAK: u32 = custom::SymbolTable::WASM_SYM_BINDING_WEAK;
-    /// The symbol is local: no other object file sees it. It excludes
-    /// [`WASM_SYM_BINDING_WEAK`](SymbolTable::WASM_SYM_BINDING_WEAK).
-    pub const WASM_SYM_BINDING_LOCAL: u32 = custom::SymbolTable::WASM_SYM_BINDING_LOCAL;
-    /// The symbol is hidden: the linked module does not export it.
-    pub const WASM_SYM_VISIBILITY_HIDDEN: u32 = custom::SymbolTable::WASM_SYM_VISIBILITY_HIDDEN;
-    /// The symbol is undefined: it is an import that another object file defines.
-    pub const WASM_SYM_UNDEFINED: u32 = custom::SymbolTable::WASM_SYM_UNDEFINED;
-    /// The linked module exports the symbol.
-    pub const WASM_SYM_EXPORTED: u32 = custom::SymbolTable::WASM_SYM_EXPORTED;
-    /// The symbol of an import has a name of its own.
-    pub const WASM_SYM_EXPLICIT_NAME: u32 = custom::SymbolTable::WASM_SYM_EXPLICIT_NAME;
-    /// The linker keeps the symbol, also if nothing uses it.
-    pub const WASM_SYM_NO_STRIP: u32 = custom::SymbolTable::WASM_SYM_NO_STRIP;
-
-    /// Appends the symbol of the function with this index. An undefined symbol takes its name from
-    /// the import, and `None` here, unless it has the flag
-    /// [`WASM_SYM_EXPLICIT_NAME`](SymbolTable::WASM_SYM_EXPLICIT_NAME).
-    ///
-    /// # Panics
-    ///
-    /// Panics if there are 4294967295 symbols, or if the length of the name would pass 4294967295.
-    pub fn function(&mut self, flags: u32, index: u32, name: Option<&str>) -> &mut Self {
-        done(self.0.function(flags, index, name));
-        self
-    }
-
-    /// Appends the symbol of the global with this index, as [`function`](SymbolTable::function)
-    /// does.
-    ///
-    /// # Panics
-    ///
-    /// Panics if there are 4294967295 symbols, or if the length of the name would pass 4294967295.
-    pub fn global(&mut self, flags: u32, index: u32, name: Option<&str>) -> &mut Self {
-        done(self.0.global(flags, index, name));
-        self
-    }
-
-    /// Appends the symbol of the table with this index, as [`function`](SymbolTable::function)
-    /// does.
-    ///
-    /// # Panics
-    ///
-    /// Panics if there are 4294967295 symbols, or if the length of the name would pass 4294967295.
-    pub fn table(&mut self, flags: u32, index: u32, name: Option<&str>) -> &mut Self {
-        done(self.0.table(flags, index, name));
-        self
-    }
-
-    /// Appends the symbol of bytes in a data segment, or an undefined one without a definition.
-    ///
-    /// # Panics
-    ///
-    /// Panics if there are 4294967295 symbols, or if the length of the name would pass 4294967295.
-    pub fn data(
-        &mut self,
-        flags: u32,
-        name: &str,
-        definition: Option<DataSymbolDefinition>,
-    ) -> &mut Self {
-        done(self.0.data(flags, name, definition));
-        self
-    }
-}
-
-impl ProducersSection {
-    /// Appends the field of this name, such as `language`, with its values.
-    ///
-    /// # Panics
-    ///
-    /// Panics if there are 4294967295 fields, or if the length of the name would pass 4294967295.
-    pub fn field(&mut self, name: &str, values: &ProducersField) -> &mut Self {
-        done(self.0.field(name, &values.0));
-        self
-    }
-}
-
-impl ProducersField {
-    /// Appends a value, such as the name of a tool, and its version.
-    ///
-    /// # Panics
-    ///
-    /// Panics if there are 4294967295 values, or if the length of a string would pass 4294967295.
-    pub fn value(&mut self, name: &str, version: &str) -> &mut Self {
-        done(self.0.value(name, version));
-        self
-    }
-}
-
-impl BranchHints {
-    /// Returns the number of functions that have hints.
-    pub fn len(&self) -> u32 {
-        self.0.len()
-    }
-
-    /// Returns `true` if no function has hints.
-    pub fn is_empty(&self) -> bool {
-        self.0.is_empty()
-    }
-
-    /// Appends the hints of the function with this index. Add them in the order of indices, and the
-    /// hints in the order of offsets: the call does not check it.
-    ///
-    /// # Panics
-    ///
-    /// Panics if the iterator reports more than 4294967295 hints.
-    pub fn function_hints<I>(&mut self, func: u32, hints: I)
-    where
-        I: IntoIterator<Item = BranchHint>,
-        I::IntoIter: ExactSizeIterator,
-    {
-        done(self.0.function_hints(func, hints))
-    }
-}
-
-#[allow(clippy::len_without_is_empty, reason = "the Rust crate has none")]
-impl CoreDumpModulesSection {
-    /// Returns the number of modules.
-    pub fn len(&self) -> u32 {
-        self.0.len()
-    }
-
-    /// Returns the section as a custom section, whose data is owned.
-    pub fn as_custom(&self) -> CustomSection<'_> {
-        done(self.0.as_custom(Global)).into()
-    }
-
-    /// Appends a module of this name.
-    ///
-    /// # Panics
-    ///
-    /// Panics if there are 4294967295 modules, or if the length of the name would pass 4294967295.
-    pub fn module(&mut self, module_name: impl AsRef<str>) -> &mut Self {
-        done(self.0.module(module_name.as_ref()));
-        self
-    }
-}
-
-#[allow(clippy::len_without_is_empty, reason = "the Rust crate has none")]
-impl CoreDumpInstancesSection {
-    /// Returns the number of instances.
-    pub fn len(&self) -> u32 {
-        self.0.len()
-    }
-
-    /// Returns the section as a custom section, whose data is owned.
-    pub fn as_custom(&self) -> CustomSection<'_> {
-        done(self.0.as_custom(Global)).into()
-    }
-
-    /// Appends an instance: the index of its module, and the indices of its memories and globals in
-    /// the dump. The memories are finished before the globals are made and measured.
-    ///
-    /// # Panics
-    ///
-    /// Panics if an iterator reports more than 4294967295 indices. Nothing is then appended.
-    pub fn instance<M, G>(&mut self, module_index: u32, memories: M, globals: G) -> &mut Self
-    where
-        M: IntoIterator<Item = u32>,
-        <M as IntoIterator>::IntoIter: ExactSizeIterator,
-        G: IntoIterator<Item = u32>,
-        <G as IntoIterator>::IntoIter: ExactSizeIterator,
-    {
-        let front = (MARK, module_index);
-        done(self.0.add_once((front, Later(memories), Later(globals))));
-        self
-    }
-}
-
 /// The first byte of an entry of a core dump.
-const MARK: u8 = 0x00;
+pub const MARK: u8 = 0x00;
 
 /// The parts before the name of a process or thread: the section's size and name, and the byte 00.
 const MARKED: &[Before] = &[Before::Number, Before::Name, Before::Number];
@@ -624,22 +329,11 @@ const MARKED: &[Before] = &[Before::Number, Before::Name, Before::Number];
 /// // Size 11, "core", 00, "test".
 /// assert_eq!(bytes, *b"\x0B\x04core\0\x04test");
 /// ```
-pub struct CoreDumpSection(custom::CoreDumpSection);
+pub struct CoreDumpSection(pub(super) custom::CoreDumpSection);
 
 copied!(CoreDumpSection);
 taken!(CoreDumpSection of custom);
 section!(CoreDumpSection of Custom);
-
-impl CoreDumpSection {
-    /// Creates the section for the process of this name.
-    ///
-    /// # Panics
-    ///
-    /// Panics if the name has more than 4294967295 bytes.
-    pub fn new(name: impl Into<String>) -> Self {
-        CoreDumpSection(done(custom::CoreDumpSection::new(Global, &name.into())))
-    }
-}
 
 impl fmt::Debug for CoreDumpSection {
     fn fmt(&self, f: &mut fmt::Formatter<'_>) -> fmt::Result {
@@ -683,54 +377,11 @@ impl Default for CoreDumpSection {
 ///
 /// Its calls panic where a count or length would pass 4294967295. A failed allocation ends the
 /// program.
-pub struct CoreDumpStackSection(custom::CoreDumpStackSection);
+pub struct CoreDumpStackSection(pub(super) custom::CoreDumpStackSection);
 
 copied!(CoreDumpStackSection);
 taken!(CoreDumpStackSection of custom);
 section!(CoreDumpStackSection of Custom);
-
-impl CoreDumpStackSection {
-    /// Creates the section without frames, for the thread of this name.
-    ///
-    /// # Panics
-    ///
-    /// Panics if the length of the name would pass 4294967295.
-    pub fn new(name: impl Into<String>) -> Self {
-        let name = name.into();
-        CoreDumpStackSection(done(custom::CoreDumpStackSection::new(Global, &name)))
-    }
-
-    /// Appends a frame: the indices of the instance and the function, the offset in its code, and
-    /// the values of its locals and its operand stack. The locals are finished before the stack is
-    /// made and measured.
-    ///
-    /// # Panics
-    ///
-    /// Panics if an iterator reports more than 4294967295 values. Nothing is then appended.
-    pub fn frame<L, S>(
-        &mut self,
-        instanceidx: u32,
-        funcidx: u32,
-        codeoffset: u32,
-        locals: L,
-        stack: S,
-    ) -> &mut Self
-    where
-        L: IntoIterator<Item = CoreDumpValue>,
-        <L as IntoIterator>::IntoIter: ExactSizeIterator,
-        S: IntoIterator<Item = CoreDumpValue>,
-        <S as IntoIterator>::IntoIter: ExactSizeIterator,
-    {
-        let front = (MARK, (instanceidx, funcidx, codeoffset));
-        done(self.0.frames.add_once((front, Later(locals), Later(stack))));
-        self
-    }
-
-    /// Returns the section as a custom section, whose data is owned.
-    pub fn as_custom<'a>(&'a self) -> CustomSection<'a> {
-        done(self.0.as_custom(Global)).into()
-    }
-}
 
 impl fmt::Debug for CoreDumpStackSection {
     fn fmt(&self, f: &mut fmt::Formatter<'_>) -> fmt::Result {

@@ -1,6 +1,6 @@
 //! The import section, and the types of imported items.
 use super::{ImportSection, TagType, by_proved, done, handed};
-use crate::base::CowSlice;
+use crate::ending::Root;
 use crate::sections;
 use crate::sections::{GlobalType, MemoryType, TableType};
 use alloc_crate::borrow::Cow;
@@ -127,38 +127,17 @@ pub enum Imports<'a> {
 }
 
 impl ImportSection {
-    /// Appends an entry.
-    ///
-    /// # Panics
-    ///
-    /// Panics if the length of a name, the number of items or the number of entries would pass
-    /// 4294967295.
-    pub fn imports<'a>(&mut self, imports: Imports<'a>) -> &mut Self {
-        done(self.0.add_record(&imports.proved()));
-        self
-    }
-
-    /// Appends an import. The type is an [`EntityType`], or a type that converts to one.
-    ///
-    /// # Panics
-    ///
-    /// Panics if the length of a name or the number of entries would pass 4294967295.
-    #[inline]
-    pub fn import(&mut self, module: &str, name: &str, ty: impl Into<EntityType>) -> &mut Self {
-        self.single(module, name, ty.into());
-        self
-    }
-
     /// Appends an import. It is compiled here, and not in the user's crate for each type.
-    fn single(&mut self, module: &str, name: &str, ty: EntityType) {
+    pub(super) fn single(&mut self, module: &str, name: &str, ty: EntityType) -> &mut Self {
         done(self.0.import(module, name, ty.into()));
+        self
     }
 }
 
 impl<'a> Imports<'a> {
     /// Converts the entry for a proved call. A borrowed list of items is copied, since their types
     /// are converted.
-    fn proved(self) -> sections::Imports<'a> {
+    pub(super) fn proved(self) -> sections::Imports<'a, Root> {
         match self {
             Imports::Single(import) => sections::Imports::Single(import.into()),
             Imports::Compact1 { module, items } => {
@@ -166,7 +145,7 @@ impl<'a> Imports<'a> {
                 let items: Vec<_> = items.map(sections::ImportCompact::from).collect();
                 sections::Imports::Compact1 {
                     module,
-                    items: CowSlice::Owned(items.into()),
+                    items: handed(items.into()),
                 }
             }
             Imports::Compact2 { module, ty, names } => sections::Imports::Compact2 {

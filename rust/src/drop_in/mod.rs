@@ -31,6 +31,8 @@ mod instruction;
 mod kinds;
 mod later;
 mod module;
+#[rustfmt::skip]
+mod root_calls;
 mod sections;
 mod short;
 mod types;
@@ -265,10 +267,10 @@ impl From<Pieces> for Pieces<Root> {
 }
 
 /// Converts items for a proved call. None is copied.
-fn handed<T: Clone>(items: Cow<'_, [T]>) -> CowSlice<'_, T> {
+fn handed<T: Clone>(items: Cow<'_, [T]>) -> CowSlice<'_, T, Root> {
     match items {
         Cow::Borrowed(items) => CowSlice::Borrowed(items),
-        Cow::Owned(items) => CowSlice::Owned(items.into()),
+        Cow::Owned(items) => CowSlice::Owned(vec::Vec::from(items).into_ending()),
     }
 }
 
@@ -357,27 +359,15 @@ macro_rules! section {
     };
 }
 
-/// Implements what all sections of counted entries have: `new`, `len`, `is_empty`, `Encode`,
-/// `Section`, `Clone`, `Debug`, and the conversion from the proved section of the same name, which
-/// also keeps where its entries end.
+/// Implements what all sections of counted entries have: `new`, `Encode`, `Section`, `Clone`,
+/// `Debug`, and the conversion from the proved section of the same name, which also keeps where its
+/// entries end.
 macro_rules! listed {
     ($name:ident of $module:ident $id:ident: $new:expr) => {
         impl $name {
             /// Creates a section without entries.
             pub const fn new() -> Self {
                 $name($new)
-            }
-
-            /// Returns the number of entries.
-            #[inline]
-            pub fn len(&self) -> u32 {
-                self.0.len()
-            }
-
-            /// Returns `true` if there are no entries.
-            #[inline]
-            pub fn is_empty(&self) -> bool {
-                self.0.is_empty()
             }
         }
 

@@ -1,7 +1,6 @@
 //! Modules, and sections of raw bytes.
 use super::bytes::append;
-use super::{Encode, Section, default, done};
-use crate::alloc::Global;
+use super::{Encode, Section, default};
 use crate::base;
 use crate::reader;
 use alloc_crate::vec::Vec;
@@ -36,11 +35,6 @@ impl Module {
     #[doc(alias = "version")]
     #[doc(alias = "preamble")]
     pub const HEADER: [u8; 8] = *b"\0asm\x01\0\0\0";
-
-    /// Creates a module without sections: its bytes are [`HEADER`](Module::HEADER).
-    pub fn new() -> Self {
-        done(base::Module::new(Global)).into()
-    }
 
     /// Appends a section: its id, and its encoding.
     ///

@@ -1,12 +1,11 @@
 //! The sections of counted items.
-use super::{ConstExpr, ExportKind, NONE, TagType, done, listed};
-use crate::base::{CowSlice, Encode, Lent, RefType, Result, bytes_of};
+use super::{ConstExpr, NONE, listed};
+use crate::base::{CowSlice, Encode, Lent, RefType, Result};
 use crate::ending::Root;
 use crate::sections;
-use crate::sections::data::{ACTIVE, ACTIVE_IN_MEMORY};
+use crate::sections::CountedSection;
+use crate::sections::data::{ACTIVE, ACTIVE_IN_MEMORY, PASSIVE};
 use crate::sections::joined;
-use crate::sections::table::BEFORE_INIT;
-use crate::sections::{CountedSection, GlobalType, MemoryType, TableType};
 use crate::vec::Sink;
 use alloc_crate::borrow::Cow;
 use core::marker::PhantomData;
@@ -194,117 +193,6 @@ sections! {
     DataSection of Data
 }
 
-impl FunctionSection {
-    /// Appends a function whose type has this index.
-    ///
-    /// # Panics
-    ///
-    /// Panics if the section has 4294967295 entries.
-    pub fn function(&mut self, type_index: u32) -> &mut Self {
-        done(self.0.function(type_index));
-        self
-    }
-}
-
-impl TableSection {
-    /// Appends a table.
-    ///
-    /// # Panics
-    ///
-    /// Panics if the section has 4294967295 entries.
-    pub fn table(&mut self, table_type: TableType) -> &mut Self {
-        done(self.0.table(table_type));
-        self
-    }
-
-    /// Appends a table whose elements all are the value of the expression at first.
-    ///
-    /// ```
-    /// use dolzhytik::{ConstExpr, Encode, HeapType, RefType, TableSection, TableType};
-    ///
-    /// let ty = TableType {
-    ///     element_type: RefType::FUNCREF,
-    ///     table64: false,
-    ///     minimum: 4,
-    ///     maximum: None,
-    ///     shared: false,
-    /// };
-    /// let mut tables = TableSection::new();
-    /// tables.table_with_init(ty, &ConstExpr::ref_null(HeapType::FUNC));
-    /// let mut bytes = Vec::new();
-    /// tables.encode(&mut bytes);
-    /// // Size 9, one table: 40 00; funcref (70), no flags, 4 elements; ref.null func (D0 70), end.
-    /// assert_eq!(bytes, [9, 1, 0x40, 0x00, 0x70, 0, 4, 0xD0, 0x70, 0x0B]);
-    /// ```
-    ///
-    /// # Panics
-    ///
-    /// Panics if the section has 4294967295 entries.
-    pub fn table_with_init(&mut self, table_type: TableType, init: &ConstExpr) -> &mut Self {
-        done(self.0.add_record(&(BEFORE_INIT, table_type, Lent(init))));
-        self
-    }
-}
-
-impl MemorySection {
-    /// Appends a memory.
-    ///
-    /// # Panics
-    ///
-    /// Panics if the section has 4294967295 entries.
-    pub fn memory(&mut self, memory_type: MemoryType) -> &mut Self {
-        done(self.0.memory(memory_type));
-        self
-    }
-}
-
-impl TagSection {
-    /// Appends a tag.
-    ///
-    /// # Panics
-    ///
-    /// Panics if the section has 4294967295 entries.
-    pub fn tag(&mut self, tag_type: TagType) -> &mut Self {
-        done(self.0.tag(tag_type.into()));
-        self
-    }
-}
-
-impl GlobalSection {
-    /// Appends a global of this type and initial value.
-    ///
-    /// # Panics
-    ///
-    /// Panics if the section has 4294967295 entries.
-    pub fn global(&mut self, global_type: GlobalType, init_expr: &ConstExpr) -> &mut Self {
-        done(self.0.add_record(&(global_type, Lent(init_expr))));
-        self
-    }
-
-    /// Appends a global by its encoding: the type and the expression. The bytes are not checked.
-    ///
-    /// # Panics
-    ///
-    /// Panics if the section has 4294967295 entries.
-    pub fn raw(&mut self, data: &[u8]) -> &mut Self {
-        done(self.0.raw(data));
-        self
-    }
-}
-
-impl ExportSection {
-    /// Appends an export of the item with this kind and index. Imported items have the first
-    /// indices of their kind: see [`ImportSection`].
-    ///
-    /// # Panics
-    ///
-    /// Panics if the section has 4294967295 entries, or if the name has more than 4294967295 bytes.
-    pub fn export(&mut self, name: &str, kind: ExportKind, index: u32) -> &mut Self {
-        done(self.0.export(name, kind.into(), index));
-        self
-    }
-}
-
 /// The elements of a segment of the [`ElementSection`].
 ///
 /// ```
@@ -377,113 +265,42 @@ pub struct ElementSegment<'a> {
     pub elements: Elements<'a>,
 }
 
-/// A segment and its expressions, which are encoded last.
-struct WithExpressions<'a> {
-    /// The segment without expressions. Its encoding ends with their number, which is one byte.
-    before: sections::ElementSegment<'a>,
-    expressions: &'a [ConstExpr],
-}
+/// The mode and the elements of a segment, as the proved call encodes them. Expressions are encoded
+/// behind a segment without any: its encoding ends with their number, which is one byte.
+pub struct Given<'a>(pub ElementMode<'a>, pub Elements<'a>);
 
-impl Encode for WithExpressions<'_> {
+impl Encode for Given<'_> {
     fn encode<A: Sink>(&self, sink: &mut A) -> Result<()> {
-        self.before.encode(sink)?;
-        sink.truncate(sink.len() - 1);
-        self.expressions.encode(sink)
-    }
-}
-
-impl ElementSection {
-    /// Appends a segment.
-    ///
-    /// # Panics
-    ///
-    /// Panics if the section has 4294967295 entries, or if the segment has more than 4294967295
-    /// elements.
-    pub fn segment<'a>(&mut self, segment: ElementSegment<'a>) -> &mut Self {
         let offset;
-        let mode = match segment.mode {
+        let mode = match &self.0 {
             ElementMode::Passive => sections::ElementMode::Passive,
             ElementMode::Declared => sections::ElementMode::Declared,
             ElementMode::Active { table, offset: at } => {
+                let table = *table;
                 offset = at.proved();
                 let offset = &offset;
                 sections::ElementMode::Active { table, offset }
             }
         };
-        match &segment.elements {
+        let (elements, expressions) = match &self.1 {
             Elements::Functions(functions) => {
                 let functions = CowSlice::Borrowed(&functions[..]);
-                let elements = sections::Elements::Functions(functions);
-                done(self.0.segment(sections::ElementSegment { mode, elements }));
+                (sections::Elements::Functions(functions), None)
             }
             Elements::Expressions(ty, expressions) => {
-                let elements = sections::Elements::Expressions(*ty, CowSlice::Borrowed(&[]));
-                let before = sections::ElementSegment { mode, elements };
-                done(self.0.add_record(&WithExpressions {
-                    before,
-                    expressions,
-                }));
+                let none = CowSlice::Borrowed(&[][..]);
+                (
+                    sections::Elements::Expressions(*ty, none),
+                    Some(expressions),
+                )
             }
+        };
+        sections::ElementSegment { mode, elements }.encode(sink)?;
+        if let Some(expressions) = expressions {
+            sink.truncate(sink.len() - 1);
+            (&expressions[..]).encode(sink)?;
         }
-        self
-    }
-
-    /// Appends an active segment: instantiation copies the elements into the table, from the offset
-    /// on. Without a table it is table 0.
-    ///
-    /// # Panics
-    ///
-    /// Panics if the section has 4294967295 entries, or if the segment has more than 4294967295
-    /// elements.
-    pub fn active(
-        &mut self,
-        table_index: Option<u32>,
-        offset: &ConstExpr,
-        elements: Elements<'_>,
-    ) -> &mut Self {
-        self.segment(ElementSegment {
-            mode: ElementMode::Active {
-                table: table_index,
-                offset,
-            },
-            elements,
-        })
-    }
-
-    /// Appends a passive segment, for `table.init` and `array.new_elem`.
-    ///
-    /// # Panics
-    ///
-    /// Panics if the section has 4294967295 entries, or if the segment has more than 4294967295
-    /// elements.
-    pub fn passive<'a>(&mut self, elements: Elements<'a>) -> &mut Self {
-        self.segment(ElementSegment {
-            mode: ElementMode::Passive,
-            elements,
-        })
-    }
-
-    /// Appends a declared segment, whose functions may be operands of `ref.func` in code.
-    ///
-    /// # Panics
-    ///
-    /// Panics if the section has 4294967295 entries, or if the segment has more than 4294967295
-    /// elements.
-    pub fn declared<'a>(&mut self, elements: Elements<'a>) -> &mut Self {
-        self.segment(ElementSegment {
-            mode: ElementMode::Declared,
-            elements,
-        })
-    }
-
-    /// Appends a segment by its encoding. The bytes are not checked.
-    ///
-    /// # Panics
-    ///
-    /// Panics if the section has 4294967295 entries.
-    pub fn raw(&mut self, raw_bytes: &[u8]) -> &mut Self {
-        done(self.0.raw(raw_bytes));
-        self
+        Ok(())
     }
 }
 
@@ -534,80 +351,22 @@ pub struct DataSegment<'a, D> {
     pub data: D,
 }
 
-impl DataSection {
-    /// Appends a segment.
-    ///
-    /// # Panics
-    ///
-    /// Panics if the section has 4294967295 entries. Panics if the iterator reports more than
-    /// 4294967295 bytes, before one is requested.
-    pub fn segment<D>(&mut self, segment: DataSegment<D>) -> &mut Self
-    where
-        D: IntoIterator<Item = u8>,
-        D::IntoIter: ExactSizeIterator,
-    {
-        match segment.mode {
+/// The fields of a segment before its bytes.
+pub struct Front<'a>(pub DataSegmentMode<'a>);
+
+impl Encode for Front<'_> {
+    #[inline]
+    fn encode<A: Sink>(&self, sink: &mut A) -> Result<()> {
+        match self.0 {
+            DataSegmentMode::Passive => PASSIVE.encode(sink),
+            DataSegmentMode::Active {
+                memory_index: 0,
+                offset,
+            } => (ACTIVE, Lent(offset)).encode(sink),
             DataSegmentMode::Active {
                 memory_index,
                 offset,
-            } => self.active(memory_index, offset, segment.data),
-            DataSegmentMode::Passive => self.passive(segment.data),
+            } => (ACTIVE_IN_MEMORY, memory_index, Lent(offset)).encode(sink),
         }
-    }
-
-    /// Appends an active segment: instantiation copies the bytes into the memory, from the offset
-    /// on.
-    ///
-    /// # Panics
-    ///
-    /// Panics if the section has 4294967295 entries. Panics if the iterator reports more than
-    /// 4294967295 bytes, before one is requested.
-    pub fn active<D>(&mut self, memory_index: u32, offset: &ConstExpr, data: D) -> &mut Self
-    where
-        D: IntoIterator<Item = u8>,
-        D::IntoIter: ExactSizeIterator,
-    {
-        let offset = Lent(offset);
-        if memory_index == 0 {
-            self.with_bytes((ACTIVE, offset), data)
-        } else {
-            self.with_bytes((ACTIVE_IN_MEMORY, memory_index, offset), data)
-        }
-    }
-
-    /// Appends a passive segment, for `memory.init` and `array.new_data`.
-    ///
-    /// # Panics
-    ///
-    /// Panics if the section has 4294967295 entries. Panics if the iterator reports more than
-    /// 4294967295 bytes, before one is requested.
-    pub fn passive<D>(&mut self, data: D) -> &mut Self
-    where
-        D: IntoIterator<Item = u8>,
-        D::IntoIter: ExactSizeIterator,
-    {
-        done(self.0.passive(data));
-        self
-    }
-
-    /// Appends a segment of these first fields and its bytes.
-    #[inline]
-    fn with_bytes<D>(&mut self, front: impl Encode, data: D) -> &mut Self
-    where
-        D: IntoIterator<Item = u8>,
-        D::IntoIter: ExactSizeIterator,
-    {
-        done(self.0.add_once((front, done(bytes_of(data)))));
-        self
-    }
-
-    /// Appends a segment by its encoding. The bytes are not checked.
-    ///
-    /// # Panics
-    ///
-    /// Panics if the section has 4294967295 entries.
-    pub fn raw(&mut self, already_encoded_data_segment: &[u8]) -> &mut Self {
-        done(self.0.raw(already_encoded_data_segment));
-        self
     }
 }
