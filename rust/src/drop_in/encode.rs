@@ -83,7 +83,7 @@ pub trait Section: Encode {
     ///
     /// Panics if a count or length in the section would pass 4294967295.
     fn append_to(&self, dst: &mut Vec<u8>) {
-        dst.push(self.id());
+        self.id().encode(dst);
         self.encode(dst);
     }
 }
@@ -156,12 +156,9 @@ impl<T: Encode + ?Sized> Encode for &T {
 /// Encodes `Some` as the byte 01 and the value, and `None` as the byte 00.
 impl<T: Encode> Encode for Option<T> {
     fn encode(&self, sink: &mut Vec<u8>) {
-        match self {
-            Some(value) => {
-                sink.push(0x01);
-                value.encode(sink);
-            }
-            None => sink.push(0x00),
+        u8::from(self.is_some()).encode(sink);
+        if let Some(value) = self {
+            value.encode(sink);
         }
     }
 }

@@ -123,7 +123,7 @@ impl From<SectionId> for u8 {
 impl Encode for SectionId {
     #[inline]
     fn encode(&self, sink: &mut Vec<u8>) {
-        sink.push(*self as u8);
+        u8::from(*self).encode(sink);
     }
 }
 

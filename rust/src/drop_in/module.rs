@@ -2,6 +2,7 @@
 use super::bytes::append;
 use super::{Encode, Section, default};
 use crate::base;
+use crate::code::const_expr::Stored;
 use crate::reader;
 use alloc_crate::vec::Vec;
 
@@ -137,7 +138,7 @@ impl Section for RawSection<'_> {
 /// Copies the bytes of the section after its id, also a padded size prefix.
 impl Encode for reader::Section<'_> {
     fn encode(&self, sink: &mut Vec<u8>) {
-        sink.extend_from_slice(&self.bytes()[1..])
+        append(&Stored(&self.bytes()[1..]), sink)
     }
 }
 

@@ -14,6 +14,7 @@ from . import root_table
 from .calls_file import calls_file
 from .cases import proved_calls, read
 from .enum_file import instruction_file
+from .own_bytes import check_writes
 from .proved import SOURCES, Layer, layer
 from .root_file import TEXTS, root_file
 from .root_table import ROOT, calls_of, exported
@@ -25,7 +26,8 @@ ROOT_CALLS = "rust/src/drop_in/root_calls.rs"
 
 def by_hand(top: pathlib.Path) -> dict[str, str]:
     """Returns the texts of the files of the root that no tool writes."""
-    files = {"%s" % path.relative_to(top): text_of(path) for path in sorted((top / SOURCES / "drop_in").glob("*.rs"))}
+    paths = [top / SOURCES / "ending.rs", *sorted((top / SOURCES / "drop_in").glob("*.rs"))]
+    files = {path.relative_to(top).as_posix(): text_of(path) for path in paths}
     return {path: text for path, text in files.items() if not text.startswith("// Written by")}
 
 
@@ -55,6 +57,7 @@ def main(words: Sequence[str], usage: str, top: pathlib.Path = TOP) -> int:
         print(usage.split("\n\n")[1], file=sys.stderr)
         return 2
     try:
+        check_writes(by_hand(top))
         files = generated(top)
     except Stop as stop:
         print("drop-in: %s" % stop, file=sys.stderr)
