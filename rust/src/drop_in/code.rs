@@ -9,24 +9,7 @@ use crate::immediates::BlockType;
 use crate::{code, insn};
 use alloc_crate::vec::Vec;
 
-/// Appends instructions to a list of bytes, by a named call for each.
-///
-/// [`Function::instructions`] returns one for a body, and [`InstructionSink::new`] makes one for
-/// any `Vec<u8>`. Each call returns the sink, so that calls form a chain. A call takes the
-/// immediates of its instruction as arguments. An [`Instruction`] is the same as a value.
-///
-/// An instruction is appended as its opcode, and each immediate by the proved `encode` that the
-/// calls of [`fallible::InstructionSink`](crate::fallible::InstructionSink) make too. Blocks and
-/// types are not checked.
-///
-/// ```
-/// use dolzhytik::InstructionSink;
-///
-/// let mut bytes = Vec::new();
-/// InstructionSink::new(&mut bytes).local_get(0).i32_const(64).i32_add().end();
-/// // local.get 0: 20 00. i32.const 64: 41, and 64 as signed LEB128, C0 00. i32.add: 6A. end: 0B.
-/// assert_eq!(bytes, [0x20, 0x00, 0x41, 0xC0, 0x00, 0x6A, 0x0B]);
-/// ```
+#[doc = text!(InstructionSink)]
 #[derive(Debug)]
 pub struct InstructionSink<'a> {
     sink: &'a mut Vec<u8>,
@@ -149,24 +132,7 @@ impl<'a> InstructionSink<'a> {
     }
 }
 
-/// The body of a function: its locals and its instructions.
-///
-/// [`CodeSection::function`] takes it. End it with the instruction `end`, which no call adds.
-/// Parameters are locals too, with the first indices; they are part of the function's type, and not
-/// of its body. The encoding is defined in the core specification, Modules, Code Section.
-///
-/// The proved builder of the same bytes is [`fallible::Function`](crate::fallible::Function), which
-/// converts to this type.
-///
-/// ```
-/// use dolzhytik::{Function, Instruction, ValType};
-///
-/// let mut body = Function::new([(1, ValType::I64)]);
-/// body.instruction(&Instruction::I32Const(7)).instruction(&Instruction::Drop);
-/// body.instructions().nop().end();
-/// // One run of locals: 1 of i64, 7E. i32.const 7: 41 07. drop: 1A. nop: 01. end: 0B.
-/// assert_eq!(body.into_raw_body(), [1, 1, 0x7E, 0x41, 0x07, 0x1A, 0x01, 0x0B]);
-/// ```
+#[doc = text!(Function)]
 #[derive(Clone, Debug, PartialEq, Eq)]
 pub struct Function {
     pub(super) bytes: Vec<u8>,
@@ -258,34 +224,7 @@ impl Encode for Function {
     }
 }
 
-/// The code section: the bodies of the functions that the module defines.
-///
-/// Add one body for each entry of the [`FunctionSection`](super::FunctionSection), in the same
-/// order. [`Module::section`](super::Module::section) takes the section. The encoding is defined in
-/// the core specification, Modules, Code Section.
-///
-/// Its calls are those of the proved
-/// [`fallible::joined::CodeSection`](crate::fallible::joined::CodeSection). To decode a code
-/// section, see [`reader::Section::bodies`](crate::reader::Section::bodies).
-///
-/// ```
-/// use dolzhytik::{CodeSection, Function, Module};
-///
-/// let mut body = Function::new([]);
-/// body.instructions().local_get(0).end();
-/// let mut code = CodeSection::new();
-/// code.function(&body);
-///
-/// let mut module = Module::new();
-/// module.section(&code);
-/// // Id 10, size 6, one body. The body: size 4, no locals, local.get 0 (20 00), end (0B).
-/// assert_eq!(module.as_slice()[8..], [10, 6, 1, 4, 0, 0x20, 0x00, 0x0B]);
-/// ```
-///
-/// # Panics
-///
-/// Its calls panic where the number of bodies, or the size of one, would pass 4294967295. A failed
-/// allocation ends the program.
+#[doc = text!(CodeSection)]
 pub struct CodeSection(pub(super) joined::CodeSection<Root>);
 
 listed!(CodeSection of code Code: CodeSectionIn { entries: NONE });

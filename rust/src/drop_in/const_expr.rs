@@ -13,30 +13,7 @@ use crate::vec::Sink;
 use alloc_crate::vec::Vec;
 use core::fmt;
 
-/// A constant expression: the initial value of a global or a table, the offset of a segment, or an
-/// element.
-///
-/// [`GlobalSection::global`](super::GlobalSection::global),
-/// [`TableSection::table_with_init`](super::TableSection::table_with_init),
-/// [`DataSection::active`](super::DataSection::active),
-/// [`ElementSection::active`](super::ElementSection::active) and
-/// [`Elements::Expressions`](super::Elements::Expressions) take it. Begin with the call of an
-/// instruction, and add others by the calls `with_..`. The encoding appends `end`. The core
-/// specification defines it in Instructions, Expressions, and which instructions are constant in
-/// Validation, Constant Expressions. That is not checked.
-///
-/// It has the size of a vector. One instruction of a number or a type, and up to 15 bytes of
-/// instructions, take no allocation. The proved builder of the same bytes is
-/// [`fallible::ConstExpr`](crate::fallible::ConstExpr), which converts to this type.
-///
-/// ```
-/// use dolzhytik::{ConstExpr, Encode};
-///
-/// let mut bytes = Vec::new();
-/// ConstExpr::global_get(0).with_i32_const(8).with_i32_add().encode(&mut bytes);
-/// // global.get 0: 23 00. i32.const 8: 41 08. i32.add: 6A. end: 0B.
-/// assert_eq!(bytes, [0x23, 0x00, 0x41, 0x08, 0x6A, 0x0B]);
-/// ```
+#[doc = text!(ConstExpr)]
 #[derive(Clone)]
 pub struct ConstExpr(Instructions);
 

@@ -6,22 +6,7 @@ use crate::sections::{GlobalType, MemoryType, TableType};
 use alloc_crate::borrow::Cow;
 use alloc_crate::vec::Vec;
 
-/// The type of an imported item, which [`ImportSection::import`] takes.
-///
-/// [`TableType`], [`MemoryType`], [`GlobalType`] and [`TagType`] convert to it, so that the call
-/// takes them too. The core specification defines it as `externtype`, in Types, External Types.
-///
-/// ```
-/// use dolzhytik::{Encode, EntityType, ImportSection, TagKind, TagType};
-///
-/// let mut imports = ImportSection::new();
-/// imports.import("m", "f", EntityType::Function(5));
-/// imports.import("m", "t", TagType { kind: TagKind::Exception, func_type_idx: 6 });
-/// let mut bytes = Vec::new();
-/// imports.encode(&mut bytes);
-/// // Size 14, two imports: "m", "f", a function (00) of type 5; "m", "t", a tag (04 00) of type 6.
-/// assert_eq!(bytes, *b"\x0E\x02\x01m\x01f\0\x05\x01m\x01t\x04\0\x06");
-/// ```
+#[doc = text!(EntityType)]
 #[derive(Clone, Copy, Debug, PartialEq, Eq)]
 pub enum EntityType {
     /// A function whose type has this index.
@@ -38,22 +23,7 @@ pub enum EntityType {
     FunctionExact(u32),
 }
 
-/// An import: the names of a module and of an item, and the item's type. It is a case of
-/// [`Imports`].
-///
-/// [`ImportSection::import`] takes the fields instead.
-///
-/// ```
-/// use dolzhytik::{Encode, EntityType, Import, ImportSection, Imports};
-///
-/// let mut imports = ImportSection::new();
-/// let import = Import { module: "m", name: "f", ty: EntityType::Function(5) };
-/// imports.imports(Imports::Single(import));
-/// let mut bytes = Vec::new();
-/// imports.encode(&mut bytes);
-/// // Size 7, one import: "m", "f", a function (00) of type 5.
-/// assert_eq!(bytes, *b"\x07\x01\x01m\x01f\0\x05");
-/// ```
+#[doc = text!(Import)]
 #[derive(Clone, Debug)]
 pub struct Import<'a> {
     /// The name of the module.
@@ -64,19 +34,7 @@ pub struct Import<'a> {
     pub ty: EntityType,
 }
 
-/// An item of [`Imports::Compact1`]: its name, and its type.
-///
-/// ```
-/// use dolzhytik::{Encode, EntityType, ImportCompact, ImportSection, Imports};
-///
-/// let mut imports = ImportSection::new();
-/// let items = vec![ImportCompact { name: "f", ty: EntityType::Function(5) }];
-/// imports.imports(Imports::Compact1 { module: "m", items: items.into() });
-/// let mut bytes = Vec::new();
-/// imports.encode(&mut bytes);
-/// // Size 10, one entry: "m", an empty name and 7F, one item: "f", a function (00) of type 5.
-/// assert_eq!(bytes, *b"\x0A\x01\x01m\0\x7F\x01\x01f\0\x05");
-/// ```
+#[doc = text!(ImportCompact)]
 #[derive(Clone, Debug)]
 pub struct ImportCompact<'a> {
     /// The name of the item.
@@ -85,25 +43,7 @@ pub struct ImportCompact<'a> {
     pub ty: EntityType,
 }
 
-/// An entry of the import section, which [`ImportSection::imports`] takes: one import, or several
-/// of one module.
-///
-/// Entries of several imports are a proposal, and not part of the core specification.
-///
-/// ```
-/// use dolzhytik::{Encode, EntityType, ImportSection, Imports};
-///
-/// let mut imports = ImportSection::new();
-/// imports.imports(Imports::Compact2 {
-///     module: "m",
-///     ty: EntityType::Function(0),
-///     names: vec!["a", "b"].into(),
-/// });
-/// let mut bytes = Vec::new();
-/// imports.encode(&mut bytes);
-/// // Size 12, one entry: "m", an empty name and 7E, a function (00) of type 0, two names.
-/// assert_eq!(bytes, *b"\x0C\x01\x01m\0\x7E\0\0\x02\x01a\x01b");
-/// ```
+#[doc = text!(Imports)]
 #[derive(Clone, Debug)]
 pub enum Imports<'a> {
     /// One import.

@@ -3,18 +3,7 @@ use super::{Encode, by_proved};
 use crate::{base, sections};
 use alloc_crate::vec::Vec;
 
-/// The id of a section: core specification, Modules, Sections.
-///
-/// [`Section::id`](super::Section::id) returns it as a byte, and [`RawSection`](super::RawSection)
-/// takes one.
-///
-/// ```
-/// use dolzhytik::SectionId::{self, *};
-///
-/// assert_eq!(Type as u8, 1);
-/// assert_eq!(u8::from(SectionId::DataCount), 12);
-/// assert!([Import, Function].iter().all(|id| *id < Code));
-/// ```
+#[doc = text!(SectionId)]
 #[derive(Clone, Copy, Debug, PartialEq, Eq, PartialOrd, Ord)]
 #[repr(u8)]
 pub enum SectionId {
@@ -48,16 +37,7 @@ pub enum SectionId {
     Tag = 13,
 }
 
-/// The kind of an exported item, which [`ExportSection::export`](super::ExportSection::export)
-/// takes.
-///
-/// Core specification, Modules, Export Section.
-///
-/// ```
-/// use dolzhytik::ExportKind;
-///
-/// assert_eq!(ExportKind::Memory as u8, 2);
-/// ```
+#[doc = text!(ExportKind)]
 #[derive(Clone, Copy, Debug, PartialEq, Eq, Hash)]
 #[repr(u8)]
 pub enum ExportKind {
@@ -73,18 +53,7 @@ pub enum ExportKind {
     Tag = base::CORE_TAG_SORT,
 }
 
-/// The kind of a tag, a field of [`TagType`]. Exceptions are the only kind.
-///
-/// ```
-/// use dolzhytik::{Encode, TagKind, TagSection, TagType};
-///
-/// let mut tags = TagSection::new();
-/// tags.tag(TagType { kind: TagKind::Exception, func_type_idx: 5 });
-/// let mut bytes = Vec::new();
-/// tags.encode(&mut bytes);
-/// // Size 3, one tag: an exception (00) of type 5.
-/// assert_eq!(bytes, [3, 1, 0x00, 5]);
-/// ```
+#[doc = text!(TagKind)]
 #[derive(Clone, Copy, Debug, PartialEq, Eq)]
 #[repr(u8)]
 pub enum TagKind {
@@ -92,18 +61,7 @@ pub enum TagKind {
     Exception = 0,
 }
 
-/// The type of a tag, which [`TagSection::tag`](super::TagSection::tag) takes, and
-/// [`EntityType::Tag`](super::EntityType::Tag) for an imported one.
-///
-/// Core specification, Types, Tag Types.
-///
-/// ```
-/// use dolzhytik::{TagKind, TagSection, TagType};
-///
-/// let mut tags = TagSection::new();
-/// tags.tag(TagType { kind: TagKind::Exception, func_type_idx: 0 });
-/// assert_eq!(tags.len(), 1);
-/// ```
+#[doc = text!(TagType)]
 #[derive(Clone, Copy, Debug, PartialEq, Eq)]
 pub struct TagType {
     /// The kind of the tag.

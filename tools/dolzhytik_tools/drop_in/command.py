@@ -10,18 +10,17 @@ from ..errors import Stop
 from ..instructions.table import TABLE
 from ..repository import TOP, text_of
 from ..to_rust.beside import parsed
-from . import root_table
+from . import exports, root_table
 from .calls_file import calls_file
 from .cases import proved_calls, read
 from .enum_file import instruction_file
 from .own_bytes import check_writes
 from .proved import SOURCES, Layer, layer
-from .root_file import TEXTS, root_file
-from .root_table import ROOT, calls_of, exported
+from .root_file import root_file
+from .root_table import calls_of
 from .test_file import test_file
 
 SINK = "rust/src/insn/sink.rs"
-ROOT_CALLS = "rust/src/drop_in/root_calls.rs"
 
 
 def by_hand(top: pathlib.Path) -> dict[str, str]:
@@ -31,12 +30,18 @@ def by_hand(top: pathlib.Path) -> dict[str, str]:
     return {path: text for path, text in files.items() if not text.startswith("// Written by")}
 
 
-def generated_calls(top: pathlib.Path) -> str:
-    """Returns the text of the calls of the root's types."""
-    root = exported(text_of(top / ROOT))
+def root_files(top: pathlib.Path) -> dict[str, str]:
+    """Returns the text of the files of the root's names, their documentation, and their calls."""
+    named = exports.read(text_of(top / exports.TABLE))
+    texts = parsed(exports.TEXTS, text_of(top / exports.TEXTS))
+    root = frozenset(it.name for it in named)
     rows = root_table.read(text_of(top / root_table.TABLE), root)
     known = {(it.owner.name, it.name) for text in by_hand(top).values() for it in Layer([text]).calls}
-    return root_file(calls_of(rows, layer(top), known), parsed(TEXTS, text_of(top / TEXTS)), root)
+    return {
+        "rust/src/drop_in/names.rs": exports.names_file(named),
+        "rust/src/drop_in/root_calls.rs": root_file(calls_of(rows, layer(top), known), texts, root),
+        "rust/src/drop_in/texts.rs": exports.texts_file(named, texts),
+    }
 
 
 def generated(top: pathlib.Path) -> dict[str, str]:
@@ -46,8 +51,8 @@ def generated(top: pathlib.Path) -> dict[str, str]:
     return {
         "rust/src/drop_in/instruction.rs": instruction_file(cases),
         "rust/src/drop_in/calls.rs": calls_file(cases, proved),
-        ROOT_CALLS: generated_calls(top),
         "rust/tests/drop_in/cases.rs": test_file(cases),
+        **root_files(top),
     }
 
 

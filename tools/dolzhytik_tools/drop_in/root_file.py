@@ -13,7 +13,6 @@ from .root_table import TABLE, Call, Parameter, Row
 
 HEAD = "// Written by tools/drop-in from %s and the proved calls: change these.\n" % TABLE
 ABOUT = "//! The calls of the root's types, each over a proved call.\n\n"
-TEXTS = "tools/rustdoc/root.md"
 # The columns of a line, as rustfmt has them.
 COLUMNS = 100
 # What the doc comment of a proved call says of an error, and when the root then panics.
@@ -200,7 +199,8 @@ def imported(path: str, names: list[str]) -> str:
 def root_file(calls: list[Call], texts: dict[str, Text], root: frozenset[str]) -> str:
     """Returns the file."""
     for name in texts.keys() - {call.name for call in calls}:
-        raise Stop("%s: no row has %s" % (texts[name].where, name))
+        if "::" in name:
+            raise Stop("%s: no row has %s" % (texts[name].where, name))
     items = []
     for call in calls:
         text = texts.get(call.name, Text(""))

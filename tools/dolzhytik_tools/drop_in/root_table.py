@@ -10,9 +10,6 @@ from .proved import MODULES, Layer, Proved, group_end, split
 
 TABLE = "tools/root-calls.tsv"
 HEAD = "types\tcall\texpression\tattributes"
-# The file that has the names of the root, and how it exports one.
-ROOT = "rust/src/drop_in/mod.rs"
-EXPORTED = re.compile(r"^pub use [\w:]+::(?:(\w+)|\{([\w, ]+)\});$", re.MULTILINE)
 ATTRIBUTE = re.compile(r'#\[inline\]|#\[must_use = "[^"]+"\]')
 # The forms of an expression: a call of the proved value, or of a part of it, a proved function or
 # constant, and another call of the root.
@@ -102,12 +99,6 @@ def rows_of(where: str, line: str) -> list[Row]:
         raise Stop("%s: unknown attribute %s" % (where, attributes))
     parts = head_of(where, call)
     return [Row(where, of, *parts, expression, attributes) for of in types.split(" ")]
-
-
-def exported(text: str) -> frozenset[str]:
-    """Returns the names that the root exports."""
-    found = [name or names for name, names in EXPORTED.findall(text)]
-    return frozenset(name for names in found for name in names.split(", "))
 
 
 def check(row: Row, root: frozenset[str]) -> None:

@@ -9,15 +9,15 @@ import tempfile
 
 from ..drop_in.calls_file import documentation as documentation_of_call
 from ..drop_in.cases import Case, proved_calls, read
-from ..drop_in import root_table
-from ..drop_in.command import SINK, by_hand, generated_calls
+from ..drop_in import exports, root_table
+from ..drop_in.command import SINK, by_hand, root_files
 from ..drop_in.command import main as main_of_tool
 from ..drop_in.effects import effect_of
 from ..drop_in.enum_file import documentation, instruction_file
 from ..drop_in.own_bytes import ALLOWED, check_writes
 from ..drop_in.proved import MODULES, SOURCES, layer
-from ..drop_in.root_file import TEXTS, root_file
-from ..drop_in.root_table import Call, calls_of, exported, head_of
+from ..drop_in.root_file import root_file
+from ..drop_in.root_table import Call, calls_of, head_of
 from ..drop_in.standard import class_of, field
 from ..drop_in.test_file import test_file
 from ..errors import Stop
@@ -111,7 +111,8 @@ STOPPED = (
 
 def calls(line: str) -> list[Call]:
     """Returns the calls of a table of one line."""
-    rows = root_table.read(f"{root_table.HEAD}\n{line}\n", exported(text_of(TOP / root_table.ROOT)))
+    root = frozenset(it.name for it in exports.read(text_of(TOP / exports.TABLE)))
+    rows = root_table.read(f"{root_table.HEAD}\n{line}\n", root)
     return calls_of(rows, layer(TOP), set())
 
 
@@ -161,7 +162,30 @@ def contract_trouble() -> str | None:
         return "it does not say that another call is proved"
     if head_of("", "f<T>(self, list: [T; 2]) -> Map<u8, T> where T: Fn(u8) -> u8, T: Copy")[4:] != ("Map<u8, T>", ["T: Fn(u8) -> u8", "T: Copy"]):
         return "another signature"
-    return None if "impl TagSection {" in generated_calls(TOP) else "the table has no calls of tags"
+    return None if "impl TagSection {" in root_files(TOP)["rust/src/drop_in/root_calls.rs"] else "the table has no calls of tags"
+
+
+def exports_trouble() -> str | None:
+    """The root exports each name once, with its words. Only its own names have texts there."""
+    head = exports.HEAD + "\n"
+    named = exports.read(head + "Tag\tkinds\tevent, throw\nTags\tcrate::base\n")
+    if not exports.names_file(named).endswith('#[doc(alias = "event")]\n#[doc(alias = "throw")]\npub use super::kinds::Tag;\npub use crate::base::Tags;\n'):
+        return "other exports"
+    if '    (Tag) => {\n        r##"A tag."##\n    };\n' not in exports.texts_file(named, {"Tag": Text("", [], {}, ["A tag."]), "Tag::new": Text("")}):
+        return "another text"
+    stopped = (
+        lambda: exports.read(head + "Tag\tkinds\nTag\tkinds\n"),
+        lambda: exports.read(head + "Tag\n"),
+        lambda: exports.texts_file(named, {"Tags": Text("")}),
+        lambda: exports.texts_file(named, {"Tag": Text("", ["event"])}),
+    )
+    for place, stops in enumerate(stopped):
+        try:
+            stops()
+        except Stop:
+            continue
+        return f"case {place} was not stopped at"
+    return None
 
 
 # Lines that write bytes. None is in the list of those that may.
@@ -197,7 +221,7 @@ def own_bytes_trouble() -> str | None:
 
 def copy_inputs(top: pathlib.Path) -> None:
     """Copies what the tool reads."""
-    paths = [TABLE, SINK, root_table.TABLE, TEXTS, *by_hand(TOP)]
+    paths = [TABLE, SINK, root_table.TABLE, exports.TABLE, exports.TEXTS, *by_hand(TOP)]
     paths += [it.relative_to(TOP).as_posix() for module in MODULES for it in (TOP / SOURCES / module).glob("*.rs")]
     for path in paths:
         (top / path).parent.mkdir(parents=True, exist_ok=True)
@@ -220,6 +244,6 @@ def main() -> int:
     """Runs the tests."""
     troubles = {
         "touched files": check_trouble, "the proved sink": proved_trouble, "matches": match_trouble, "doc comments": said_trouble,
-        "rows of calls at the root": rows_trouble, "contracts at the root": contract_trouble, "bytes by hand": own_bytes_trouble,
+        "rows of calls at the root": rows_trouble, "contracts at the root": contract_trouble, "names of the root": exports_trouble, "bytes by hand": own_bytes_trouble,
     }
     return end([report("drop-in-test", name, trouble()) for name, trouble in troubles.items()])
