@@ -1,13 +1,12 @@
 //! Constant expressions.
 use super::bytes::Bytes;
 use super::{Encode, Instruction, done};
-use crate::base::{self, HeapType, Result};
+use crate::base::{self, Result};
 use crate::code;
 use crate::code::const_expr::{Stored, function_at_front};
 use crate::code::expression::END;
 use crate::code::first::First;
 use crate::ending::{FEW, Growing};
-use crate::immediates::{Ieee32, Ieee64};
 use crate::insn::InstructionSink;
 use crate::vec::Sink;
 use alloc_crate::vec::Vec;
@@ -62,36 +61,6 @@ impl fmt::Debug for ConstExpr {
     }
 }
 
-/// Defines the calls that begin with an instruction, and those that append it.
-macro_rules! instructions {
-    ($($new:ident $with:ident $case:ident($name:ident: $type:ty))*) => {
-        $(
-            #[doc = concat!("Returns the expression of one instruction, [`Instruction::", stringify!($case), "`].")]
-            #[inline]
-            pub const fn $new($name: $type) -> Self {
-                ConstExpr(Instructions::One(First::$case($name)))
-            }
-
-            #[doc = concat!("Appends [`Instruction::", stringify!($case), "`].")]
-            pub fn $with(self, $name: $type) -> Self {
-                self.with_first(First::$case($name))
-            }
-        )*
-    };
-}
-
-/// Defines the calls that append an instruction without immediates.
-macro_rules! operations {
-    ($($with:ident $call:ident $case:ident)*) => {
-        $(
-            #[doc = concat!("Appends [`Instruction::", stringify!($case), "`].")]
-            pub fn $with(self) -> Self {
-                self.with(|sink| sink.$call())
-            }
-        )*
-    };
-}
-
 impl ConstExpr {
     /// Returns the expression without instructions, to which calls `with_..` append.
     pub const fn empty() -> Self {
@@ -136,15 +105,24 @@ impl ConstExpr {
         ConstExpr(Instructions::Encoded(bytes.into()))
     }
 
+    /// Returns the expression of an instruction of a number or a type.
+    #[inline]
+    pub(super) const fn one(instruction: First) -> Self {
+        ConstExpr(Instructions::One(instruction))
+    }
+
     /// Appends an instruction of a number or a type by its proved `encode`.
-    fn with_first(self, instruction: First) -> Self {
+    pub(super) fn with_first(self, instruction: First) -> Self {
         let mut bytes = self.into_bytes();
         done(base::Encode::encode(&instruction, &mut bytes));
         ConstExpr(Instructions::Encoded(bytes))
     }
 
     /// Appends by a proved call.
-    fn with(self, call: impl FnOnce(&mut InstructionSink<'_, Bytes>) -> Result<()>) -> Self {
+    pub(super) fn with(
+        self,
+        call: impl FnOnce(&mut InstructionSink<'_, Bytes>) -> Result<()>,
+    ) -> Self {
         let mut bytes = self.into_bytes();
         done(call(&mut InstructionSink::new(&mut bytes)));
         ConstExpr(Instructions::Encoded(bytes))
@@ -161,35 +139,6 @@ impl ConstExpr {
             }
             Instructions::Encoded(bytes) => bytes,
         }
-    }
-
-    instructions! {
-        global_get with_global_get GlobalGet(index: u32)
-        ref_null with_ref_null RefNull(ty: HeapType)
-        ref_func with_ref_func RefFunc(func: u32)
-        i32_const with_i32_const I32Const(value: i32)
-        i64_const with_i64_const I64Const(value: i64)
-        f32_const with_f32_const F32Const(value: Ieee32)
-        f64_const with_f64_const F64Const(value: Ieee64)
-    }
-
-    /// Returns the expression of one instruction, [`Instruction::V128Const`].
-    pub fn v128_const(value: i128) -> Self {
-        ConstExpr::empty().with_v128_const(value)
-    }
-
-    /// Appends [`Instruction::V128Const`].
-    pub fn with_v128_const(self, value: i128) -> Self {
-        self.with(|sink| sink.v128_const(value))
-    }
-
-    operations! {
-        with_i32_add i32_add I32Add
-        with_i32_sub i32_sub I32Sub
-        with_i32_mul i32_mul I32Mul
-        with_i64_add i64_add I64Add
-        with_i64_sub i64_sub I64Sub
-        with_i64_mul i64_mul I64Mul
     }
 
     /// Returns the index of the function if the expression begins with `ref.func`.

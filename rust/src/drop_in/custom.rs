@@ -1,7 +1,7 @@
 //! Custom sections, and the lists that they hold.
 use super::bytes::append;
 use super::debug::{self, Before, debugged};
-use super::{Encode, Section, SectionId, copied, default, encoded, section, taken};
+use super::{Encode, copied, default, encoded, identified, section, taken};
 use crate::base::{CowSlice, CowStr};
 use crate::custom::{self, joined};
 use crate::ending::Root;
@@ -30,11 +30,7 @@ impl Encode for CustomSection<'_> {
     }
 }
 
-impl Section for CustomSection<'_> {
-    fn id(&self) -> u8 {
-        SectionId::Custom.into()
-    }
-}
+identified!(CustomSection<'_>: Custom);
 
 /// Converts a section of the proved calls. Only an owned name is copied.
 impl<'a> From<custom::CustomSection<'a>> for CustomSection<'a> {

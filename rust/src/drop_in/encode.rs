@@ -1,7 +1,7 @@
 //! The traits of values and sections that have an encoding.
 use super::bytes::append;
 use super::short::{put_number, put_short};
-use super::{SectionId, done};
+use super::{done, identified};
 use crate::base;
 use crate::base::{AbstractHeapType, HeapType, RefType, ValType};
 use crate::custom::{CoreDumpValue, RawCustomSection};
@@ -115,26 +115,7 @@ impl<T: Encode> Encode for Option<T> {
     }
 }
 
-impl Section for StartSection {
-    #[inline]
-    fn id(&self) -> u8 {
-        SectionId::Start.into()
-    }
-}
-
-impl Section for DataCountSection {
-    #[inline]
-    fn id(&self) -> u8 {
-        SectionId::DataCount.into()
-    }
-}
-
-impl Section for RawCustomSection<'_> {
-    #[inline]
-    fn id(&self) -> u8 {
-        SectionId::Custom.into()
-    }
-}
+identified!(StartSection: Start, DataCountSection: DataCount, RawCustomSection<'_>: Custom);
 
 #[doc = text!(encode_section)]
 pub fn encode_section(sink: &mut Vec<u8>, count: u32, bytes: &[u8]) {

@@ -1,5 +1,5 @@
 //! The import section, and the types of imported items.
-use super::{ImportSection, TagType, by_proved, done, handed};
+use super::{ImportSection, TagType, by_proved, done, handed, same_cases, same_fields};
 use crate::ending::Root;
 use crate::sections;
 use crate::sections::{GlobalType, MemoryType, TableType};
@@ -115,49 +115,14 @@ macro_rules! entities {
 
 entities! { Table(TableType) Memory(MemoryType) Global(GlobalType) Tag(TagType) }
 
-/// Implements a conversion between two types of entities, which have the same cases.
-macro_rules! same_entities {
-    ($from:path => $to:path) => {
-        impl From<$from> for $to {
-            #[inline]
-            fn from(ty: $from) -> Self {
-                use $from as Given;
-                match ty {
-                    Given::Function(index) => Self::Function(index),
-                    Given::Table(ty) => Self::Table(ty),
-                    Given::Memory(ty) => Self::Memory(ty),
-                    Given::Global(ty) => Self::Global(ty),
-                    Given::Tag(ty) => Self::Tag(ty.into()),
-                    Given::FunctionExact(index) => Self::FunctionExact(index),
-                }
-            }
-        }
-    };
+same_cases! {
+    EntityType of sections {
+        Function(index) = Function, Table(ty) = Table, Memory(ty) = Memory, Global(ty) = Global,
+        Tag(ty) = Tag, FunctionExact(index) = FunctionExact
+    }
 }
 
-same_entities!(EntityType => sections::EntityType);
-same_entities!(sections::EntityType => EntityType);
-
-/// Implements the conversions between a record and the proved one, which have the same fields and
-/// an entity type.
-macro_rules! same_fields {
-    ($($name:ident { $($field:ident),* })*) => {
-        $(
-            impl<'a> From<$name<'a>> for sections::$name<'a> {
-                #[inline]
-                fn from(import: $name<'a>) -> Self {
-                    Self { ty: import.ty.into(), $($field: import.$field),* }
-                }
-            }
-
-            impl<'a> From<sections::$name<'a>> for $name<'a> {
-                #[inline]
-                fn from(import: sections::$name<'a>) -> Self {
-                    Self { ty: import.ty.into(), $($field: import.$field),* }
-                }
-            }
-        )*
-    };
+same_fields! {
+    Import<'a> of sections { module, name, ty }
+    ImportCompact<'a> of sections { name, ty }
 }
-
-same_fields! { Import { module, name } ImportCompact { name } }

@@ -1,5 +1,5 @@
 //! The kinds of sections, exports and tags: enums of one byte, with the crate's cases and numbers.
-use super::{Encode, by_proved};
+use super::{Encode, by_proved, same_cases, same_fields};
 use crate::{base, sections};
 use alloc_crate::vec::Vec;
 
@@ -87,77 +87,16 @@ impl Encode for SectionId {
 
 by_proved! { sections: ExportKind TagType }
 
-/// Implements the conversions between an enum and the proved one, by pairs of cases. Both have the
-/// same numbers, so that a conversion compiles to nothing.
-macro_rules! same_cases {
-    ($($name:ident of $module:ident { $($case:ident = $proved:ident),* })*) => {
-        $(
-            impl From<$name> for $module::$name {
-                #[inline]
-                fn from(value: $name) -> Self {
-                    match value {
-                        $($name::$case => Self::$proved,)*
-                    }
-                }
-            }
-
-            impl From<$module::$name> for $name {
-                #[inline]
-                fn from(value: $module::$name) -> Self {
-                    match value {
-                        $($module::$name::$proved => Self::$case,)*
-                    }
-                }
-            }
-        )*
-    };
-}
-
 same_cases! {
     SectionId of base {
-        Custom = Custom,
-        Type = Types,
-        Import = Import,
-        Function = Function,
-        Table = Table,
-        Memory = Memory,
-        Global = Global,
-        Export = Export,
-        Start = Start,
-        Element = Element,
-        Code = Code,
-        Data = Data,
-        DataCount = DataCount,
-        Tag = Tag
+        Custom = Custom, Type = Types, Import = Import, Function = Function, Table = Table,
+        Memory = Memory, Global = Global, Export = Export, Start = Start, Element = Element,
+        Code = Code, Data = Data, DataCount = DataCount, Tag = Tag
     }
     ExportKind of sections {
-        Func = Func,
-        Table = Table,
-        Memory = Memory,
-        Global = Global,
-        Tag = Tag
+        Func = Func, Table = Table, Memory = Memory, Global = Global, Tag = Tag
     }
-    TagKind of sections {
-        Exception = Exception
-    }
+    TagKind of sections { Exception = Exception }
 }
 
-impl From<TagType> for sections::TagType {
-    #[inline]
-    fn from(ty: TagType) -> Self {
-        sections::TagType {
-            kind: ty.kind.into(),
-            func_type_idx: ty.func_type_idx,
-        }
-    }
-}
-
-impl From<sections::TagType> for TagType {
-    #[inline]
-    fn from(ty: sections::TagType) -> Self {
-        TagType {
-            kind: ty.kind.into(),
-            func_type_idx: ty.func_type_idx,
-        }
-    }
-}
+same_fields! { TagType of sections { kind, func_type_idx } }

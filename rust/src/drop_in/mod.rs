@@ -175,12 +175,62 @@ macro_rules! by_proved {
     };
 }
 
-/// Implements `Section` and `Encode` over a proved section.
-macro_rules! section {
-    ($($name:ident of $id:ident),*) => {
+/// Implements the conversions between an enum and the proved one of its name, by pairs of cases. The
+/// numbers and the values of both are the same, so that a conversion compiles to nothing.
+macro_rules! same_cases {
+    ($($name:ident of $module:ident { $($case:ident $(($value:ident))? = $proved:ident),* })*) => {
         $(
-            $crate::drop_in::encoded!($name);
+            impl From<$name> for $module::$name {
+                #[inline]
+                fn from(value: $name) -> Self {
+                    match value {
+                        $($name::$case $(($value))? => Self::$proved $(($value.into()))?,)*
+                    }
+                }
+            }
 
+            impl From<$module::$name> for $name {
+                #[inline]
+                fn from(value: $module::$name) -> Self {
+                    match value {
+                        $($module::$name::$proved $(($value))? => Self::$case $(($value.into()))?,)*
+                    }
+                }
+            }
+        )*
+    };
+}
+
+/// Implements the conversions between a struct and the proved one of its name, which has the same
+/// fields: both, or the one `to` the proved struct.
+macro_rules! same_fields {
+    ([$($life:lifetime)?] $from:ty => $to:ty { $($field:ident),* }) => {
+        impl<$($life)?> From<$from> for $to {
+            #[inline]
+            fn from(value: $from) -> Self {
+                Self { $($field: value.$field.into()),* }
+            }
+        }
+    };
+    ($($name:ident to $module:ident $fields:tt)*) => {
+        $($crate::drop_in::same_fields! { [] $name => $module::$name $fields })*
+    };
+    ($($name:ident $(<$life:lifetime>)? of $module:ident $fields:tt)*) => {
+        $(
+            $crate::drop_in::same_fields! {
+                [$($life)?] $name $(<$life>)? => $module::$name $(<$life>)? $fields
+            }
+            $crate::drop_in::same_fields! {
+                [$($life)?] $module::$name $(<$life>)? => $name $(<$life>)? $fields
+            }
+        )*
+    };
+}
+
+/// Implements `Section` by the id of a section.
+macro_rules! identified {
+    ($($name:ty: $id:ident),*) => {
+        $(
             impl $crate::drop_in::Section for $name {
                 #[inline]
                 fn id(&self) -> u8 {
@@ -188,6 +238,14 @@ macro_rules! section {
                 }
             }
         )*
+    };
+}
+
+/// Implements `Section` and `Encode` over a proved section.
+macro_rules! section {
+    ($($name:ident of $id:ident),*) => {
+        $crate::drop_in::encoded!($($name),*);
+        $crate::drop_in::identified!($($name: $id),*);
     };
 }
 
@@ -227,4 +285,7 @@ macro_rules! listed {
     };
 }
 
-use {by_proved, copied, default, encoded, listed, section, taken};
+use {
+    by_proved, copied, default, encoded, identified, listed, same_cases, same_fields, section,
+    taken,
+};

@@ -6,10 +6,10 @@ use super::{
     CoreDumpModulesSection, CoreDumpSection, CoreDumpStackSection, CoreDumpValue, CoreTypeEncoder,
     CustomSection, DataSection, DataSegment, DataSegmentMode, DataSymbolDefinition, ElementMode,
     ElementSection, ElementSegment, Elements, EntityType, ExportKind, ExportSection, FieldType,
-    FuncType, Function, FunctionSection, GlobalSection, GlobalType, ImportSection, Imports,
-    IndirectNameMap, LinkingSection, MemorySection, MemoryType, Module, NameMap, NameSection,
-    ProducersField, ProducersSection, StorageType, SubType, SymbolTable, TableSection, TableType,
-    TagSection, TagType, TypeSection, ValType, done,
+    FuncType, Function, FunctionSection, GlobalSection, GlobalType, HeapType, Ieee32, Ieee64,
+    ImportSection, Imports, IndirectNameMap, LinkingSection, MemorySection, MemoryType, Module,
+    NameMap, NameSection, ProducersField, ProducersSection, StorageType, SubType, SymbolTable,
+    TableSection, TableType, TagSection, TagType, TypeSection, ValType, done,
 };
 use super::custom::MARK;
 use super::later::Later;
@@ -17,6 +17,7 @@ use super::sections::{Front, Given};
 use crate::{base, code, custom, types};
 use crate::alloc::Global;
 use crate::base::{Lent, Store, bytes_of};
+use crate::code::first::First;
 use crate::sections::table::BEFORE_INIT;
 use crate::types::types::FUNC;
 use alloc_crate::string::String;
@@ -175,7 +176,7 @@ impl TableSection {
     ///
     /// The contract of
     /// [`fallible::TableSection::table_with_init`](crate::fallible::TableSection#method.table_with_init).
-    /// This call appends the same bytes, as tests show. Where that returns an error, this call
+    /// This call leads to the same bytes, as tests show. Where that returns an error, this call
     /// panics. In the clauses, `S` is [`Entries`](crate::fallible::Entries).
     ///
     /// The builder gains one entry with this encoding, or the call returns an error and changes nothing. A full builder, with 2^32 - 1 entries, returns `TooLong`.
@@ -362,8 +363,8 @@ impl GlobalSection {
     ///
     /// The contract of
     /// [`fallible::GlobalSection::global`](crate::fallible::GlobalSection#method.global). This call
-    /// appends the same bytes, as tests show. Where that returns an error, this call panics. In the
-    /// clauses, `S` is [`Entries`](crate::fallible::Entries), and `init` is `init_expr`.
+    /// leads to the same bytes, as tests show. Where that returns an error, this call panics. In
+    /// the clauses, `S` is [`Entries`](crate::fallible::Entries), and `init` is `init_expr`.
     ///
     /// The builder gains one entry with this encoding, or the call returns an error and changes nothing. A full builder, with 2^32 - 1 entries, returns `TooLong`.
     ///
@@ -549,8 +550,8 @@ impl ImportSection {
     ///
     /// The contract of
     /// [`fallible::ImportSection::import`](crate::fallible::ImportSection#method.import). This call
-    /// appends the same bytes, as tests show. Where that returns an error, this call panics. In the
-    /// clauses, `S` is [`Entries`](crate::fallible::Entries).
+    /// leads to the same bytes, as tests show. Where that returns an error, this call panics. In
+    /// the clauses, `S` is [`Entries`](crate::fallible::Entries).
     ///
     /// The builder gains one entry with this encoding, or the call returns an error and changes nothing. A full builder, with 2^32 - 1 entries, returns `TooLong`.
     ///
@@ -617,7 +618,7 @@ impl ElementSection {
     ///
     /// The contract of
     /// [`fallible::ElementSection::segment`](crate::fallible::ElementSection#method.segment). This
-    /// call appends the same bytes, as tests show. Where that returns an error, this call panics.
+    /// call leads to the same bytes, as tests show. Where that returns an error, this call panics.
     /// In the clauses, `S` is [`Entries`](crate::fallible::Entries).
     ///
     /// The builder gains one entry with this encoding, or the call returns an error and changes nothing. A full builder, with 2^32 - 1 entries, returns `TooLong`.
@@ -646,7 +647,7 @@ impl ElementSection {
     ///
     /// The contract of
     /// [`fallible::ElementSection::active`](crate::fallible::ElementSection#method.active). This
-    /// call appends the same bytes, as tests show. Where that returns an error, this call panics.
+    /// call leads to the same bytes, as tests show. Where that returns an error, this call panics.
     /// In the clauses, `S` is [`Entries`](crate::fallible::Entries), and `table` is `table_index`.
     ///
     /// The builder gains one entry with this encoding, or the call returns an error and changes nothing. A full builder, with 2^32 - 1 entries, returns `TooLong`.
@@ -682,7 +683,7 @@ impl ElementSection {
     ///
     /// The contract of
     /// [`fallible::ElementSection::passive`](crate::fallible::ElementSection#method.passive). This
-    /// call appends the same bytes, as tests show. Where that returns an error, this call panics.
+    /// call leads to the same bytes, as tests show. Where that returns an error, this call panics.
     /// In the clauses, `S` is [`Entries`](crate::fallible::Entries).
     ///
     /// The builder gains one entry with this encoding, or the call returns an error and changes nothing. A full builder, with 2^32 - 1 entries, returns `TooLong`.
@@ -710,7 +711,7 @@ impl ElementSection {
     ///
     /// The contract of
     /// [`fallible::ElementSection::declared`](crate::fallible::ElementSection#method.declared).
-    /// This call appends the same bytes, as tests show. Where that returns an error, this call
+    /// This call leads to the same bytes, as tests show. Where that returns an error, this call
     /// panics. In the clauses, `S` is [`Entries`](crate::fallible::Entries).
     ///
     /// The builder gains one entry with this encoding, or the call returns an error and changes nothing. A full builder, with 2^32 - 1 entries, returns `TooLong`.
@@ -814,8 +815,8 @@ impl DataSection {
     ///
     /// The contract of
     /// [`fallible::DataSection::segment`](crate::fallible::DataSection#method.segment). This call
-    /// appends the same bytes, as tests show. Where that returns an error, this call panics. In the
-    /// clauses, `S` is [`Entries`](crate::fallible::Entries).
+    /// leads to the same bytes, as tests show. Where that returns an error, this call panics. In
+    /// the clauses, `S` is [`Entries`](crate::fallible::Entries).
     ///
     /// The section gains one entry with the bytes that the iterator yields, or the call returns an error and changes nothing. It returns `TooLong` if the section is full or the iterator reports more than 2^32 - 1 remaining bytes, and otherwise not.
     ///
@@ -858,8 +859,8 @@ impl DataSection {
     ///
     /// The contract of
     /// [`fallible::DataSection::active`](crate::fallible::DataSection#method.active). This call
-    /// appends the same bytes, as tests show. Where that returns an error, this call panics. In the
-    /// clauses, `S` is [`Entries`](crate::fallible::Entries), and `bytes` is `data`.
+    /// leads to the same bytes, as tests show. Where that returns an error, this call panics. In
+    /// the clauses, `S` is [`Entries`](crate::fallible::Entries), and `bytes` is `data`.
     ///
     /// The section gains one entry with the bytes that the iterator yields, or the call returns an error and changes nothing. It returns `TooLong` if the section is full or the iterator reports more than 2^32 - 1 remaining bytes, and otherwise not.
     ///
@@ -1177,6 +1178,488 @@ impl Function {
     }
 }
 
+impl ConstExpr {
+    /// Returns the expression of `GlobalGet` alone.
+    ///
+    /// # Proved
+    ///
+    /// The contract of
+    /// [`fallible::ConstExpr::global_get`](crate::fallible::ConstExpr#method.global_get). This call
+    /// leads to the same bytes, as tests show. Where that returns an error, this call panics.
+    ///
+    /// - After `Ok`, `stores`: The bytes gain the encoding of the instruction. If it is well-formed and the old bytes minimally encode instructions, the new bytes encode these and its normal form.
+    /// - `memory`: no error is `TooLong`.
+    ///
+    /// ```text
+    /// ensures stores { IfOk result (Stores (Instruction.GlobalGet index) []) }
+    /// ensures memory { result ≢ Err TooLong }
+    /// ```
+    ///
+    /// Definitions: [`Stores`](crate::definitions::code::expressions::Stores). [How to read clauses](crate::definitions).
+    #[inline]
+    pub const fn global_get(index: u32) -> Self {
+        ConstExpr::one(First::GlobalGet(index))
+    }
+
+    /// Appends `GlobalGet` to the expression.
+    ///
+    /// # Proved
+    ///
+    /// The contract of
+    /// [`fallible::ConstExpr::with_global_get`](crate::fallible::ConstExpr#method.with_global_get).
+    /// This call leads to the same bytes, as tests show. Where that returns an error, this call
+    /// panics.
+    ///
+    /// - After `Ok`, `stores`: The bytes gain the encoding of the instruction. If it is well-formed and the old bytes minimally encode instructions, the new bytes encode these and its normal form.
+    /// - `memory`: no error is `TooLong`.
+    ///
+    /// ```text
+    /// ensures stores { IfOk result (Stores (Instruction.GlobalGet index) self) }
+    /// ensures memory { result ≢ Err TooLong }
+    /// ```
+    ///
+    /// Definitions: [`Stores`](crate::definitions::code::expressions::Stores). [How to read clauses](crate::definitions).
+    pub fn with_global_get(self, index: u32) -> Self {
+        self.with_first(First::GlobalGet(index))
+    }
+
+    /// Returns the expression of `RefNull` alone.
+    ///
+    /// # Proved
+    ///
+    /// The contract of
+    /// [`fallible::ConstExpr::ref_null`](crate::fallible::ConstExpr#method.ref_null). This call
+    /// leads to the same bytes, as tests show. Where that returns an error, this call panics.
+    ///
+    /// - After `Ok`, `stores`: The bytes gain the encoding of the instruction. If it is well-formed and the old bytes minimally encode instructions, the new bytes encode these and its normal form.
+    /// - `memory`: no error is `TooLong`.
+    ///
+    /// ```text
+    /// ensures stores { IfOk result (Stores (Instruction.RefNull ty) []) }
+    /// ensures memory { result ≢ Err TooLong }
+    /// ```
+    ///
+    /// Definitions: [`Stores`](crate::definitions::code::expressions::Stores). [How to read clauses](crate::definitions).
+    #[inline]
+    pub const fn ref_null(ty: HeapType) -> Self {
+        ConstExpr::one(First::RefNull(ty))
+    }
+
+    /// Appends `RefNull` to the expression.
+    ///
+    /// # Proved
+    ///
+    /// The contract of
+    /// [`fallible::ConstExpr::with_ref_null`](crate::fallible::ConstExpr#method.with_ref_null).
+    /// This call leads to the same bytes, as tests show. Where that returns an error, this call
+    /// panics.
+    ///
+    /// - After `Ok`, `stores`: The bytes gain the encoding of the instruction. If it is well-formed and the old bytes minimally encode instructions, the new bytes encode these and its normal form.
+    /// - `memory`: no error is `TooLong`.
+    ///
+    /// ```text
+    /// ensures stores { IfOk result (Stores (Instruction.RefNull ty) self) }
+    /// ensures memory { result ≢ Err TooLong }
+    /// ```
+    ///
+    /// Definitions: [`Stores`](crate::definitions::code::expressions::Stores). [How to read clauses](crate::definitions).
+    pub fn with_ref_null(self, ty: HeapType) -> Self {
+        self.with_first(First::RefNull(ty))
+    }
+
+    /// Returns the expression of `RefFunc` alone.
+    ///
+    /// # Proved
+    ///
+    /// The contract of
+    /// [`fallible::ConstExpr::ref_func`](crate::fallible::ConstExpr#method.ref_func). This call
+    /// leads to the same bytes, as tests show. Where that returns an error, this call panics. In
+    /// the clauses, `function_index` is `func`.
+    ///
+    /// - After `Ok`, `stores`: The bytes gain the encoding of the instruction. If it is well-formed and the old bytes minimally encode instructions, the new bytes encode these and its normal form.
+    /// - `memory`: no error is `TooLong`.
+    ///
+    /// ```text
+    /// ensures stores { IfOk result (Stores (Instruction.RefFunc function_index) []) }
+    /// ensures memory { result ≢ Err TooLong }
+    /// ```
+    ///
+    /// Definitions: [`Stores`](crate::definitions::code::expressions::Stores). [How to read clauses](crate::definitions).
+    #[inline]
+    pub const fn ref_func(func: u32) -> Self {
+        ConstExpr::one(First::RefFunc(func))
+    }
+
+    /// Appends `RefFunc` to the expression.
+    ///
+    /// # Proved
+    ///
+    /// The contract of
+    /// [`fallible::ConstExpr::with_ref_func`](crate::fallible::ConstExpr#method.with_ref_func).
+    /// This call leads to the same bytes, as tests show. Where that returns an error, this call
+    /// panics. In the clauses, `function_index` is `func`.
+    ///
+    /// - After `Ok`, `stores`: The bytes gain the encoding of the instruction. If it is well-formed and the old bytes minimally encode instructions, the new bytes encode these and its normal form.
+    /// - `memory`: no error is `TooLong`.
+    ///
+    /// ```text
+    /// ensures stores { IfOk result (Stores (Instruction.RefFunc function_index) self) }
+    /// ensures memory { result ≢ Err TooLong }
+    /// ```
+    ///
+    /// Definitions: [`Stores`](crate::definitions::code::expressions::Stores). [How to read clauses](crate::definitions).
+    pub fn with_ref_func(self, func: u32) -> Self {
+        self.with_first(First::RefFunc(func))
+    }
+
+    /// Returns the expression of `I32Const` alone.
+    ///
+    /// # Proved
+    ///
+    /// The contract of
+    /// [`fallible::ConstExpr::i32_const`](crate::fallible::ConstExpr#method.i32_const). This call
+    /// leads to the same bytes, as tests show. Where that returns an error, this call panics.
+    ///
+    /// - After `Ok`, `stores`: The bytes gain the encoding of the instruction. If it is well-formed and the old bytes minimally encode instructions, the new bytes encode these and its normal form.
+    /// - `memory`: no error is `TooLong`.
+    ///
+    /// ```text
+    /// ensures stores { IfOk result (Stores (Instruction.I32Const value) []) }
+    /// ensures memory { result ≢ Err TooLong }
+    /// ```
+    ///
+    /// Definitions: [`Stores`](crate::definitions::code::expressions::Stores). [How to read clauses](crate::definitions).
+    #[inline]
+    pub const fn i32_const(value: i32) -> Self {
+        ConstExpr::one(First::I32Const(value))
+    }
+
+    /// Appends `I32Const` to the expression.
+    ///
+    /// # Proved
+    ///
+    /// The contract of
+    /// [`fallible::ConstExpr::with_i32_const`](crate::fallible::ConstExpr#method.with_i32_const).
+    /// This call leads to the same bytes, as tests show. Where that returns an error, this call
+    /// panics.
+    ///
+    /// - After `Ok`, `stores`: The bytes gain the encoding of the instruction. If it is well-formed and the old bytes minimally encode instructions, the new bytes encode these and its normal form.
+    /// - `memory`: no error is `TooLong`.
+    ///
+    /// ```text
+    /// ensures stores { IfOk result (Stores (Instruction.I32Const value) self) }
+    /// ensures memory { result ≢ Err TooLong }
+    /// ```
+    ///
+    /// Definitions: [`Stores`](crate::definitions::code::expressions::Stores). [How to read clauses](crate::definitions).
+    pub fn with_i32_const(self, value: i32) -> Self {
+        self.with_first(First::I32Const(value))
+    }
+
+    /// Returns the expression of `I64Const` alone.
+    ///
+    /// # Proved
+    ///
+    /// The contract of
+    /// [`fallible::ConstExpr::i64_const`](crate::fallible::ConstExpr#method.i64_const). This call
+    /// leads to the same bytes, as tests show. Where that returns an error, this call panics.
+    ///
+    /// - After `Ok`, `stores`: The bytes gain the encoding of the instruction. If it is well-formed and the old bytes minimally encode instructions, the new bytes encode these and its normal form.
+    /// - `memory`: no error is `TooLong`.
+    ///
+    /// ```text
+    /// ensures stores { IfOk result (Stores (Instruction.I64Const value) []) }
+    /// ensures memory { result ≢ Err TooLong }
+    /// ```
+    ///
+    /// Definitions: [`Stores`](crate::definitions::code::expressions::Stores). [How to read clauses](crate::definitions).
+    #[inline]
+    pub const fn i64_const(value: i64) -> Self {
+        ConstExpr::one(First::I64Const(value))
+    }
+
+    /// Appends `I64Const` to the expression.
+    ///
+    /// # Proved
+    ///
+    /// The contract of
+    /// [`fallible::ConstExpr::with_i64_const`](crate::fallible::ConstExpr#method.with_i64_const).
+    /// This call leads to the same bytes, as tests show. Where that returns an error, this call
+    /// panics.
+    ///
+    /// - After `Ok`, `stores`: The bytes gain the encoding of the instruction. If it is well-formed and the old bytes minimally encode instructions, the new bytes encode these and its normal form.
+    /// - `memory`: no error is `TooLong`.
+    ///
+    /// ```text
+    /// ensures stores { IfOk result (Stores (Instruction.I64Const value) self) }
+    /// ensures memory { result ≢ Err TooLong }
+    /// ```
+    ///
+    /// Definitions: [`Stores`](crate::definitions::code::expressions::Stores). [How to read clauses](crate::definitions).
+    pub fn with_i64_const(self, value: i64) -> Self {
+        self.with_first(First::I64Const(value))
+    }
+
+    /// Returns the expression of `F32Const` alone.
+    ///
+    /// # Proved
+    ///
+    /// The contract of
+    /// [`fallible::ConstExpr::f32_const`](crate::fallible::ConstExpr#method.f32_const). This call
+    /// leads to the same bytes, as tests show. Where that returns an error, this call panics.
+    ///
+    /// - After `Ok`, `stores`: The bytes gain the encoding of the instruction. If it is well-formed and the old bytes minimally encode instructions, the new bytes encode these and its normal form.
+    /// - `memory`: no error is `TooLong`.
+    ///
+    /// ```text
+    /// ensures stores { IfOk result (Stores (Instruction.F32Const value) []) }
+    /// ensures memory { result ≢ Err TooLong }
+    /// ```
+    ///
+    /// Definitions: [`Stores`](crate::definitions::code::expressions::Stores). [How to read clauses](crate::definitions).
+    #[inline]
+    pub const fn f32_const(value: Ieee32) -> Self {
+        ConstExpr::one(First::F32Const(value))
+    }
+
+    /// Appends `F32Const` to the expression.
+    ///
+    /// # Proved
+    ///
+    /// The contract of
+    /// [`fallible::ConstExpr::with_f32_const`](crate::fallible::ConstExpr#method.with_f32_const).
+    /// This call leads to the same bytes, as tests show. Where that returns an error, this call
+    /// panics.
+    ///
+    /// - After `Ok`, `stores`: The bytes gain the encoding of the instruction. If it is well-formed and the old bytes minimally encode instructions, the new bytes encode these and its normal form.
+    /// - `memory`: no error is `TooLong`.
+    ///
+    /// ```text
+    /// ensures stores { IfOk result (Stores (Instruction.F32Const value) self) }
+    /// ensures memory { result ≢ Err TooLong }
+    /// ```
+    ///
+    /// Definitions: [`Stores`](crate::definitions::code::expressions::Stores). [How to read clauses](crate::definitions).
+    pub fn with_f32_const(self, value: Ieee32) -> Self {
+        self.with_first(First::F32Const(value))
+    }
+
+    /// Returns the expression of `F64Const` alone.
+    ///
+    /// # Proved
+    ///
+    /// The contract of
+    /// [`fallible::ConstExpr::f64_const`](crate::fallible::ConstExpr#method.f64_const). This call
+    /// leads to the same bytes, as tests show. Where that returns an error, this call panics.
+    ///
+    /// - After `Ok`, `stores`: The bytes gain the encoding of the instruction. If it is well-formed and the old bytes minimally encode instructions, the new bytes encode these and its normal form.
+    /// - `memory`: no error is `TooLong`.
+    ///
+    /// ```text
+    /// ensures stores { IfOk result (Stores (Instruction.F64Const value) []) }
+    /// ensures memory { result ≢ Err TooLong }
+    /// ```
+    ///
+    /// Definitions: [`Stores`](crate::definitions::code::expressions::Stores). [How to read clauses](crate::definitions).
+    #[inline]
+    pub const fn f64_const(value: Ieee64) -> Self {
+        ConstExpr::one(First::F64Const(value))
+    }
+
+    /// Appends `F64Const` to the expression.
+    ///
+    /// # Proved
+    ///
+    /// The contract of
+    /// [`fallible::ConstExpr::with_f64_const`](crate::fallible::ConstExpr#method.with_f64_const).
+    /// This call leads to the same bytes, as tests show. Where that returns an error, this call
+    /// panics.
+    ///
+    /// - After `Ok`, `stores`: The bytes gain the encoding of the instruction. If it is well-formed and the old bytes minimally encode instructions, the new bytes encode these and its normal form.
+    /// - `memory`: no error is `TooLong`.
+    ///
+    /// ```text
+    /// ensures stores { IfOk result (Stores (Instruction.F64Const value) self) }
+    /// ensures memory { result ≢ Err TooLong }
+    /// ```
+    ///
+    /// Definitions: [`Stores`](crate::definitions::code::expressions::Stores). [How to read clauses](crate::definitions).
+    pub fn with_f64_const(self, value: Ieee64) -> Self {
+        self.with_first(First::F64Const(value))
+    }
+
+    /// Returns the expression of `V128Const` alone.
+    ///
+    /// # Proved
+    ///
+    /// The contract of
+    /// [`fallible::ConstExpr::v128_const`](crate::fallible::ConstExpr#method.v128_const). This call
+    /// leads to the same bytes, as tests show. Where that returns an error, this call panics.
+    ///
+    /// - After `Ok`, `stores`: The bytes gain the encoding of the instruction. If it is well-formed and the old bytes minimally encode instructions, the new bytes encode these and its normal form.
+    /// - `memory`: no error is `TooLong`.
+    ///
+    /// ```text
+    /// ensures stores { IfOk result
+    ///     (Stores (Instruction.VectorImmediate (VectorImmediate.V128Const value)) []) }
+    /// ensures memory { result ≢ Err TooLong }
+    /// ```
+    ///
+    /// Definitions: [`Stores`](crate::definitions::code::expressions::Stores). [How to read clauses](crate::definitions).
+    pub fn v128_const(value: i128) -> Self {
+        ConstExpr::empty().with_v128_const(value)
+    }
+
+    /// Appends `V128Const` to the expression.
+    ///
+    /// # Proved
+    ///
+    /// The contract of
+    /// [`fallible::ConstExpr::with_v128_const`](crate::fallible::ConstExpr#method.with_v128_const).
+    /// This call leads to the same bytes, as tests show. Where that returns an error, this call
+    /// panics.
+    ///
+    /// - After `Ok`, `stores`: The bytes gain the encoding of the instruction. If it is well-formed and the old bytes minimally encode instructions, the new bytes encode these and its normal form.
+    /// - `memory`: no error is `TooLong`.
+    ///
+    /// ```text
+    /// ensures stores { IfOk result
+    ///     (Stores (Instruction.VectorImmediate (VectorImmediate.V128Const value)) self) }
+    /// ensures memory { result ≢ Err TooLong }
+    /// ```
+    ///
+    /// Definitions: [`Stores`](crate::definitions::code::expressions::Stores). [How to read clauses](crate::definitions).
+    pub fn with_v128_const(self, value: i128) -> Self {
+        self.with(|sink| sink.v128_const(value))
+    }
+
+    /// Appends `I32Add` to the expression.
+    ///
+    /// # Proved
+    ///
+    /// The contract of
+    /// [`fallible::ConstExpr::with_i32_add`](crate::fallible::ConstExpr#method.with_i32_add). This
+    /// call leads to the same bytes, as tests show. Where that returns an error, this call panics.
+    ///
+    /// - After `Ok`, `stores`: The bytes gain the encoding of the instruction. If it is well-formed and the old bytes minimally encode instructions, the new bytes encode these and its normal form.
+    /// - `memory`: no error is `TooLong`.
+    ///
+    /// ```text
+    /// ensures stores { IfOk result (Stores (Instruction.Numeric Numeric.I32Add) self) }
+    /// ensures memory { result ≢ Err TooLong }
+    /// ```
+    ///
+    /// Definitions: [`Stores`](crate::definitions::code::expressions::Stores). [How to read clauses](crate::definitions).
+    pub fn with_i32_add(self) -> Self {
+        self.with(|sink| sink.i32_add())
+    }
+
+    /// Appends `I32Sub` to the expression.
+    ///
+    /// # Proved
+    ///
+    /// The contract of
+    /// [`fallible::ConstExpr::with_i32_sub`](crate::fallible::ConstExpr#method.with_i32_sub). This
+    /// call leads to the same bytes, as tests show. Where that returns an error, this call panics.
+    ///
+    /// - After `Ok`, `stores`: The bytes gain the encoding of the instruction. If it is well-formed and the old bytes minimally encode instructions, the new bytes encode these and its normal form.
+    /// - `memory`: no error is `TooLong`.
+    ///
+    /// ```text
+    /// ensures stores { IfOk result (Stores (Instruction.Numeric Numeric.I32Sub) self) }
+    /// ensures memory { result ≢ Err TooLong }
+    /// ```
+    ///
+    /// Definitions: [`Stores`](crate::definitions::code::expressions::Stores). [How to read clauses](crate::definitions).
+    pub fn with_i32_sub(self) -> Self {
+        self.with(|sink| sink.i32_sub())
+    }
+
+    /// Appends `I32Mul` to the expression.
+    ///
+    /// # Proved
+    ///
+    /// The contract of
+    /// [`fallible::ConstExpr::with_i32_mul`](crate::fallible::ConstExpr#method.with_i32_mul). This
+    /// call leads to the same bytes, as tests show. Where that returns an error, this call panics.
+    ///
+    /// - After `Ok`, `stores`: The bytes gain the encoding of the instruction. If it is well-formed and the old bytes minimally encode instructions, the new bytes encode these and its normal form.
+    /// - `memory`: no error is `TooLong`.
+    ///
+    /// ```text
+    /// ensures stores { IfOk result (Stores (Instruction.Numeric Numeric.I32Mul) self) }
+    /// ensures memory { result ≢ Err TooLong }
+    /// ```
+    ///
+    /// Definitions: [`Stores`](crate::definitions::code::expressions::Stores). [How to read clauses](crate::definitions).
+    pub fn with_i32_mul(self) -> Self {
+        self.with(|sink| sink.i32_mul())
+    }
+
+    /// Appends `I64Add` to the expression.
+    ///
+    /// # Proved
+    ///
+    /// The contract of
+    /// [`fallible::ConstExpr::with_i64_add`](crate::fallible::ConstExpr#method.with_i64_add). This
+    /// call leads to the same bytes, as tests show. Where that returns an error, this call panics.
+    ///
+    /// - After `Ok`, `stores`: The bytes gain the encoding of the instruction. If it is well-formed and the old bytes minimally encode instructions, the new bytes encode these and its normal form.
+    /// - `memory`: no error is `TooLong`.
+    ///
+    /// ```text
+    /// ensures stores { IfOk result (Stores (Instruction.Numeric Numeric.I64Add) self) }
+    /// ensures memory { result ≢ Err TooLong }
+    /// ```
+    ///
+    /// Definitions: [`Stores`](crate::definitions::code::expressions::Stores). [How to read clauses](crate::definitions).
+    pub fn with_i64_add(self) -> Self {
+        self.with(|sink| sink.i64_add())
+    }
+
+    /// Appends `I64Sub` to the expression.
+    ///
+    /// # Proved
+    ///
+    /// The contract of
+    /// [`fallible::ConstExpr::with_i64_sub`](crate::fallible::ConstExpr#method.with_i64_sub). This
+    /// call leads to the same bytes, as tests show. Where that returns an error, this call panics.
+    ///
+    /// - After `Ok`, `stores`: The bytes gain the encoding of the instruction. If it is well-formed and the old bytes minimally encode instructions, the new bytes encode these and its normal form.
+    /// - `memory`: no error is `TooLong`.
+    ///
+    /// ```text
+    /// ensures stores { IfOk result (Stores (Instruction.Numeric Numeric.I64Sub) self) }
+    /// ensures memory { result ≢ Err TooLong }
+    /// ```
+    ///
+    /// Definitions: [`Stores`](crate::definitions::code::expressions::Stores). [How to read clauses](crate::definitions).
+    pub fn with_i64_sub(self) -> Self {
+        self.with(|sink| sink.i64_sub())
+    }
+
+    /// Appends `I64Mul` to the expression.
+    ///
+    /// # Proved
+    ///
+    /// The contract of
+    /// [`fallible::ConstExpr::with_i64_mul`](crate::fallible::ConstExpr#method.with_i64_mul). This
+    /// call leads to the same bytes, as tests show. Where that returns an error, this call panics.
+    ///
+    /// - After `Ok`, `stores`: The bytes gain the encoding of the instruction. If it is well-formed and the old bytes minimally encode instructions, the new bytes encode these and its normal form.
+    /// - `memory`: no error is `TooLong`.
+    ///
+    /// ```text
+    /// ensures stores { IfOk result (Stores (Instruction.Numeric Numeric.I64Mul) self) }
+    /// ensures memory { result ≢ Err TooLong }
+    /// ```
+    ///
+    /// Definitions: [`Stores`](crate::definitions::code::expressions::Stores). [How to read clauses](crate::definitions).
+    pub fn with_i64_mul(self) -> Self {
+        self.with(|sink| sink.i64_mul())
+    }
+}
+
 impl FuncType {
     /// Returns a function type of the parameters and results that these iterators yield.
     ///
@@ -1280,7 +1763,7 @@ impl CoreTypeEncoder<'_> {
     ///
     /// The contract of
     /// [`fallible::CoreTypeEncoder::function`](crate::fallible::CoreTypeEncoder#method.function).
-    /// This call appends the same bytes, as tests show. Where that returns an error, this call
+    /// This call leads to the same bytes, as tests show. Where that returns an error, this call
     /// panics. In the clauses, `S` is [`Entries`](crate::fallible::Entries), and `Q` is `R`.
     ///
     /// The section gains one entry of the items that both iterators yield, or the call returns an error and changes nothing. If either reports more than 2^32 - 1 items, the error is `TooLong`.
@@ -2555,7 +3038,7 @@ impl CoreDumpInstancesSection {
     ///
     /// The contract of
     /// [`fallible::CoreDumpInstancesSection::instance`](crate::fallible::CoreDumpInstancesSection#method.instance).
-    /// This call appends the same bytes, as tests show. Where that returns an error, this call
+    /// This call leads to the same bytes, as tests show. Where that returns an error, this call
     /// panics. In the clauses, `S` is [`Entries`](crate::fallible::Entries).
     ///
     /// The builder gains one entry of the items that both iterators yield, or the call returns an error and changes nothing. It returns `TooLong` if either has too many items, and never if all items fit and items and entries are few enough.
@@ -2670,7 +3153,7 @@ impl CoreDumpStackSection {
     ///
     /// The contract of
     /// [`fallible::CoreDumpStackSection::frame`](crate::fallible::CoreDumpStackSection#method.frame).
-    /// This call appends the same bytes, as tests show. Where that returns an error, this call
+    /// This call leads to the same bytes, as tests show. Where that returns an error, this call
     /// panics.
     ///
     /// - `adds`: The builder gains one entry of the items that both iterators yield, or the call returns an error and changes nothing. It returns `TooLong` if either has too many items, and never if all items fit and items and entries are few enough.

@@ -1,5 +1,5 @@
 //! The type section, and the types that a module defines.
-use super::{NONE, by_proved, copied, encoded, listed, taken};
+use super::{NONE, by_proved, copied, encoded, listed, same_fields, taken};
 use crate::base::Entries;
 use crate::ending::Root;
 use crate::types;
@@ -106,25 +106,9 @@ impl From<CompositeInnerType> for types::CompositeInnerType {
     }
 }
 
-impl From<CompositeType> for types::CompositeType {
-    fn from(ty: CompositeType) -> Self {
-        types::CompositeType {
-            inner: ty.inner.into(),
-            shared: ty.shared,
-            descriptor: ty.descriptor,
-            describes: ty.describes,
-        }
-    }
-}
-
-impl From<SubType> for types::SubType {
-    fn from(ty: SubType) -> Self {
-        types::SubType {
-            is_final: ty.is_final,
-            supertype_idx: ty.supertype_idx,
-            composite_type: ty.composite_type.into(),
-        }
-    }
+same_fields! {
+    CompositeType to types { inner, shared, descriptor, describes }
+    SubType to types { is_final, supertype_idx, composite_type }
 }
 
 by_proved! { types: StructType CompositeInnerType CompositeType SubType }

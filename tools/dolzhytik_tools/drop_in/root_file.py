@@ -90,7 +90,7 @@ def contract(call: Call) -> list[str]:
     if call.is_made:
         said = "The contract of %s, which this call makes%s." % (link, ". Where that returns an error, this call panics" if call.proved.can_fail() else "")
     else:
-        said = "The contract of %s. This call appends the same bytes, as tests show. Where that returns an error, this call panics." % link
+        said = "The contract of %s. This call leads to the same bytes, as tests show. Where that returns an error, this call panics." % link
     names = ["`S` is [`Entries`](crate::fallible::Entries)"] if any("S.model" in line for line in parts["Proved"]) else []
     names += ["`%s` is `%s`" % it for it in renamed(call)]
     said += " In the clauses, %s." % ", and ".join(names) if names else ""
@@ -117,9 +117,10 @@ def signature(row: Row) -> str:
     """Returns the head of a call as rustfmt lays it out."""
     parameters = [it for it in (row.receiver, *("%s: %s" % (it.name, it.ty) for it in row.parameters)) if it]
     returns = " -> %s" % row.returns if row.returns else ""
-    line = "    pub fn %s%s(%s)%s" % (row.name, row.generics, ", ".join(parameters), returns)
+    head = "    pub %sfn %s%s" % (row.qualifier, row.name, row.generics)
+    line = "%s(%s)%s" % (head, ", ".join(parameters), returns)
     if len(line) + len(" {") * (not row.bounds) > COLUMNS:
-        line = "    pub fn %s%s(\n%s    )%s" % (row.name, row.generics, "".join("        %s,\n" % it for it in parameters), returns)
+        line = "%s(\n%s    )%s" % (head, "".join("        %s,\n" % it for it in parameters), returns)
     if not row.bounds:
         return line + " {\n"
     return line + "\n    where\n%s    {\n" % "".join("        %s,\n" % it for it in row.bounds)
@@ -159,6 +160,7 @@ def impls(calls: list[Call], items: list[str]) -> Iterator[str]:
 ELSEWHERE = {
     "BEFORE_INIT": "crate::sections::table",
     "FUNC": "crate::types::types",
+    "First": "crate::code::first",
     "Front": "super::sections",
     "Given": "super::sections",
     "Global": "crate::alloc",

@@ -15,7 +15,7 @@ ATTRIBUTE = re.compile(r'#\[inline\]|#\[must_use = "[^"]+"\]')
 # constant, and another call of the root.
 OF_VALUE = re.compile(r"self\.0((?:\.\w+)*)\.(\w+)\(")
 OF_MODULE = re.compile(rf"\b(?:{'|'.join(MODULES)})::(\w+)::(\w+)\b")
-OF_ROOT = re.compile(r"^self\.(\w+)\(")
+OF_ROOT = re.compile(r"^(?:self\.|[A-Z]\w+::)(\w+)\(")
 
 
 @dataclass(frozen=True)
@@ -32,6 +32,7 @@ class Row:
 
     where: str
     of: str
+    qualifier: str
     name: str
     generics: str
     receiver: str
@@ -47,7 +48,7 @@ class Row:
 
     def is_constant(self) -> bool:
         """Returns whether it is a constant."""
-        return self.receiver == "const"
+        return self.name.isupper()
 
     def stop(self, trouble: str) -> Stop:
         """Returns the error that names the row."""
@@ -69,12 +70,12 @@ class Call:
         return "%s::%s" % (self.row.of, self.row.name)
 
 
-def head_of(where: str, text: str) -> tuple[str, str, str, list[Parameter], str, list[str]]:
-    """Returns the parts of a signature: the name, the generics, the receiver, the parameters, the
-    returned type, and the bounds."""
-    if found := re.fullmatch(r"([A-Z_0-9]+): (\w+)", text):
-        return found[1], "", "const", [], found[2], []
-    name = re.match(r"[a-z]\w*", text)
+def head_of(where: str, text: str) -> tuple[str, str, str, str, list[Parameter], str, list[str]]:
+    """Returns the parts of a signature: `const` or nothing, the name, the generics, the receiver,
+    the parameters, the returned type, and the bounds."""
+    if found := re.fullmatch(r"const ([A-Z_0-9]+): (\w+)", text):
+        return "const ", found[1], "", "", [], found[2], []
+    name = re.match(r"(const )?fn ([a-z]\w*)", text)
     if not name:
         raise Stop("%s: no call: %s" % (where, text))
     rest = text[name.end() :]
@@ -86,7 +87,7 @@ def head_of(where: str, text: str) -> tuple[str, str, str, list[Parameter], str,
     if not rest.startswith("(") or not tail or not all(": " in it for it in inside):
         raise Stop("%s: no call: %s" % (where, text))
     parameters = [Parameter(*it.split(": ", 1)) for it in inside]
-    return name[0], generics, receiver, parameters, tail[1] or "", split(tail[2] or "")
+    return name[1] or "", name[2], generics, receiver, parameters, tail[1] or "", split(tail[2] or "")
 
 
 def rows_of(where: str, line: str) -> list[Row]:

@@ -95,17 +95,17 @@ def said_trouble() -> str | None:
 
 # Calls of the root, each with a part of the message that it stops the tool with.
 STOPPED = (
-    ("Export\texport(&mut self)\tself.0.len()", "the root has no such type"),
-    ("TagSection\ttags(&mut self)\tself.0.tags()", "no proved call"),
-    ("TagSection\tlen(&self) -> u32\ttags.len()", "no proved call"),
-    ("TagSection\tlen(&self) -> u32\tself.count()", "TagSection has no count"),
-    ("TagSection\ttag(&mut self, tag_type: TagType)\tdone(self.0.tag())", "the argument tag_type is not used"),
-    ("TagSection\ttag(&mut self)\tself.0.tag().ok()", "tag returns an error"),
-    ("TagSection\tlen(&self) -> u32\tdone(self.0.len())", "len returns no error"),
-    ("TagSection\tlen(&self) -> u32\tself.0.len()\t#[cold]", "unknown attribute"),
-    ("TagSection TagSection\tlen(&self) -> u32\tself.0.len()", "it has two rows"),
-    ("TagSection\tlen(&self) -> u32", "2 columns"),
-    ("TagSection\tlen -> u32\tself.0.len()", "no call: len -> u32"),
+    ("Export\tfn export(&mut self)\tself.0.len()", "the root has no such type"),
+    ("TagSection\tfn tags(&mut self)\tself.0.tags()", "no proved call"),
+    ("TagSection\tfn len(&self) -> u32\ttags.len()", "no proved call"),
+    ("TagSection\tfn len(&self) -> u32\tself.count()", "TagSection has no count"),
+    ("TagSection\tfn tag(&mut self, tag_type: TagType)\tdone(self.0.tag())", "the argument tag_type is not used"),
+    ("TagSection\tfn tag(&mut self)\tself.0.tag().ok()", "tag returns an error"),
+    ("TagSection\tfn len(&self) -> u32\tdone(self.0.len())", "len returns no error"),
+    ("TagSection\tfn len(&self) -> u32\tself.0.len()\t#[cold]", "unknown attribute"),
+    ("TagSection TagSection\tfn len(&self) -> u32\tself.0.len()", "it has two rows"),
+    ("TagSection\tfn len(&self) -> u32", "2 columns"),
+    ("TagSection\tfn len -> u32\tself.0.len()", "no call: fn len -> u32"),
 )
 
 
@@ -127,7 +127,7 @@ def rows_trouble() -> str | None:
         else:
             return f"it was not stopped at: {line}"
     try:
-        root_file(calls("TagSection\tlen(&self) -> u32\tself.0.len()"), {"TagSection::tags": Text("root.md:1")}, frozenset())
+        root_file(calls("TagSection\tfn len(&self) -> u32\tself.0.len()"), {"TagSection::tags": Text("root.md:1")}, frozenset())
     except Stop as stop:
         return None if str(stop) == "root.md:1: no row has TagSection::tags" else f"it stopped with: {stop}"
     return "it was not stopped at a text of no row"
@@ -152,15 +152,15 @@ def unwrapped(text: str) -> str:
 def contract_trouble() -> str | None:
     """A call at the root has the contract of its proved call, and its text. One that makes another
     proved call says so."""
-    row = calls("GlobalSection\traw(&mut self, data: &[u8]) -> &mut Self\tdone(self.0.raw(data))\t#[inline]")
+    row = calls("GlobalSection\tfn raw(&mut self, data: &[u8]) -> &mut Self\tdone(self.0.raw(data))\t#[inline]")
     text = unwrapped(root_file(row, {"GlobalSection::raw": Text("", ["word"], {}, ["A text."])}, frozenset()))
     for part in WRITTEN:
         if part not in text:
             return f"it does not have {part}"
-    row = calls("GlobalSection\tglobal(&mut self, ty: GlobalType, init: &ConstExpr)\tdone(self.0.add_record(&(ty, Lent(init))))")
-    if "This call appends the same bytes, as tests show." not in unwrapped(root_file(row, {}, frozenset())):
+    row = calls("GlobalSection\tfn global(&mut self, ty: GlobalType, init: &ConstExpr)\tdone(self.0.add_record(&(ty, Lent(init))))")
+    if "This call leads to the same bytes, as tests show." not in unwrapped(root_file(row, {}, frozenset())):
         return "it does not say that another call is proved"
-    if head_of("", "f<T>(self, list: [T; 2]) -> Map<u8, T> where T: Fn(u8) -> u8, T: Copy")[4:] != ("Map<u8, T>", ["T: Fn(u8) -> u8", "T: Copy"]):
+    if head_of("", "fn f<T>(self, list: [T; 2]) -> Map<u8, T> where T: Fn(u8) -> u8, T: Copy")[5:] != ("Map<u8, T>", ["T: Fn(u8) -> u8", "T: Copy"]):
         return "another signature"
     return None if "impl TagSection {" in root_files(TOP)["rust/src/drop_in/root_calls.rs"] else "the table has no calls of tags"
 
