@@ -1,10 +1,10 @@
 //! Functions, the code section, and the named calls for instructions.
 use super::bytes::{append, append_once};
 use super::short::{EMPTY_BLOCK, Short, put_short};
-use super::{Encode, Instruction, NONE, done, listed};
-use crate::base::{self, Encode as _, Result, ValType, vec_of};
+use super::{Encode, NONE, done, listed};
+use crate::base::{self, Encode as _, Result, vec_of};
 use crate::code::{CodeSectionIn, joined};
-use crate::ending::{FEW, Growing, Root, grow};
+use crate::ending::{Growing, Root, grow};
 use crate::immediates::BlockType;
 use crate::{code, insn};
 use alloc_crate::vec::Vec;
@@ -144,76 +144,6 @@ impl From<code::Function> for Function {
         Function {
             bytes: built.into_raw_body().into(),
         }
-    }
-}
-
-impl Function {
-    /// Creates a body without instructions. Each pair is a run of locals: their number and type.
-    ///
-    /// # Panics
-    ///
-    /// Panics if there are more than 4294967295 runs.
-    pub fn new<L>(locals: L) -> Self
-    where
-        L: IntoIterator<Item = (u32, ValType)>,
-        L::IntoIter: ExactSizeIterator,
-    {
-        let mut bytes = Vec::with_capacity(FEW);
-        append_once(done(vec_of(locals)), &mut bytes);
-        Function { bytes }
-    }
-
-    /// Returns the named calls that append instructions to this body.
-    #[inline]
-    pub fn instructions(&mut self) -> InstructionSink<'_> {
-        InstructionSink::new(&mut self.bytes)
-    }
-
-    /// Appends an instruction.
-    ///
-    /// # Panics
-    ///
-    /// Panics if a list of the instruction has more than 4294967295 items.
-    #[inline]
-    pub fn instruction(&mut self, instruction: &Instruction) -> &mut Self {
-        instruction.encode(&mut self.bytes);
-        self
-    }
-
-    /// Appends bytes as they are, such as encoded instructions. They are not checked.
-    pub fn raw<B>(&mut self, bytes: B) -> &mut Self
-    where
-        B: IntoIterator<Item = u8>,
-    {
-        self.bytes.extend(bytes);
-        self
-    }
-
-    /// Returns the length of the body in bytes, locals included. It is the offset of the next
-    /// instruction in [`into_raw_body`](Function::into_raw_body), as a
-    /// [`BranchHint`](super::BranchHint) needs it.
-    ///
-    /// ```
-    /// use dolzhytik::Function;
-    ///
-    /// let mut body = Function::new([]);
-    /// // No runs of locals: the count 0 is one byte.
-    /// assert_eq!(body.byte_len(), 1);
-    /// body.instructions().i32_const(7);
-    /// // i32.const 7: 41 07.
-    /// assert_eq!(body.byte_len(), 3);
-    /// ```
-    #[doc(alias = "offset")]
-    #[doc(alias = "byte offset")]
-    #[doc(alias = "instruction offset")]
-    #[doc(alias = "position")]
-    pub fn byte_len(&self) -> usize {
-        self.bytes.len()
-    }
-
-    /// Returns the bytes of the body without its size prefix, as [`CodeSection::raw`] takes them.
-    pub fn into_raw_body(self) -> Vec<u8> {
-        self.bytes
     }
 }
 

@@ -61,48 +61,19 @@ impl fmt::Debug for ConstExpr {
     }
 }
 
+/// Returns the encodings of instructions.
+pub fn encodings<'a>(instructions: impl IntoIterator<Item = Instruction<'a>>) -> Bytes {
+    let mut bytes = Vec::with_capacity(FEW);
+    for instruction in instructions {
+        instruction.encode(&mut bytes);
+    }
+    bytes.into()
+}
+
 impl ConstExpr {
-    /// Returns the expression without instructions, to which calls `with_..` append.
-    pub const fn empty() -> Self {
-        ConstExpr(Instructions::Encoded(Bytes::new()))
-    }
-
-    /// Returns the expression of these encoded instructions, without an `end`, which the encoding
-    /// appends. The bytes are not checked.
-    ///
-    /// ```
-    /// use dolzhytik::{ConstExpr, Encode};
-    ///
-    /// let mut bytes = Vec::new();
-    /// ConstExpr::raw([0x41, 0x2A]).encode(&mut bytes); // i32.const 42
-    /// assert_eq!(bytes, [0x41, 0x2A, 0x0B]);
-    /// ```
-    pub fn raw(bytes: impl IntoIterator<Item = u8>) -> Self {
-        let mut encoded = Bytes::new();
-        encoded.extend(bytes).ok();
-        ConstExpr(Instructions::Encoded(encoded))
-    }
-
-    /// Returns the expression of these instructions, without an `end`, which the encoding appends.
-    ///
-    /// ```
-    /// use dolzhytik::{ConstExpr, Encode, Instruction};
-    ///
-    /// let mut bytes = Vec::new();
-    /// ConstExpr::extended([Instruction::I32Const(1), Instruction::RefI31]).encode(&mut bytes);
-    /// // i32.const 1: 41 01. ref.i31: FB 1C. end: 0B.
-    /// assert_eq!(bytes, [0x41, 0x01, 0xFB, 0x1C, 0x0B]);
-    /// ```
-    ///
-    /// # Panics
-    ///
-    /// Panics if a list of an instruction has more than 4294967295 items.
-    pub fn extended<'a>(insns: impl IntoIterator<Item = Instruction<'a>>) -> Self {
-        let mut bytes = Vec::with_capacity(FEW);
-        for instruction in insns {
-            instruction.encode(&mut bytes);
-        }
-        ConstExpr(Instructions::Encoded(bytes.into()))
+    /// Returns the expression of these encoded instructions.
+    pub(super) const fn stored(bytes: Bytes) -> Self {
+        ConstExpr(Instructions::Encoded(bytes))
     }
 
     /// Returns the expression of an instruction of a number or a type.
@@ -142,14 +113,7 @@ impl ConstExpr {
     }
 
     /// Returns the index of the function if the expression begins with `ref.func`.
-    ///
-    /// ```
-    /// use dolzhytik::ConstExpr;
-    ///
-    /// assert_eq!(ConstExpr::ref_func(3).get_ref_func(), Some(3));
-    /// assert_eq!(ConstExpr::i32_const(3).get_ref_func(), None);
-    /// ```
-    pub fn get_ref_func(&self) -> Option<u32> {
+    pub(super) fn function_index(&self) -> Option<u32> {
         match &self.0 {
             Instructions::One(first) => first.function_index(),
             Instructions::Encoded(bytes) => function_at_front(bytes),

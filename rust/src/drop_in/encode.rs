@@ -26,7 +26,7 @@ pub trait Encode {
 
 #[doc = text!(Section)]
 pub trait Section: Encode {
-    /// Returns the id of the section: that of a [`SectionId`], or another one.
+    /// Returns the id of the section: that of a [`SectionId`](super::SectionId), or another one.
     fn id(&self) -> u8;
 
     /// Appends the id and the encoding.

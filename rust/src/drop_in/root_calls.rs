@@ -5,22 +5,26 @@ use super::{
     BranchHint, BranchHints, CodeSection, ConstExpr, ContType, CoreDumpInstancesSection,
     CoreDumpModulesSection, CoreDumpSection, CoreDumpStackSection, CoreDumpValue, CoreTypeEncoder,
     CustomSection, DataSection, DataSegment, DataSegmentMode, DataSymbolDefinition, ElementMode,
-    ElementSection, ElementSegment, Elements, EntityType, ExportKind, ExportSection, FieldType,
-    FuncType, Function, FunctionSection, GlobalSection, GlobalType, HeapType, Ieee32, Ieee64,
-    ImportSection, Imports, IndirectNameMap, LinkingSection, MemorySection, MemoryType, Module,
-    NameMap, NameSection, ProducersField, ProducersSection, StorageType, SubType, SymbolTable,
-    TableSection, TableType, TagSection, TagType, TypeSection, ValType, done,
+    ElementSection, ElementSegment, Elements, Encode, EntityType, ExportKind, ExportSection,
+    FieldType, FuncType, Function, FunctionSection, GlobalSection, GlobalType, HeapType, Ieee32,
+    Ieee64, ImportSection, Imports, IndirectNameMap, Instruction, InstructionSink, LinkingSection,
+    MemorySection, MemoryType, Module, NameMap, NameSection, ProducersField, ProducersSection,
+    StorageType, SubType, SymbolTable, TableSection, TableType, TagSection, TagType, TypeSection,
+    ValType, done,
 };
+use super::bytes::{Bytes, encoding_once};
+use super::const_expr::encodings;
 use super::custom::MARK;
 use super::later::Later;
 use super::sections::{Front, Given};
 use crate::{base, code, custom, types};
 use crate::alloc::Global;
-use crate::base::{Lent, Store, bytes_of};
+use crate::base::{Lent, Store, bytes_of, vec_of};
 use crate::code::first::First;
 use crate::sections::table::BEFORE_INIT;
 use crate::types::types::FUNC;
 use alloc_crate::string::String;
+use alloc_crate::vec::Vec;
 
 impl FunctionSection {
     /// Returns the number of entries.
@@ -1129,6 +1133,46 @@ impl TypeSection {
 }
 
 impl Function {
+    /// Returns a function with these runs of locals, to which instructions are then appended.
+    ///
+    /// # Panics
+    ///
+    /// If the length that the locals report exceeds 4294967295, the call panics, and requests none
+    /// of them, as tests show. A failed allocation ends the program.
+    ///
+    /// # Asks
+    ///
+    /// The iterator ends, and yields as many items as it reports. [What happens otherwise](crate::fallible#what-is-asked).
+    ///
+    /// ```text
+    /// requires { HasKnownLength V.into_iter_gives V.IntoIter.can_next V.IntoIter.next_gives
+    ///     V.IntoIter.remaining locals }
+    /// ```
+    ///
+    /// Definitions: [`HasKnownLength`](crate::definitions::base::iterators::HasKnownLength). [How to read clauses](crate::definitions).
+    ///
+    /// # Proved
+    ///
+    /// The contract of [`fallible::Function::new`](crate::fallible::Function#method.new). This call
+    /// leads to the same bytes, as tests show. Where that returns an error, this call panics. In
+    /// the clauses, `V` is `L`.
+    ///
+    /// The new function has the runs that the iterator yields. If the iterator reports more than 2^32 - 1 runs, the call returns `TooLong`.
+    ///
+    /// ```text
+    /// ensures { BeginsWithRuns V.into_iter_gives V.IntoIter.next_gives V.IntoIter.remaining
+    ///     locals result }
+    /// ```
+    ///
+    /// Definitions: [`BeginsWithRuns`](crate::definitions::code::bodies::BeginsWithRuns). [How to read clauses](crate::definitions).
+    pub fn new<L>(locals: L) -> Self
+    where
+        L: IntoIterator<Item = (u32, ValType)>,
+        L::IntoIter: ExactSizeIterator,
+    {
+        Function { bytes: encoding_once(done(vec_of(locals))) }
+    }
+
     /// Returns a function with locals of these types. Neighbours of one type form one run.
     ///
     /// # Panics
@@ -1176,16 +1220,266 @@ impl Function {
     {
         done(code::Function::new_with_locals_types(Global, locals)).into()
     }
+
+    /// Returns a sink that appends instructions to the raw body.
+    ///
+    /// # Proved
+    ///
+    /// The contract of
+    /// [`fallible::Function::instructions`](crate::fallible::Function#method.instructions). This
+    /// call leads to the same bytes, as tests show.
+    ///
+    /// ```text
+    /// ensures same_reference { result.sink.ghost_name ≡ self.entry.ghost_name }
+    /// ensures same { result.sink.now ≡ self.old }
+    /// ```
+    ///
+    /// [How to read clauses](crate::definitions).
+    #[inline]
+    pub fn instructions(&mut self) -> InstructionSink<'_> {
+        InstructionSink::new(&mut self.bytes)
+    }
+
+    /// Appends an instruction.
+    ///
+    /// # Panics
+    ///
+    /// Panics if a count or length would pass 4294967295. A failed allocation ends the program.
+    ///
+    /// # Proved
+    ///
+    /// The contract of
+    /// [`fallible::Function::instruction`](crate::fallible::Function#method.instruction). This call
+    /// leads to the same bytes, as tests show. Where that returns an error, this call panics.
+    ///
+    /// The body gains the encoding of the instruction, or the call returns an error and changes nothing.
+    ///
+    /// ```text
+    /// ensures { AddsInstruction instruction.now self.old self.new result }
+    /// ```
+    ///
+    /// Definitions: [`AddsInstruction`](crate::definitions::code::bodies::AddsInstruction). [How to read clauses](crate::definitions).
+    #[inline]
+    pub fn instruction(&mut self, instruction: &Instruction) -> &mut Self {
+        instruction.encode(&mut self.bytes);
+        self
+    }
+
+    /// Appends bytes, which should encode instructions. The call does not check that.
+    ///
+    /// # Asks
+    ///
+    /// The iterator ends. [What happens otherwise](crate::fallible#what-is-asked).
+    ///
+    /// ```text
+    /// requires { (it : I.IntoIter) → I.into_iter_gives bytes it
+    ///     → I.IntoIter.can_next it × IsFinite (I.IntoIter.remaining it) }
+    /// ```
+    ///
+    /// [How to read clauses](crate::definitions).
+    ///
+    /// # Proved
+    ///
+    /// The contract of [`fallible::Function::raw`](crate::fallible::Function#method.raw). This call
+    /// leads to the same bytes, as tests show. Where that returns an error, this call ends the
+    /// program. In the clauses, `I` is `B`.
+    ///
+    /// After `Ok`: `ok`, the body gains the bytes that the iterator yields. After an error: `err`, the value is unchanged. In any case: `memory`, no error is `TooLong`.
+    ///
+    /// ```text
+    /// ensures ok { OnOk result ((it : I.IntoIter) × (xs : List ℕ)
+    ///     × I.into_iter_gives bytes it
+    ///     × Drains I.IntoIter.next_gives it xs
+    ///     × GrowsBy xs self.old self.new) }
+    /// ensures err { OnErr result (self.new ≡ self.old) }
+    /// ensures memory { result ≢ Err TooLong }
+    /// ```
+    ///
+    /// Definitions: [`GrowsBy`](crate::definitions::code::bodies::GrowsBy). [How to read clauses](crate::definitions).
+    pub fn raw<B>(&mut self, bytes: B) -> &mut Self
+    where
+        B: IntoIterator<Item = u8>,
+    {
+        self.bytes.extend(bytes);
+        self
+    }
+
+    /// Returns the length of the raw body so far, in bytes. If the raw body decodes, this is the
+    /// offset of the next instruction ([`offset`](crate::code::laws::offset)).
+    ///
+    /// A [`BranchHint`](super::BranchHint) needs it.
+    ///
+    /// # Examples
+    ///
+    /// ```
+    /// use dolzhytik::Function;
+    ///
+    /// let mut body = Function::new([]);
+    /// // No runs of locals: the count 0 is one byte.
+    /// assert_eq!(body.byte_len(), 1);
+    /// body.instructions().i32_const(7);
+    /// // i32.const 7: 41 07.
+    /// assert_eq!(body.byte_len(), 3);
+    /// ```
+    ///
+    /// # Proved
+    ///
+    /// The contract of [`fallible::Function::byte_len`](crate::fallible::Function#method.byte_len).
+    /// This call leads to the same bytes, as tests show.
+    ///
+    /// ```text
+    /// ensures { result ≡ length self.now }
+    /// ```
+    ///
+    /// [How to read clauses](crate::definitions).
+    #[doc(alias = "offset")]
+    #[doc(alias = "byte offset")]
+    #[doc(alias = "instruction offset")]
+    #[doc(alias = "position")]
+    pub fn byte_len(&self) -> usize {
+        self.bytes.len()
+    }
+
+    /// Returns the raw body, which `CodeSection::raw` accepts.
+    ///
+    /// # Proved
+    ///
+    /// The contract of
+    /// [`fallible::Function::into_raw_body`](crate::fallible::Function#method.into_raw_body). This
+    /// call leads to the same bytes, as tests show.
+    ///
+    /// ```text
+    /// ensures { result.items ≡ self }
+    /// ```
+    ///
+    /// [How to read clauses](crate::definitions).
+    pub fn into_raw_body(self) -> Vec<u8> {
+        self.bytes
+    }
 }
 
 impl ConstExpr {
+    /// Returns an expression without instructions, and allocates nothing.
+    ///
+    /// # Proved
+    ///
+    /// The contract of [`fallible::ConstExpr::empty`](crate::fallible::ConstExpr#method.empty).
+    /// This call leads to the same bytes, as tests show.
+    ///
+    /// The result has no entries.
+    ///
+    /// ```text
+    /// ensures { result ≡ [] }
+    /// ```
+    ///
+    /// [How to read clauses](crate::definitions).
+    pub const fn empty() -> Self {
+        ConstExpr::stored(Bytes::new())
+    }
+
+    /// Returns the expression of these bytes, which should encode instructions. The call does not
+    /// check that.
+    ///
+    /// The encoding appends `end`.
+    ///
+    /// # Examples
+    ///
+    /// ```
+    /// use dolzhytik::{ConstExpr, Encode};
+    ///
+    /// let mut bytes = Vec::new();
+    /// ConstExpr::raw([0x41, 0x2A]).encode(&mut bytes); // i32.const 42
+    /// assert_eq!(bytes, [0x41, 0x2A, 0x0B]);
+    /// ```
+    ///
+    /// # Asks
+    ///
+    /// The iterator ends. [What happens otherwise](crate::fallible#what-is-asked).
+    ///
+    /// ```text
+    /// requires { (it : I.IntoIter) → I.into_iter_gives bytes it
+    ///     → I.IntoIter.can_next it × IsFinite (I.IntoIter.remaining it) }
+    /// ```
+    ///
+    /// [How to read clauses](crate::definitions).
+    ///
+    /// # Proved
+    ///
+    /// The contract of [`fallible::ConstExpr::raw`](crate::fallible::ConstExpr#method.raw). This
+    /// call leads to the same bytes, as tests show. Where that returns an error, this call ends the
+    /// program.
+    ///
+    /// After `Ok`: `ok`, the expression is the bytes that the iterator yields. In any case: `memory`, no error is `TooLong`.
+    ///
+    /// ```text
+    /// ensures ok { IfOk result (λ e. (it : I.IntoIter) × (xs : List ℕ)
+    ///     × I.into_iter_gives bytes it
+    ///     × Drains I.IntoIter.next_gives it xs
+    ///     × (e ≡ xs)) }
+    /// ensures memory { result ≢ Err TooLong }
+    /// ```
+    ///
+    /// [How to read clauses](crate::definitions).
+    pub fn raw(bytes: impl IntoIterator<Item = u8>) -> Self {
+        ConstExpr::stored(Bytes::of(bytes))
+    }
+
+    /// Returns the expression of the instructions, one after another.
+    ///
+    /// The encoding appends `end`.
+    ///
+    /// # Panics
+    ///
+    /// Panics if a count or length would pass 4294967295. A failed allocation ends the program.
+    ///
+    /// # Examples
+    ///
+    /// ```
+    /// use dolzhytik::{ConstExpr, Encode, Instruction};
+    ///
+    /// let mut bytes = Vec::new();
+    /// ConstExpr::extended([Instruction::I32Const(1), Instruction::RefI31]).encode(&mut bytes);
+    /// // i32.const 1: 41 01. ref.i31: FB 1C. end: 0B.
+    /// assert_eq!(bytes, [0x41, 0x01, 0xFB, 0x1C, 0x0B]);
+    /// ```
+    ///
+    /// # Asks
+    ///
+    /// The iterator ends. [What happens otherwise](crate::fallible#what-is-asked).
+    ///
+    /// ```text
+    /// requires { (it : I.IntoIter) → I.into_iter_gives instructions it
+    ///     → I.IntoIter.can_next it × IsFinite (I.IntoIter.remaining it) }
+    /// ```
+    ///
+    /// [How to read clauses](crate::definitions).
+    ///
+    /// # Proved
+    ///
+    /// The contract of
+    /// [`fallible::ConstExpr::extended`](crate::fallible::ConstExpr#method.extended). This call
+    /// leads to the same bytes, as tests show. Where that returns an error, this call panics. In
+    /// the clauses, `instructions` is `insns`.
+    ///
+    /// The expression stores the encodings of the instructions that the iterator yields. If all of them fit, the call never returns `TooLong`.
+    ///
+    /// ```text
+    /// ensures { StoresGiven I.into_iter_gives I.IntoIter.next_gives instructions result }
+    /// ```
+    ///
+    /// Definitions: [`StoresGiven`](crate::definitions::code::expressions::StoresGiven). [How to read clauses](crate::definitions).
+    pub fn extended<'a>(insns: impl IntoIterator<Item = Instruction<'a>>) -> Self {
+        ConstExpr::stored(encodings(insns))
+    }
+
     /// Returns the expression of `GlobalGet` alone.
     ///
     /// # Proved
     ///
     /// The contract of
     /// [`fallible::ConstExpr::global_get`](crate::fallible::ConstExpr#method.global_get). This call
-    /// leads to the same bytes, as tests show. Where that returns an error, this call panics.
+    /// leads to the same bytes, as tests show. Where that returns an error, this call ends the
+    /// program.
     ///
     /// - After `Ok`, `stores`: The bytes gain the encoding of the instruction. If it is well-formed and the old bytes minimally encode instructions, the new bytes encode these and its normal form.
     /// - `memory`: no error is `TooLong`.
@@ -1208,7 +1502,7 @@ impl ConstExpr {
     /// The contract of
     /// [`fallible::ConstExpr::with_global_get`](crate::fallible::ConstExpr#method.with_global_get).
     /// This call leads to the same bytes, as tests show. Where that returns an error, this call
-    /// panics.
+    /// ends the program.
     ///
     /// - After `Ok`, `stores`: The bytes gain the encoding of the instruction. If it is well-formed and the old bytes minimally encode instructions, the new bytes encode these and its normal form.
     /// - `memory`: no error is `TooLong`.
@@ -1229,7 +1523,8 @@ impl ConstExpr {
     ///
     /// The contract of
     /// [`fallible::ConstExpr::ref_null`](crate::fallible::ConstExpr#method.ref_null). This call
-    /// leads to the same bytes, as tests show. Where that returns an error, this call panics.
+    /// leads to the same bytes, as tests show. Where that returns an error, this call ends the
+    /// program.
     ///
     /// - After `Ok`, `stores`: The bytes gain the encoding of the instruction. If it is well-formed and the old bytes minimally encode instructions, the new bytes encode these and its normal form.
     /// - `memory`: no error is `TooLong`.
@@ -1252,7 +1547,7 @@ impl ConstExpr {
     /// The contract of
     /// [`fallible::ConstExpr::with_ref_null`](crate::fallible::ConstExpr#method.with_ref_null).
     /// This call leads to the same bytes, as tests show. Where that returns an error, this call
-    /// panics.
+    /// ends the program.
     ///
     /// - After `Ok`, `stores`: The bytes gain the encoding of the instruction. If it is well-formed and the old bytes minimally encode instructions, the new bytes encode these and its normal form.
     /// - `memory`: no error is `TooLong`.
@@ -1273,8 +1568,8 @@ impl ConstExpr {
     ///
     /// The contract of
     /// [`fallible::ConstExpr::ref_func`](crate::fallible::ConstExpr#method.ref_func). This call
-    /// leads to the same bytes, as tests show. Where that returns an error, this call panics. In
-    /// the clauses, `function_index` is `func`.
+    /// leads to the same bytes, as tests show. Where that returns an error, this call ends the
+    /// program. In the clauses, `function_index` is `func`.
     ///
     /// - After `Ok`, `stores`: The bytes gain the encoding of the instruction. If it is well-formed and the old bytes minimally encode instructions, the new bytes encode these and its normal form.
     /// - `memory`: no error is `TooLong`.
@@ -1297,7 +1592,7 @@ impl ConstExpr {
     /// The contract of
     /// [`fallible::ConstExpr::with_ref_func`](crate::fallible::ConstExpr#method.with_ref_func).
     /// This call leads to the same bytes, as tests show. Where that returns an error, this call
-    /// panics. In the clauses, `function_index` is `func`.
+    /// ends the program. In the clauses, `function_index` is `func`.
     ///
     /// - After `Ok`, `stores`: The bytes gain the encoding of the instruction. If it is well-formed and the old bytes minimally encode instructions, the new bytes encode these and its normal form.
     /// - `memory`: no error is `TooLong`.
@@ -1318,7 +1613,8 @@ impl ConstExpr {
     ///
     /// The contract of
     /// [`fallible::ConstExpr::i32_const`](crate::fallible::ConstExpr#method.i32_const). This call
-    /// leads to the same bytes, as tests show. Where that returns an error, this call panics.
+    /// leads to the same bytes, as tests show. Where that returns an error, this call ends the
+    /// program.
     ///
     /// - After `Ok`, `stores`: The bytes gain the encoding of the instruction. If it is well-formed and the old bytes minimally encode instructions, the new bytes encode these and its normal form.
     /// - `memory`: no error is `TooLong`.
@@ -1341,7 +1637,7 @@ impl ConstExpr {
     /// The contract of
     /// [`fallible::ConstExpr::with_i32_const`](crate::fallible::ConstExpr#method.with_i32_const).
     /// This call leads to the same bytes, as tests show. Where that returns an error, this call
-    /// panics.
+    /// ends the program.
     ///
     /// - After `Ok`, `stores`: The bytes gain the encoding of the instruction. If it is well-formed and the old bytes minimally encode instructions, the new bytes encode these and its normal form.
     /// - `memory`: no error is `TooLong`.
@@ -1362,7 +1658,8 @@ impl ConstExpr {
     ///
     /// The contract of
     /// [`fallible::ConstExpr::i64_const`](crate::fallible::ConstExpr#method.i64_const). This call
-    /// leads to the same bytes, as tests show. Where that returns an error, this call panics.
+    /// leads to the same bytes, as tests show. Where that returns an error, this call ends the
+    /// program.
     ///
     /// - After `Ok`, `stores`: The bytes gain the encoding of the instruction. If it is well-formed and the old bytes minimally encode instructions, the new bytes encode these and its normal form.
     /// - `memory`: no error is `TooLong`.
@@ -1385,7 +1682,7 @@ impl ConstExpr {
     /// The contract of
     /// [`fallible::ConstExpr::with_i64_const`](crate::fallible::ConstExpr#method.with_i64_const).
     /// This call leads to the same bytes, as tests show. Where that returns an error, this call
-    /// panics.
+    /// ends the program.
     ///
     /// - After `Ok`, `stores`: The bytes gain the encoding of the instruction. If it is well-formed and the old bytes minimally encode instructions, the new bytes encode these and its normal form.
     /// - `memory`: no error is `TooLong`.
@@ -1406,7 +1703,8 @@ impl ConstExpr {
     ///
     /// The contract of
     /// [`fallible::ConstExpr::f32_const`](crate::fallible::ConstExpr#method.f32_const). This call
-    /// leads to the same bytes, as tests show. Where that returns an error, this call panics.
+    /// leads to the same bytes, as tests show. Where that returns an error, this call ends the
+    /// program.
     ///
     /// - After `Ok`, `stores`: The bytes gain the encoding of the instruction. If it is well-formed and the old bytes minimally encode instructions, the new bytes encode these and its normal form.
     /// - `memory`: no error is `TooLong`.
@@ -1429,7 +1727,7 @@ impl ConstExpr {
     /// The contract of
     /// [`fallible::ConstExpr::with_f32_const`](crate::fallible::ConstExpr#method.with_f32_const).
     /// This call leads to the same bytes, as tests show. Where that returns an error, this call
-    /// panics.
+    /// ends the program.
     ///
     /// - After `Ok`, `stores`: The bytes gain the encoding of the instruction. If it is well-formed and the old bytes minimally encode instructions, the new bytes encode these and its normal form.
     /// - `memory`: no error is `TooLong`.
@@ -1450,7 +1748,8 @@ impl ConstExpr {
     ///
     /// The contract of
     /// [`fallible::ConstExpr::f64_const`](crate::fallible::ConstExpr#method.f64_const). This call
-    /// leads to the same bytes, as tests show. Where that returns an error, this call panics.
+    /// leads to the same bytes, as tests show. Where that returns an error, this call ends the
+    /// program.
     ///
     /// - After `Ok`, `stores`: The bytes gain the encoding of the instruction. If it is well-formed and the old bytes minimally encode instructions, the new bytes encode these and its normal form.
     /// - `memory`: no error is `TooLong`.
@@ -1473,7 +1772,7 @@ impl ConstExpr {
     /// The contract of
     /// [`fallible::ConstExpr::with_f64_const`](crate::fallible::ConstExpr#method.with_f64_const).
     /// This call leads to the same bytes, as tests show. Where that returns an error, this call
-    /// panics.
+    /// ends the program.
     ///
     /// - After `Ok`, `stores`: The bytes gain the encoding of the instruction. If it is well-formed and the old bytes minimally encode instructions, the new bytes encode these and its normal form.
     /// - `memory`: no error is `TooLong`.
@@ -1494,7 +1793,8 @@ impl ConstExpr {
     ///
     /// The contract of
     /// [`fallible::ConstExpr::v128_const`](crate::fallible::ConstExpr#method.v128_const). This call
-    /// leads to the same bytes, as tests show. Where that returns an error, this call panics.
+    /// leads to the same bytes, as tests show. Where that returns an error, this call ends the
+    /// program.
     ///
     /// - After `Ok`, `stores`: The bytes gain the encoding of the instruction. If it is well-formed and the old bytes minimally encode instructions, the new bytes encode these and its normal form.
     /// - `memory`: no error is `TooLong`.
@@ -1517,7 +1817,7 @@ impl ConstExpr {
     /// The contract of
     /// [`fallible::ConstExpr::with_v128_const`](crate::fallible::ConstExpr#method.with_v128_const).
     /// This call leads to the same bytes, as tests show. Where that returns an error, this call
-    /// panics.
+    /// ends the program.
     ///
     /// - After `Ok`, `stores`: The bytes gain the encoding of the instruction. If it is well-formed and the old bytes minimally encode instructions, the new bytes encode these and its normal form.
     /// - `memory`: no error is `TooLong`.
@@ -1539,7 +1839,8 @@ impl ConstExpr {
     ///
     /// The contract of
     /// [`fallible::ConstExpr::with_i32_add`](crate::fallible::ConstExpr#method.with_i32_add). This
-    /// call leads to the same bytes, as tests show. Where that returns an error, this call panics.
+    /// call leads to the same bytes, as tests show. Where that returns an error, this call ends the
+    /// program.
     ///
     /// - After `Ok`, `stores`: The bytes gain the encoding of the instruction. If it is well-formed and the old bytes minimally encode instructions, the new bytes encode these and its normal form.
     /// - `memory`: no error is `TooLong`.
@@ -1560,7 +1861,8 @@ impl ConstExpr {
     ///
     /// The contract of
     /// [`fallible::ConstExpr::with_i32_sub`](crate::fallible::ConstExpr#method.with_i32_sub). This
-    /// call leads to the same bytes, as tests show. Where that returns an error, this call panics.
+    /// call leads to the same bytes, as tests show. Where that returns an error, this call ends the
+    /// program.
     ///
     /// - After `Ok`, `stores`: The bytes gain the encoding of the instruction. If it is well-formed and the old bytes minimally encode instructions, the new bytes encode these and its normal form.
     /// - `memory`: no error is `TooLong`.
@@ -1581,7 +1883,8 @@ impl ConstExpr {
     ///
     /// The contract of
     /// [`fallible::ConstExpr::with_i32_mul`](crate::fallible::ConstExpr#method.with_i32_mul). This
-    /// call leads to the same bytes, as tests show. Where that returns an error, this call panics.
+    /// call leads to the same bytes, as tests show. Where that returns an error, this call ends the
+    /// program.
     ///
     /// - After `Ok`, `stores`: The bytes gain the encoding of the instruction. If it is well-formed and the old bytes minimally encode instructions, the new bytes encode these and its normal form.
     /// - `memory`: no error is `TooLong`.
@@ -1602,7 +1905,8 @@ impl ConstExpr {
     ///
     /// The contract of
     /// [`fallible::ConstExpr::with_i64_add`](crate::fallible::ConstExpr#method.with_i64_add). This
-    /// call leads to the same bytes, as tests show. Where that returns an error, this call panics.
+    /// call leads to the same bytes, as tests show. Where that returns an error, this call ends the
+    /// program.
     ///
     /// - After `Ok`, `stores`: The bytes gain the encoding of the instruction. If it is well-formed and the old bytes minimally encode instructions, the new bytes encode these and its normal form.
     /// - `memory`: no error is `TooLong`.
@@ -1623,7 +1927,8 @@ impl ConstExpr {
     ///
     /// The contract of
     /// [`fallible::ConstExpr::with_i64_sub`](crate::fallible::ConstExpr#method.with_i64_sub). This
-    /// call leads to the same bytes, as tests show. Where that returns an error, this call panics.
+    /// call leads to the same bytes, as tests show. Where that returns an error, this call ends the
+    /// program.
     ///
     /// - After `Ok`, `stores`: The bytes gain the encoding of the instruction. If it is well-formed and the old bytes minimally encode instructions, the new bytes encode these and its normal form.
     /// - `memory`: no error is `TooLong`.
@@ -1644,7 +1949,8 @@ impl ConstExpr {
     ///
     /// The contract of
     /// [`fallible::ConstExpr::with_i64_mul`](crate::fallible::ConstExpr#method.with_i64_mul). This
-    /// call leads to the same bytes, as tests show. Where that returns an error, this call panics.
+    /// call leads to the same bytes, as tests show. Where that returns an error, this call ends the
+    /// program.
     ///
     /// - After `Ok`, `stores`: The bytes gain the encoding of the instruction. If it is well-formed and the old bytes minimally encode instructions, the new bytes encode these and its normal form.
     /// - `memory`: no error is `TooLong`.
@@ -1657,6 +1963,34 @@ impl ConstExpr {
     /// Definitions: [`Stores`](crate::definitions::code::expressions::Stores). [How to read clauses](crate::definitions).
     pub fn with_i64_mul(self) -> Self {
         self.with(|sink| sink.i64_mul())
+    }
+
+    /// Returns the index of `RefFunc` if the expression begins with it, and `None` otherwise.
+    ///
+    /// # Examples
+    ///
+    /// ```
+    /// use dolzhytik::ConstExpr;
+    ///
+    /// assert_eq!(ConstExpr::ref_func(3).get_ref_func(), Some(3));
+    /// assert_eq!(ConstExpr::i32_const(3).get_ref_func(), None);
+    /// ```
+    ///
+    /// # Proved
+    ///
+    /// The contract of
+    /// [`fallible::ConstExpr::get_ref_func`](crate::fallible::ConstExpr#method.get_ref_func). This
+    /// call leads to the same bytes, as tests show.
+    ///
+    /// The result is `Some(f)` exactly if the bytes begin with `ref.func f`.
+    ///
+    /// ```text
+    /// ensures { IsRefFunc self.now result }
+    /// ```
+    ///
+    /// Definitions: [`IsRefFunc`](crate::definitions::code::expressions::IsRefFunc). [How to read clauses](crate::definitions).
+    pub fn get_ref_func(&self) -> Option<u32> {
+        self.function_index()
     }
 }
 
@@ -1679,7 +2013,8 @@ impl FuncType {
     /// # Proved
     ///
     /// The contract of [`fallible::FuncType::new`](crate::fallible::FuncType#method.new), which
-    /// this call makes. Where that returns an error, this call panics. In the clauses, `Q` is `R`.
+    /// this call makes. Where that returns an error, this call ends the program. In the clauses,
+    /// `Q` is `R`.
     ///
     /// After `Ok`: `params`, they are the types that the iterator yields; `results`, they are the types that the iterator yields. In any case: `memory`, no error is `TooLong`.
     ///
@@ -2030,7 +2365,7 @@ impl Module {
     /// # Proved
     ///
     /// The contract of [`fallible::Module::new`](crate::fallible::Module#method.new), which this
-    /// call makes. Where that returns an error, this call panics.
+    /// call makes. Where that returns an error, this call ends the program.
     ///
     /// - After `Ok`, `bytes`: the module is the header.
     /// - After `Ok`, `read`: The result is the only minimal encoding of these sections. In every mode, all of its bytes decode to them alone.
@@ -2922,8 +3257,8 @@ impl CoreDumpModulesSection {
     ///
     /// The contract of
     /// [`fallible::CoreDumpModulesSection::as_custom`](crate::fallible::CoreDumpModulesSection#method.as_custom),
-    /// which this call makes. Where that returns an error, this call panics. In the clauses, `S` is
-    /// [`Entries`](crate::fallible::Entries).
+    /// which this call makes. Where that returns an error, this call ends the program. In the
+    /// clauses, `S` is [`Entries`](crate::fallible::Entries).
     ///
     /// In any case: `memory`, no error is `TooLong`.
     ///
@@ -2992,8 +3327,8 @@ impl CoreDumpInstancesSection {
     ///
     /// The contract of
     /// [`fallible::CoreDumpInstancesSection::as_custom`](crate::fallible::CoreDumpInstancesSection#method.as_custom),
-    /// which this call makes. Where that returns an error, this call panics. In the clauses, `S` is
-    /// [`Entries`](crate::fallible::Entries).
+    /// which this call makes. Where that returns an error, this call ends the program. In the
+    /// clauses, `S` is [`Entries`](crate::fallible::Entries).
     ///
     /// In any case: `memory`, no error is `TooLong`.
     ///
@@ -3195,7 +3530,7 @@ impl CoreDumpStackSection {
     ///
     /// The contract of
     /// [`fallible::CoreDumpStackSection::as_custom`](crate::fallible::CoreDumpStackSection#method.as_custom),
-    /// which this call makes. Where that returns an error, this call panics.
+    /// which this call makes. Where that returns an error, this call ends the program.
     ///
     /// After `Ok`: `same`, the result has the name and the data of the section. In any case: `memory`, no error is `TooLong`.
     ///

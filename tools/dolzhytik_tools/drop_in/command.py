@@ -62,7 +62,7 @@ def main(words: Sequence[str], usage: str, top: pathlib.Path = TOP) -> int:
         print(usage.split("\n\n")[1], file=sys.stderr)
         return 2
     try:
-        check_writes(by_hand(top))
+        check_writes(by_hand(top), text_of(top / root_table.TABLE))
         files = generated(top)
     except Stop as stop:
         print("drop-in: %s" % stop, file=sys.stderr)

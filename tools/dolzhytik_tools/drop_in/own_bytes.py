@@ -7,6 +7,7 @@ from collections.abc import Iterator
 from dataclasses import dataclass
 
 from ..errors import Stop
+from .root_table import OF_VALUE, TABLE
 
 # What writes bytes, or is one of the format.
 WRITES = re.compile(
@@ -29,8 +30,7 @@ ALLOWED = {
     ("rust/src/drop_in/code.rs", "op_here"): "named calls: the opcode, which the table has",
     ("rust/src/drop_in/code.rs", "put_long"): "named calls: the opcode, which the table has",
     ("rust/src/drop_in/code.rs", "put_grown"): "named calls: the opcode, which the table has",
-    ("rust/src/drop_in/code.rs", "raw"): "bytes of the caller",
-    ("rust/src/drop_in/const_expr.rs", "raw"): "bytes of the caller",
+    ("tools/root-calls.tsv", "Function::raw"): "bytes of the caller",
     ("rust/src/drop_in/module.rs", "HEADER"): "a constant of the crate, which the root does not write",
     ("rust/src/drop_in/custom.rs", "MARK"): "the proved calls have this byte in place",
     ("rust/src/drop_in/debug.rs", "number"): "decodes a number of an encoding, to print what is behind it",
@@ -66,15 +66,23 @@ def writes(path: str, text: str) -> Iterator[Write]:
             yield Write(path, number, function, found[0].strip())
 
 
-def check_writes(files: dict[str, str]) -> None:
-    """Stops at a line that writes bytes and is not allowed to, and at an entry of the list that
-    has no such line."""
+def writes_of_rows(text: str) -> Iterator[Write]:
+    """Yields the rows of calls whose expressions write bytes, beside their proved calls."""
+    for number, line in enumerate(text.split("\n")[1:-1], 2):
+        of, call, expression = line.split("\t")[:3]
+        if found := WRITES.search(OF_VALUE.sub("(", expression)):
+            yield Write(TABLE, number, "%s::%s" % (of, re.sub(r"^(?:const )?fn (\w+).*", r"\1", call)), found[0])
+
+
+def check_writes(files: dict[str, str], rows: str) -> None:
+    """Stops at a line or row that writes bytes and is not allowed to, and at an entry of the list
+    that has no such line."""
     used = set()
-    for path, text in files.items():
-        for it in writes(path, text):
-            entry = it.allowed()
-            if entry is None:
-                raise Stop("%s:%d: %s writes bytes (%s): make a proved call" % (it.path, it.line, it.function, it.what))
-            used.add(entry)
+    found = [it for path, text in files.items() for it in writes(path, text)]
+    for it in [*found, *writes_of_rows(rows)]:
+        entry = it.allowed()
+        if entry is None:
+            raise Stop("%s:%d: %s writes bytes (%s): make a proved call" % (it.path, it.line, it.function, it.what))
+        used.add(entry)
     for entry in ALLOWED.keys() - used:
         raise Stop("%s: %s writes no bytes: it needs no entry in ALLOWED" % entry)

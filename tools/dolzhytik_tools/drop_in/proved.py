@@ -30,9 +30,13 @@ class Owner:
         return self.name == other.name and self.kind in ("", other.kind)
 
 
+# The owner of the calls of traits, and of functions.
+FREE = Owner("", "")
+
+
 @dataclass(frozen=True)
 class Proved:
-    """A proved call, or a constant beside them. A call of a trait has no owner."""
+    """A proved call, or a constant beside them."""
 
     owner: Owner
     name: str
@@ -106,30 +110,29 @@ def docs_before(lines: list[str], place: int) -> list[str]:
     return [line.strip()[4:] for line in lines[first:place] if line.lstrip().startswith("///")]
 
 
-def call_at(lines: list[str], place: int, owner: Owner) -> Proved | None:
-    """Returns the call whose head begins at a line of an impl or a trait, if one does."""
-    if lines[place][:4].strip():
-        return None
-    if constant := CONSTANT.match(lines[place][4:]):
+def call_at(lines: list[str], place: int, owner: Owner, indent: str) -> Proved | None:
+    """Returns the call whose head begins at a line behind this indent, if one does."""
+    line = lines[place].removeprefix(indent)
+    if constant := CONSTANT.match(line):
         return Proved(owner, constant[1], True, [], constant[2], docs_before(lines, place))
-    head = CALL.match(lines[place][4:])
+    head = CALL.match(line)
     if not head:
         return None
-    rest = whole(lines, place, ("{", ";"))[head.end() :]
+    rest = whole(lines, place, ("{", ";", "}"))[head.end() :]
     rest = rest[group_end(rest) :] if rest.startswith("<") else rest
     end = group_end(rest)
     given = [it for it in split(rest[1 : end - 1]) if not re.search(r"\bself$", it)]
-    returns = re.fullmatch(r"(?: -> (.*?))?(?: where(?: .*)?)? ?[{;]", rest[end:])
+    returns = re.fullmatch(r"(?: -> (.*?))?(?: where(?: .*)?)? ?(?:\{.*|;)", rest[end:])
     parameters = [(name.removeprefix("mut "), ty) for name, _, ty in (it.partition(": ") for it in given)]
     return Proved(owner, head[2], head[1] == "pub ", parameters, returns[1] or "" if returns else "", docs_before(lines, place))
 
 
 def calls_in(lines: list[str], named: dict[str, Owner]) -> Iterator[Proved]:
-    """Yields the calls of the inherent impls and the traits of a file."""
+    """Yields the calls of the inherent impls and the traits of a file, and its functions."""
     owner = None
     for place, line in enumerate(lines):
         if line.startswith(("pub trait", "pub(crate) trait")):
-            owner = Owner("", "")
+            owner = FREE
         elif line.startswith("impl"):
             head = whole(lines, place, ("{", "{}"))[len("impl") :].rstrip(" {}")
             end = group_end(head) if head.startswith("<") else 0
@@ -138,7 +141,9 @@ def calls_in(lines: list[str], named: dict[str, Owner]) -> Iterator[Proved]:
             owner = named.get(owner.name, owner) if owner else None
         elif line == "}":
             owner = None
-        elif owner and (call := call_at(lines, place, owner)):
+        elif owner and (call := call_at(lines, place, owner, "    ")):
+            yield call
+        elif not owner and (call := call_at(lines, place, FREE, "")):
             yield call
 
 
@@ -159,7 +164,7 @@ class Layer:
         return found[0]
 
     def of_part(self, name: str) -> Proved:
-        """Returns a call of this name, of any type or trait, as one that is not public."""
+        """Returns a call or function of this name, of any type or trait, as one that is not public."""
         for it in self.calls:
             if it.name == name:
                 return replace(it, is_public=False)

@@ -18,7 +18,8 @@ COLUMNS = 100
 # What the doc comment of a proved call says of an error, and when the root then panics.
 ERRORS = (
     (r"Returns \[`TooLong`\]\(crate::fallible::Refused::TooLong\) (if .*), and \[`Memory`\]\(\S+\) if an allocation fails\..*", r"Panics \1."),
-    (r"Returns \[`(?:Memory|Refused)`\]\(\S+\),? (?:and leaves .* )?if .* allocation .*fails\.", ""),
+    (r"Returns `Memory` if an allocation fails\. If (.*), the call returns `TooLong`, and (.*)", r"If \1, the call panics, and \2"),
+    (r"Returns \[`Memory`\]\(\S+\) if .*\ballocation .*fails\..*", ""),
 )
 ENDS = "A failed allocation ends the program."
 LENGTH_ALONE = '#[allow(clippy::len_without_is_empty, reason = "the Rust crate has none")]\n'
@@ -87,10 +88,9 @@ def contract(call: Call) -> list[str]:
     parts = sections(call.proved.docs)
     name = call.proved.name
     link = "[`fallible::%s::%s`](crate::fallible::%s#method.%s)" % (call.row.of, name, call.row.of, name)
-    if call.is_made:
-        said = "The contract of %s, which this call makes%s." % (link, ". Where that returns an error, this call panics" if call.proved.can_fail() else "")
-    else:
-        said = "The contract of %s. This call leads to the same bytes, as tests show. Where that returns an error, this call panics." % link
+    said = "The contract of %s, which this call makes." if call.is_made else "The contract of %s. This call leads to the same bytes, as tests show."
+    end = "panics" if panics(call) else "ends the program"
+    said = said % link + " Where that returns an error, this call %s." % end * call.proved.can_fail()
     names = ["`S` is [`Entries`](crate::fallible::Entries)"] if any("S.model" in line for line in parts["Proved"]) else []
     names += ["`%s` is `%s`" % it for it in renamed(call)]
     said += " In the clauses, %s." % ", and ".join(names) if names else ""
@@ -159,6 +159,7 @@ def impls(calls: list[Call], items: list[str]) -> Iterator[str]:
 # The modules of names in the code that the root does not export.
 ELSEWHERE = {
     "BEFORE_INIT": "crate::sections::table",
+    "Bytes": "super::bytes",
     "FUNC": "crate::types::types",
     "First": "crate::code::first",
     "Front": "super::sections",
@@ -170,11 +171,15 @@ ELSEWHERE = {
     "Store": "crate::base",
     "String": "alloc_crate::string",
     "bytes_of": "crate::base",
+    "encoding_once": "super::bytes",
+    "encodings": "super::const_expr",
+    "Vec": "alloc_crate::vec",
+    "vec_of": "crate::base",
     "done": "super",
     **{module: "crate" for module in MODULES},
 }
-# The traits of proved calls.
-TRAITS = {"add_item_once": "Store"}
+# The traits of calls.
+TRAITS = {"add_item_once": "Store", "encode": "Encode"}
 
 
 def imports(calls: list[Call], root: frozenset[str]) -> str:

@@ -12,9 +12,11 @@ TABLE = "tools/root-calls.tsv"
 HEAD = "types\tcall\texpression\tattributes"
 ATTRIBUTE = re.compile(r'#\[inline\]|#\[must_use = "[^"]+"\]')
 # The forms of an expression: a call of the proved value, or of a part of it, a proved function or
-# constant, and another call of the root.
+# constant, another call of the root, and what the list of bytes has, which a body is.
 OF_VALUE = re.compile(r"self\.0((?:\.\w+)*)\.(\w+)\(")
 OF_MODULE = re.compile(rf"\b(?:{'|'.join(MODULES)})::(\w+)::(\w+)\b")
+OF_FUNCTION = re.compile(r"\bdone\((\w+)\(")
+OF_BYTES = re.compile(r"\bself\.bytes\b")
 OF_ROOT = re.compile(r"^(?:self\.|[A-Z]\w+::)(\w+)\(")
 
 
@@ -131,7 +133,9 @@ def read(text: str, root: frozenset[str]) -> list[Row]:
 
 def made(row: Row, layer: Layer, calls: set[str]) -> Proved | None:
     """Returns the proved call that the expression makes, or None if that is another call of the
-    root. `calls` has those of the type."""
+    root, or of bytes. `calls` has those of the type."""
+    if OF_BYTES.search(row.expression):
+        return None
     if found := OF_ROOT.match(row.expression):
         if found[1] not in calls:
             raise row.stop("%s has no %s" % (row.of, found[1]))
@@ -140,13 +144,15 @@ def made(row: Row, layer: Layer, calls: set[str]) -> Proved | None:
         return layer.of_part(found[2]) if found[1] else layer.call(row.of, found[2])
     if found := OF_MODULE.search(row.expression):
         return layer.call(found[1], found[2])
+    if found := OF_FUNCTION.search(row.expression):
+        return layer.of_part(found[1])
     raise row.stop("no proved call: %s" % row.expression)
 
 
 def check_errors(row: Row, proved: Proved) -> None:
     """Stops at an error that the expression drops, and at `done` of a call that has none."""
     before = row.expression.partition(proved.name + "(")[0]
-    is_done = re.search(r"\bdone\((?:self(?:\.\w+)*\.|\w+::\w+::)$", before) is not None
+    is_done = re.search(r"\bdone\((?:self(?:\.\w+)*\.|\w+::\w+::)?$", before) is not None
     if proved.can_fail() != is_done:
         raise row.stop("%s %s" % (proved.name, "returns an error: write done(..)" if proved.can_fail() else "returns no error"))
 

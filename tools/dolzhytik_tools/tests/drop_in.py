@@ -197,22 +197,29 @@ PLANTED = (
 
 def own_bytes_trouble() -> str | None:
     """A line by hand that writes bytes stops the tool, and so does a function that may and does not."""
-    files = by_hand(TOP)
-    check_writes(files)
+    files, rows = by_hand(TOP), text_of(TOP / root_table.TABLE)
+    check_writes(files, rows)
     path = "rust/src/drop_in/sections.rs"
     for line in PLANTED:
         try:
-            check_writes({**files, path: files[path] + f"fn planted() {{\n    {line}\n}}\n"})
+            check_writes({**files, path: files[path] + f"fn planted() {{\n    {line}\n}}\n"}, rows)
         except Stop as stop:
             if not str(stop).startswith(f"{path}:") or "planted writes bytes" not in str(stop):
                 return f"it stopped with: {stop}"
         else:
             return f"it was not stopped at: {line}"
     said = 'fn said() {\n    // sink.push(0x40)\n    panic!("0x40") // += 1\n}\n'
-    check_writes({**files, path: files[path] + said})
+    check_writes({**files, path: files[path] + said}, rows)
+    try:
+        check_writes(files, rows + "Function\tfn mark(&mut self)\tself.bytes.push(0)\n")
+    except Stop as stop:
+        if "Function::mark writes bytes" not in str(stop):
+            return f"it stopped with: {stop}"
+    else:
+        return "it was not stopped at a row"
     for changed in ALLOWED:
         try:
-            check_writes({path: text for path, text in files.items() if path != changed[0]})
+            check_writes({path: text for path, text in files.items() if path != changed[0]}, rows if changed[0] in files else "")
         except Stop:
             continue
         return f"{changed} may write bytes without need"
