@@ -4,11 +4,15 @@
 //! vector for which a failed allocation ends the program (`ending`). So is a custom section of
 //! entries. A list in one is the proved list, over such vectors.
 //!
+//! The calls of types are written from `tools/root-calls.tsv` (`root_calls`), each with the contract
+//! of its proved call. The names are written from `tools/root-exports.tsv` (`names`), and the
+//! documentation of the root's own types from `tools/rustdoc/root.md` (`texts`).
+//!
 //! An instruction is appended as its opcode, and the proved `encode` of each immediate. Short ones
 //! are encoded on the stack (`short`). A body and a module are lists of bytes here, since the crate
-//! lends these before they are complete. So [`Function::raw`] and [`Module::section`] append by
-//! themselves. So do the ids of sections, and [`encode_vec`] and `encode` of lists and options,
-//! whose items may be of any type. Nothing of this is proved; it is tested.
+//! lends these before they are complete. [`encode_vec`], and `encode` of lists and options, take
+//! items of any type. Nothing of this is proved; it is tested. Code by hand appends bytes by proved
+//! calls: `tools/drop-in` has the exceptions.
 //!
 //! Values that the proved calls take are the same types here. The enums of `kinds` and `imports`
 //! are not: they have the crate's cases and sizes, and `From` both ways.

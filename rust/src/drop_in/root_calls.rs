@@ -180,8 +180,8 @@ impl TableSection {
     ///
     /// The contract of
     /// [`fallible::TableSection::table_with_init`](crate::fallible::TableSection#method.table_with_init).
-    /// This call leads to the same bytes, as tests show. Where that returns an error, this call
-    /// panics. In the clauses, `S` is [`Entries`](crate::fallible::Entries).
+    /// This call does the same, as tests show. Where that returns an error, this call panics. In
+    /// the clauses, `S` is [`Entries`](crate::fallible::Entries).
     ///
     /// The builder gains one entry with this encoding, or the call returns an error and changes nothing. A full builder, with 2^32 - 1 entries, returns `TooLong`.
     ///
@@ -367,8 +367,8 @@ impl GlobalSection {
     ///
     /// The contract of
     /// [`fallible::GlobalSection::global`](crate::fallible::GlobalSection#method.global). This call
-    /// leads to the same bytes, as tests show. Where that returns an error, this call panics. In
-    /// the clauses, `S` is [`Entries`](crate::fallible::Entries), and `init` is `init_expr`.
+    /// does the same, as tests show. Where that returns an error, this call panics. In the clauses,
+    /// `S` is [`Entries`](crate::fallible::Entries), and `init` is `init_expr`.
     ///
     /// The builder gains one entry with this encoding, or the call returns an error and changes nothing. A full builder, with 2^32 - 1 entries, returns `TooLong`.
     ///
@@ -554,8 +554,8 @@ impl ImportSection {
     ///
     /// The contract of
     /// [`fallible::ImportSection::import`](crate::fallible::ImportSection#method.import). This call
-    /// leads to the same bytes, as tests show. Where that returns an error, this call panics. In
-    /// the clauses, `S` is [`Entries`](crate::fallible::Entries).
+    /// does the same, as tests show. Where that returns an error, this call panics. In the clauses,
+    /// `S` is [`Entries`](crate::fallible::Entries).
     ///
     /// The builder gains one entry with this encoding, or the call returns an error and changes nothing. A full builder, with 2^32 - 1 entries, returns `TooLong`.
     ///
@@ -622,8 +622,8 @@ impl ElementSection {
     ///
     /// The contract of
     /// [`fallible::ElementSection::segment`](crate::fallible::ElementSection#method.segment). This
-    /// call leads to the same bytes, as tests show. Where that returns an error, this call panics.
-    /// In the clauses, `S` is [`Entries`](crate::fallible::Entries).
+    /// call does the same, as tests show. Where that returns an error, this call panics. In the
+    /// clauses, `S` is [`Entries`](crate::fallible::Entries).
     ///
     /// The builder gains one entry with this encoding, or the call returns an error and changes nothing. A full builder, with 2^32 - 1 entries, returns `TooLong`.
     ///
@@ -651,8 +651,8 @@ impl ElementSection {
     ///
     /// The contract of
     /// [`fallible::ElementSection::active`](crate::fallible::ElementSection#method.active). This
-    /// call leads to the same bytes, as tests show. Where that returns an error, this call panics.
-    /// In the clauses, `S` is [`Entries`](crate::fallible::Entries), and `table` is `table_index`.
+    /// call does the same, as tests show. Where that returns an error, this call panics. In the
+    /// clauses, `S` is [`Entries`](crate::fallible::Entries), and `table` is `table_index`.
     ///
     /// The builder gains one entry with this encoding, or the call returns an error and changes nothing. A full builder, with 2^32 - 1 entries, returns `TooLong`.
     ///
@@ -687,8 +687,8 @@ impl ElementSection {
     ///
     /// The contract of
     /// [`fallible::ElementSection::passive`](crate::fallible::ElementSection#method.passive). This
-    /// call leads to the same bytes, as tests show. Where that returns an error, this call panics.
-    /// In the clauses, `S` is [`Entries`](crate::fallible::Entries).
+    /// call does the same, as tests show. Where that returns an error, this call panics. In the
+    /// clauses, `S` is [`Entries`](crate::fallible::Entries).
     ///
     /// The builder gains one entry with this encoding, or the call returns an error and changes nothing. A full builder, with 2^32 - 1 entries, returns `TooLong`.
     ///
@@ -715,8 +715,8 @@ impl ElementSection {
     ///
     /// The contract of
     /// [`fallible::ElementSection::declared`](crate::fallible::ElementSection#method.declared).
-    /// This call leads to the same bytes, as tests show. Where that returns an error, this call
-    /// panics. In the clauses, `S` is [`Entries`](crate::fallible::Entries).
+    /// This call does the same, as tests show. Where that returns an error, this call panics. In
+    /// the clauses, `S` is [`Entries`](crate::fallible::Entries).
     ///
     /// The builder gains one entry with this encoding, or the call returns an error and changes nothing. A full builder, with 2^32 - 1 entries, returns `TooLong`.
     ///
@@ -819,8 +819,8 @@ impl DataSection {
     ///
     /// The contract of
     /// [`fallible::DataSection::segment`](crate::fallible::DataSection#method.segment). This call
-    /// leads to the same bytes, as tests show. Where that returns an error, this call panics. In
-    /// the clauses, `S` is [`Entries`](crate::fallible::Entries).
+    /// does the same, as tests show. Where that returns an error, this call panics. In the clauses,
+    /// `S` is [`Entries`](crate::fallible::Entries).
     ///
     /// The section gains one entry with the bytes that the iterator yields, or the call returns an error and changes nothing. It returns `TooLong` if the section is full or the iterator reports more than 2^32 - 1 remaining bytes, and otherwise not.
     ///
@@ -863,8 +863,8 @@ impl DataSection {
     ///
     /// The contract of
     /// [`fallible::DataSection::active`](crate::fallible::DataSection#method.active). This call
-    /// leads to the same bytes, as tests show. Where that returns an error, this call panics. In
-    /// the clauses, `S` is [`Entries`](crate::fallible::Entries), and `bytes` is `data`.
+    /// does the same, as tests show. Where that returns an error, this call panics. In the clauses,
+    /// `S` is [`Entries`](crate::fallible::Entries), and `bytes` is `data`.
     ///
     /// The section gains one entry with the bytes that the iterator yields, or the call returns an error and changes nothing. It returns `TooLong` if the section is full or the iterator reports more than 2^32 - 1 remaining bytes, and otherwise not.
     ///
@@ -1154,8 +1154,8 @@ impl Function {
     /// # Proved
     ///
     /// The contract of [`fallible::Function::new`](crate::fallible::Function#method.new). This call
-    /// leads to the same bytes, as tests show. Where that returns an error, this call panics. In
-    /// the clauses, `V` is `L`.
+    /// does the same, as tests show. Where that returns an error, this call panics. In the clauses,
+    /// `V` is `L`.
     ///
     /// The new function has the runs that the iterator yields. If the iterator reports more than 2^32 - 1 runs, the call returns `TooLong`.
     ///
@@ -1227,7 +1227,7 @@ impl Function {
     ///
     /// The contract of
     /// [`fallible::Function::instructions`](crate::fallible::Function#method.instructions). This
-    /// call leads to the same bytes, as tests show.
+    /// call does the same, as tests show.
     ///
     /// ```text
     /// ensures same_reference { result.sink.ghost_name ≡ self.entry.ghost_name }
@@ -1250,7 +1250,7 @@ impl Function {
     ///
     /// The contract of
     /// [`fallible::Function::instruction`](crate::fallible::Function#method.instruction). This call
-    /// leads to the same bytes, as tests show. Where that returns an error, this call panics.
+    /// does the same, as tests show. Where that returns an error, this call panics.
     ///
     /// The body gains the encoding of the instruction, or the call returns an error and changes nothing.
     ///
@@ -1281,8 +1281,8 @@ impl Function {
     /// # Proved
     ///
     /// The contract of [`fallible::Function::raw`](crate::fallible::Function#method.raw). This call
-    /// leads to the same bytes, as tests show. Where that returns an error, this call ends the
-    /// program. In the clauses, `I` is `B`.
+    /// does the same, as tests show. Where that returns an error, this call ends the program. In
+    /// the clauses, `I` is `B`.
     ///
     /// After `Ok`: `ok`, the body gains the bytes that the iterator yields. After an error: `err`, the value is unchanged. In any case: `memory`, no error is `TooLong`.
     ///
@@ -1325,7 +1325,7 @@ impl Function {
     /// # Proved
     ///
     /// The contract of [`fallible::Function::byte_len`](crate::fallible::Function#method.byte_len).
-    /// This call leads to the same bytes, as tests show.
+    /// This call does the same, as tests show.
     ///
     /// ```text
     /// ensures { result ≡ length self.now }
@@ -1346,7 +1346,7 @@ impl Function {
     ///
     /// The contract of
     /// [`fallible::Function::into_raw_body`](crate::fallible::Function#method.into_raw_body). This
-    /// call leads to the same bytes, as tests show.
+    /// call does the same, as tests show.
     ///
     /// ```text
     /// ensures { result.items ≡ self }
@@ -1364,7 +1364,7 @@ impl ConstExpr {
     /// # Proved
     ///
     /// The contract of [`fallible::ConstExpr::empty`](crate::fallible::ConstExpr#method.empty).
-    /// This call leads to the same bytes, as tests show.
+    /// This call does the same, as tests show.
     ///
     /// The result has no entries.
     ///
@@ -1406,8 +1406,7 @@ impl ConstExpr {
     /// # Proved
     ///
     /// The contract of [`fallible::ConstExpr::raw`](crate::fallible::ConstExpr#method.raw). This
-    /// call leads to the same bytes, as tests show. Where that returns an error, this call ends the
-    /// program.
+    /// call does the same, as tests show. Where that returns an error, this call ends the program.
     ///
     /// After `Ok`: `ok`, the expression is the bytes that the iterator yields. In any case: `memory`, no error is `TooLong`.
     ///
@@ -1458,8 +1457,8 @@ impl ConstExpr {
     ///
     /// The contract of
     /// [`fallible::ConstExpr::extended`](crate::fallible::ConstExpr#method.extended). This call
-    /// leads to the same bytes, as tests show. Where that returns an error, this call panics. In
-    /// the clauses, `instructions` is `insns`.
+    /// does the same, as tests show. Where that returns an error, this call panics. In the clauses,
+    /// `instructions` is `insns`.
     ///
     /// The expression stores the encodings of the instructions that the iterator yields. If all of them fit, the call never returns `TooLong`.
     ///
@@ -1478,8 +1477,7 @@ impl ConstExpr {
     ///
     /// The contract of
     /// [`fallible::ConstExpr::global_get`](crate::fallible::ConstExpr#method.global_get). This call
-    /// leads to the same bytes, as tests show. Where that returns an error, this call ends the
-    /// program.
+    /// does the same, as tests show. Where that returns an error, this call ends the program.
     ///
     /// - After `Ok`, `stores`: The bytes gain the encoding of the instruction. If it is well-formed and the old bytes minimally encode instructions, the new bytes encode these and its normal form.
     /// - `memory`: no error is `TooLong`.
@@ -1501,8 +1499,8 @@ impl ConstExpr {
     ///
     /// The contract of
     /// [`fallible::ConstExpr::with_global_get`](crate::fallible::ConstExpr#method.with_global_get).
-    /// This call leads to the same bytes, as tests show. Where that returns an error, this call
-    /// ends the program.
+    /// This call does the same, as tests show. Where that returns an error, this call ends the
+    /// program.
     ///
     /// - After `Ok`, `stores`: The bytes gain the encoding of the instruction. If it is well-formed and the old bytes minimally encode instructions, the new bytes encode these and its normal form.
     /// - `memory`: no error is `TooLong`.
@@ -1523,8 +1521,7 @@ impl ConstExpr {
     ///
     /// The contract of
     /// [`fallible::ConstExpr::ref_null`](crate::fallible::ConstExpr#method.ref_null). This call
-    /// leads to the same bytes, as tests show. Where that returns an error, this call ends the
-    /// program.
+    /// does the same, as tests show. Where that returns an error, this call ends the program.
     ///
     /// - After `Ok`, `stores`: The bytes gain the encoding of the instruction. If it is well-formed and the old bytes minimally encode instructions, the new bytes encode these and its normal form.
     /// - `memory`: no error is `TooLong`.
@@ -1546,8 +1543,8 @@ impl ConstExpr {
     ///
     /// The contract of
     /// [`fallible::ConstExpr::with_ref_null`](crate::fallible::ConstExpr#method.with_ref_null).
-    /// This call leads to the same bytes, as tests show. Where that returns an error, this call
-    /// ends the program.
+    /// This call does the same, as tests show. Where that returns an error, this call ends the
+    /// program.
     ///
     /// - After `Ok`, `stores`: The bytes gain the encoding of the instruction. If it is well-formed and the old bytes minimally encode instructions, the new bytes encode these and its normal form.
     /// - `memory`: no error is `TooLong`.
@@ -1568,8 +1565,8 @@ impl ConstExpr {
     ///
     /// The contract of
     /// [`fallible::ConstExpr::ref_func`](crate::fallible::ConstExpr#method.ref_func). This call
-    /// leads to the same bytes, as tests show. Where that returns an error, this call ends the
-    /// program. In the clauses, `function_index` is `func`.
+    /// does the same, as tests show. Where that returns an error, this call ends the program. In
+    /// the clauses, `function_index` is `func`.
     ///
     /// - After `Ok`, `stores`: The bytes gain the encoding of the instruction. If it is well-formed and the old bytes minimally encode instructions, the new bytes encode these and its normal form.
     /// - `memory`: no error is `TooLong`.
@@ -1591,8 +1588,8 @@ impl ConstExpr {
     ///
     /// The contract of
     /// [`fallible::ConstExpr::with_ref_func`](crate::fallible::ConstExpr#method.with_ref_func).
-    /// This call leads to the same bytes, as tests show. Where that returns an error, this call
-    /// ends the program. In the clauses, `function_index` is `func`.
+    /// This call does the same, as tests show. Where that returns an error, this call ends the
+    /// program. In the clauses, `function_index` is `func`.
     ///
     /// - After `Ok`, `stores`: The bytes gain the encoding of the instruction. If it is well-formed and the old bytes minimally encode instructions, the new bytes encode these and its normal form.
     /// - `memory`: no error is `TooLong`.
@@ -1613,8 +1610,7 @@ impl ConstExpr {
     ///
     /// The contract of
     /// [`fallible::ConstExpr::i32_const`](crate::fallible::ConstExpr#method.i32_const). This call
-    /// leads to the same bytes, as tests show. Where that returns an error, this call ends the
-    /// program.
+    /// does the same, as tests show. Where that returns an error, this call ends the program.
     ///
     /// - After `Ok`, `stores`: The bytes gain the encoding of the instruction. If it is well-formed and the old bytes minimally encode instructions, the new bytes encode these and its normal form.
     /// - `memory`: no error is `TooLong`.
@@ -1636,8 +1632,8 @@ impl ConstExpr {
     ///
     /// The contract of
     /// [`fallible::ConstExpr::with_i32_const`](crate::fallible::ConstExpr#method.with_i32_const).
-    /// This call leads to the same bytes, as tests show. Where that returns an error, this call
-    /// ends the program.
+    /// This call does the same, as tests show. Where that returns an error, this call ends the
+    /// program.
     ///
     /// - After `Ok`, `stores`: The bytes gain the encoding of the instruction. If it is well-formed and the old bytes minimally encode instructions, the new bytes encode these and its normal form.
     /// - `memory`: no error is `TooLong`.
@@ -1658,8 +1654,7 @@ impl ConstExpr {
     ///
     /// The contract of
     /// [`fallible::ConstExpr::i64_const`](crate::fallible::ConstExpr#method.i64_const). This call
-    /// leads to the same bytes, as tests show. Where that returns an error, this call ends the
-    /// program.
+    /// does the same, as tests show. Where that returns an error, this call ends the program.
     ///
     /// - After `Ok`, `stores`: The bytes gain the encoding of the instruction. If it is well-formed and the old bytes minimally encode instructions, the new bytes encode these and its normal form.
     /// - `memory`: no error is `TooLong`.
@@ -1681,8 +1676,8 @@ impl ConstExpr {
     ///
     /// The contract of
     /// [`fallible::ConstExpr::with_i64_const`](crate::fallible::ConstExpr#method.with_i64_const).
-    /// This call leads to the same bytes, as tests show. Where that returns an error, this call
-    /// ends the program.
+    /// This call does the same, as tests show. Where that returns an error, this call ends the
+    /// program.
     ///
     /// - After `Ok`, `stores`: The bytes gain the encoding of the instruction. If it is well-formed and the old bytes minimally encode instructions, the new bytes encode these and its normal form.
     /// - `memory`: no error is `TooLong`.
@@ -1703,8 +1698,7 @@ impl ConstExpr {
     ///
     /// The contract of
     /// [`fallible::ConstExpr::f32_const`](crate::fallible::ConstExpr#method.f32_const). This call
-    /// leads to the same bytes, as tests show. Where that returns an error, this call ends the
-    /// program.
+    /// does the same, as tests show. Where that returns an error, this call ends the program.
     ///
     /// - After `Ok`, `stores`: The bytes gain the encoding of the instruction. If it is well-formed and the old bytes minimally encode instructions, the new bytes encode these and its normal form.
     /// - `memory`: no error is `TooLong`.
@@ -1726,8 +1720,8 @@ impl ConstExpr {
     ///
     /// The contract of
     /// [`fallible::ConstExpr::with_f32_const`](crate::fallible::ConstExpr#method.with_f32_const).
-    /// This call leads to the same bytes, as tests show. Where that returns an error, this call
-    /// ends the program.
+    /// This call does the same, as tests show. Where that returns an error, this call ends the
+    /// program.
     ///
     /// - After `Ok`, `stores`: The bytes gain the encoding of the instruction. If it is well-formed and the old bytes minimally encode instructions, the new bytes encode these and its normal form.
     /// - `memory`: no error is `TooLong`.
@@ -1748,8 +1742,7 @@ impl ConstExpr {
     ///
     /// The contract of
     /// [`fallible::ConstExpr::f64_const`](crate::fallible::ConstExpr#method.f64_const). This call
-    /// leads to the same bytes, as tests show. Where that returns an error, this call ends the
-    /// program.
+    /// does the same, as tests show. Where that returns an error, this call ends the program.
     ///
     /// - After `Ok`, `stores`: The bytes gain the encoding of the instruction. If it is well-formed and the old bytes minimally encode instructions, the new bytes encode these and its normal form.
     /// - `memory`: no error is `TooLong`.
@@ -1771,8 +1764,8 @@ impl ConstExpr {
     ///
     /// The contract of
     /// [`fallible::ConstExpr::with_f64_const`](crate::fallible::ConstExpr#method.with_f64_const).
-    /// This call leads to the same bytes, as tests show. Where that returns an error, this call
-    /// ends the program.
+    /// This call does the same, as tests show. Where that returns an error, this call ends the
+    /// program.
     ///
     /// - After `Ok`, `stores`: The bytes gain the encoding of the instruction. If it is well-formed and the old bytes minimally encode instructions, the new bytes encode these and its normal form.
     /// - `memory`: no error is `TooLong`.
@@ -1793,8 +1786,7 @@ impl ConstExpr {
     ///
     /// The contract of
     /// [`fallible::ConstExpr::v128_const`](crate::fallible::ConstExpr#method.v128_const). This call
-    /// leads to the same bytes, as tests show. Where that returns an error, this call ends the
-    /// program.
+    /// does the same, as tests show. Where that returns an error, this call ends the program.
     ///
     /// - After `Ok`, `stores`: The bytes gain the encoding of the instruction. If it is well-formed and the old bytes minimally encode instructions, the new bytes encode these and its normal form.
     /// - `memory`: no error is `TooLong`.
@@ -1816,8 +1808,8 @@ impl ConstExpr {
     ///
     /// The contract of
     /// [`fallible::ConstExpr::with_v128_const`](crate::fallible::ConstExpr#method.with_v128_const).
-    /// This call leads to the same bytes, as tests show. Where that returns an error, this call
-    /// ends the program.
+    /// This call does the same, as tests show. Where that returns an error, this call ends the
+    /// program.
     ///
     /// - After `Ok`, `stores`: The bytes gain the encoding of the instruction. If it is well-formed and the old bytes minimally encode instructions, the new bytes encode these and its normal form.
     /// - `memory`: no error is `TooLong`.
@@ -1839,8 +1831,7 @@ impl ConstExpr {
     ///
     /// The contract of
     /// [`fallible::ConstExpr::with_i32_add`](crate::fallible::ConstExpr#method.with_i32_add). This
-    /// call leads to the same bytes, as tests show. Where that returns an error, this call ends the
-    /// program.
+    /// call does the same, as tests show. Where that returns an error, this call ends the program.
     ///
     /// - After `Ok`, `stores`: The bytes gain the encoding of the instruction. If it is well-formed and the old bytes minimally encode instructions, the new bytes encode these and its normal form.
     /// - `memory`: no error is `TooLong`.
@@ -1861,8 +1852,7 @@ impl ConstExpr {
     ///
     /// The contract of
     /// [`fallible::ConstExpr::with_i32_sub`](crate::fallible::ConstExpr#method.with_i32_sub). This
-    /// call leads to the same bytes, as tests show. Where that returns an error, this call ends the
-    /// program.
+    /// call does the same, as tests show. Where that returns an error, this call ends the program.
     ///
     /// - After `Ok`, `stores`: The bytes gain the encoding of the instruction. If it is well-formed and the old bytes minimally encode instructions, the new bytes encode these and its normal form.
     /// - `memory`: no error is `TooLong`.
@@ -1883,8 +1873,7 @@ impl ConstExpr {
     ///
     /// The contract of
     /// [`fallible::ConstExpr::with_i32_mul`](crate::fallible::ConstExpr#method.with_i32_mul). This
-    /// call leads to the same bytes, as tests show. Where that returns an error, this call ends the
-    /// program.
+    /// call does the same, as tests show. Where that returns an error, this call ends the program.
     ///
     /// - After `Ok`, `stores`: The bytes gain the encoding of the instruction. If it is well-formed and the old bytes minimally encode instructions, the new bytes encode these and its normal form.
     /// - `memory`: no error is `TooLong`.
@@ -1905,8 +1894,7 @@ impl ConstExpr {
     ///
     /// The contract of
     /// [`fallible::ConstExpr::with_i64_add`](crate::fallible::ConstExpr#method.with_i64_add). This
-    /// call leads to the same bytes, as tests show. Where that returns an error, this call ends the
-    /// program.
+    /// call does the same, as tests show. Where that returns an error, this call ends the program.
     ///
     /// - After `Ok`, `stores`: The bytes gain the encoding of the instruction. If it is well-formed and the old bytes minimally encode instructions, the new bytes encode these and its normal form.
     /// - `memory`: no error is `TooLong`.
@@ -1927,8 +1915,7 @@ impl ConstExpr {
     ///
     /// The contract of
     /// [`fallible::ConstExpr::with_i64_sub`](crate::fallible::ConstExpr#method.with_i64_sub). This
-    /// call leads to the same bytes, as tests show. Where that returns an error, this call ends the
-    /// program.
+    /// call does the same, as tests show. Where that returns an error, this call ends the program.
     ///
     /// - After `Ok`, `stores`: The bytes gain the encoding of the instruction. If it is well-formed and the old bytes minimally encode instructions, the new bytes encode these and its normal form.
     /// - `memory`: no error is `TooLong`.
@@ -1949,8 +1936,7 @@ impl ConstExpr {
     ///
     /// The contract of
     /// [`fallible::ConstExpr::with_i64_mul`](crate::fallible::ConstExpr#method.with_i64_mul). This
-    /// call leads to the same bytes, as tests show. Where that returns an error, this call ends the
-    /// program.
+    /// call does the same, as tests show. Where that returns an error, this call ends the program.
     ///
     /// - After `Ok`, `stores`: The bytes gain the encoding of the instruction. If it is well-formed and the old bytes minimally encode instructions, the new bytes encode these and its normal form.
     /// - `memory`: no error is `TooLong`.
@@ -1980,7 +1966,7 @@ impl ConstExpr {
     ///
     /// The contract of
     /// [`fallible::ConstExpr::get_ref_func`](crate::fallible::ConstExpr#method.get_ref_func). This
-    /// call leads to the same bytes, as tests show.
+    /// call does the same, as tests show.
     ///
     /// The result is `Some(f)` exactly if the bytes begin with `ref.func f`.
     ///
@@ -2098,8 +2084,8 @@ impl CoreTypeEncoder<'_> {
     ///
     /// The contract of
     /// [`fallible::CoreTypeEncoder::function`](crate::fallible::CoreTypeEncoder#method.function).
-    /// This call leads to the same bytes, as tests show. Where that returns an error, this call
-    /// panics. In the clauses, `S` is [`Entries`](crate::fallible::Entries), and `Q` is `R`.
+    /// This call does the same, as tests show. Where that returns an error, this call panics. In
+    /// the clauses, `S` is [`Entries`](crate::fallible::Entries), and `Q` is `R`.
     ///
     /// The section gains one entry of the items that both iterators yield, or the call returns an error and changes nothing. If either reports more than 2^32 - 1 items, the error is `TooLong`.
     ///
@@ -3373,8 +3359,8 @@ impl CoreDumpInstancesSection {
     ///
     /// The contract of
     /// [`fallible::CoreDumpInstancesSection::instance`](crate::fallible::CoreDumpInstancesSection#method.instance).
-    /// This call leads to the same bytes, as tests show. Where that returns an error, this call
-    /// panics. In the clauses, `S` is [`Entries`](crate::fallible::Entries).
+    /// This call does the same, as tests show. Where that returns an error, this call panics. In
+    /// the clauses, `S` is [`Entries`](crate::fallible::Entries).
     ///
     /// The builder gains one entry of the items that both iterators yield, or the call returns an error and changes nothing. It returns `TooLong` if either has too many items, and never if all items fit and items and entries are few enough.
     ///
@@ -3488,8 +3474,7 @@ impl CoreDumpStackSection {
     ///
     /// The contract of
     /// [`fallible::CoreDumpStackSection::frame`](crate::fallible::CoreDumpStackSection#method.frame).
-    /// This call leads to the same bytes, as tests show. Where that returns an error, this call
-    /// panics.
+    /// This call does the same, as tests show. Where that returns an error, this call panics.
     ///
     /// - `adds`: The builder gains one entry of the items that both iterators yield, or the call returns an error and changes nothing. It returns `TooLong` if either has too many items, and never if all items fit and items and entries are few enough.
     /// - `same_thread`: the part before the entries is unchanged.

@@ -22,7 +22,7 @@ assert_eq!(module.finish(), b"\0asm\x01\0\0\0\x03\x03\x02\x00\x01");
     (RawSection) => {
         r##"A section of any id and raw payload: the size prefix is added, and the payload is not checked.
 
-[`Module::section`] takes it. Use it for sections that this package has no builder for, or whose payload is already encoded. For a custom section with a name, see [`CustomSection`](super::CustomSection). The encoding of sections is defined in the core specification, Modules, Sections.
+[`Module::section`](super::Module::section) takes it. Use it for sections that this package has no builder for, or whose payload is already encoded. For a custom section with a name, see [`CustomSection`](super::CustomSection). The encoding of sections is defined in the core specification, Modules, Sections.
 
 ```
 use dolzhytik::{Module, RawSection};
@@ -117,7 +117,7 @@ Panics if the reported length is larger than 4294967295, before an item is reque
     (FuncType) => {
         r##"The type of a function: the types of its parameters and of its results.
 
-[`CoreTypeEncoder::func_type`] takes it, and [`CompositeInnerType::Func`] has one. To add a type without a value, see [`CoreTypeEncoder::function`]. Core specification, Types, Composite Types.
+[`CoreTypeEncoder::func_type`](super::CoreTypeEncoder::func_type) takes it, and [`CompositeInnerType::Func`](super::CompositeInnerType::Func) has one. To add a type without a value, see [`CoreTypeEncoder::function`](super::CoreTypeEncoder::function). Core specification, Types, Composite Types.
 
 ```
 use dolzhytik::{FuncType, TypeSection, ValType};
@@ -128,7 +128,7 @@ TypeSection::new().ty().func_type(&ty);
 ```"##
     };
     (StructType) => {
-        r##"The type of a structure: its fields. It is a case of [`CompositeInnerType`]; to add one without a value, see [`CoreTypeEncoder::struct_`].
+        r##"The type of a structure: its fields. It is a case of [`CompositeInnerType`](super::CompositeInnerType); to add one without a value, see [`CoreTypeEncoder::struct_`](super::CoreTypeEncoder::struct_).
 
 Core specification, Types, Composite Types.
 
@@ -143,7 +143,7 @@ assert_eq!(bytes, [0x5F, 1, 0x78, 0x01]);
 ```"##
     };
     (CompositeInnerType) => {
-        r##"A composite type without sharing and descriptors: a field of [`CompositeType`].
+        r##"A composite type without sharing and descriptors: a field of [`CompositeType`](super::CompositeType).
 
 ```
 use dolzhytik::{CompositeInnerType, Encode, FuncType};
@@ -155,7 +155,7 @@ assert_eq!(bytes, [0x60, 0, 0]);
 ```"##
     };
     (CompositeType) => {
-        r##"A composite type: a field of [`SubType`].
+        r##"A composite type: a field of [`SubType`](super::SubType).
 
 Core specification, Types, Composite Types.
 
@@ -177,7 +177,7 @@ assert_eq!(bytes, [0x65, 0x60, 0, 0]);
     (SubType) => {
         r##"A subtype: a composite type, its supertype, and whether it can have subtypes.
 
-[`CoreTypeEncoder::subtype`] and [`CoreTypeEncoder::rec`] take it. Core specification, Types, Recursive Types.
+[`CoreTypeEncoder::subtype`](super::CoreTypeEncoder::subtype) and [`CoreTypeEncoder::rec`](super::CoreTypeEncoder::rec) take it. Core specification, Types, Recursive Types.
 
 ```
 use dolzhytik::{CompositeInnerType, CompositeType, Encode, FuncType, SubType};
@@ -219,7 +219,7 @@ assert_eq!(bytes, [7, 1, 0x60, 2, 0x7F, 0x7F, 1, 0x7E]);
 Its calls panic where the number of entries, or a count in one, would pass 4294967295. A failed allocation ends the program."##
     };
     (CoreTypeEncoder) => {
-        r##"The calls that append an entry of a [`TypeSection`], which [`TypeSection::ty`] returns.
+        r##"The calls that append an entry of a [`TypeSection`](super::TypeSection), which [`TypeSection::ty`](super::TypeSection::ty) returns.
 
 ```
 use dolzhytik::{Encode, FieldType, StorageType, TypeSection, ValType};
@@ -237,7 +237,7 @@ assert_eq!(bytes, [8, 2, 0x5E, 0x78, 1, 0x5F, 1, 0x7D, 0]);
     (InstructionSink) => {
         r##"Appends instructions to a list of bytes, by a named call for each.
 
-[`Function::instructions`] returns one for a body, and [`InstructionSink::new`] makes one for any `Vec<u8>`. Each call returns the sink, so that calls form a chain. A call takes the immediates of its instruction as arguments. An [`Instruction`] is the same as a value.
+[`Function::instructions`](super::Function::instructions) returns one for a body, and [`InstructionSink::new`](super::InstructionSink::new) makes one for any `Vec<u8>`. Each call returns the sink, so that calls form a chain. A call takes the immediates of its instruction as arguments. An [`Instruction`](super::Instruction) is the same as a value.
 
 An instruction is appended as its opcode, and each immediate by the proved `encode` that the calls of [`fallible::InstructionSink`](crate::fallible::InstructionSink) make too. Blocks and types are not checked.
 
@@ -253,7 +253,7 @@ assert_eq!(bytes, [0x20, 0x00, 0x41, 0xC0, 0x00, 0x6A, 0x0B]);
     (Function) => {
         r##"The body of a function: its locals and its instructions.
 
-[`CodeSection::function`] takes it. End it with the instruction `end`, which no call adds. Parameters are locals too, with the first indices; they are part of the function's type, and not of its body. The encoding is defined in the core specification, Modules, Code Section.
+[`CodeSection::function`](super::CodeSection::function) takes it. End it with the instruction `end`, which no call adds. Parameters are locals too, with the first indices; they are part of the function's type, and not of its body. The encoding is defined in the core specification, Modules, Code Section.
 
 The proved builder of the same bytes is [`fallible::Function`](crate::fallible::Function), which converts to this type.
 
@@ -309,9 +309,9 @@ assert_eq!(bytes, [0x23, 0x00, 0x41, 0x08, 0x6A, 0x0B]);
 ```"##
     };
     (EntityType) => {
-        r##"The type of an imported item, which [`ImportSection::import`] takes.
+        r##"The type of an imported item, which [`ImportSection::import`](super::ImportSection::import) takes.
 
-[`TableType`], [`MemoryType`], [`GlobalType`] and [`TagType`] convert to it, so that the call takes them too. The core specification defines it as `externtype`, in Types, External Types.
+[`TableType`](super::TableType), [`MemoryType`](super::MemoryType), [`GlobalType`](super::GlobalType) and [`TagType`](super::TagType) convert to it, so that the call takes them too. The core specification defines it as `externtype`, in Types, External Types.
 
 ```
 use dolzhytik::{Encode, EntityType, ImportSection, TagKind, TagType};
@@ -326,9 +326,9 @@ assert_eq!(bytes, *b"\x0E\x02\x01m\x01f\0\x05\x01m\x01t\x04\0\x06");
 ```"##
     };
     (Import) => {
-        r##"An import: the names of a module and of an item, and the item's type. It is a case of [`Imports`].
+        r##"An import: the names of a module and of an item, and the item's type. It is a case of [`Imports`](super::Imports).
 
-[`ImportSection::import`] takes the fields instead.
+[`ImportSection::import`](super::ImportSection::import) takes the fields instead.
 
 ```
 use dolzhytik::{Encode, EntityType, Import, ImportSection, Imports};
@@ -343,7 +343,7 @@ assert_eq!(bytes, *b"\x07\x01\x01m\x01f\0\x05");
 ```"##
     };
     (ImportCompact) => {
-        r##"An item of [`Imports::Compact1`]: its name, and its type.
+        r##"An item of [`Imports::Compact1`](super::Imports::Compact1): its name, and its type.
 
 ```
 use dolzhytik::{Encode, EntityType, ImportCompact, ImportSection, Imports};
@@ -358,7 +358,7 @@ assert_eq!(bytes, *b"\x0A\x01\x01m\0\x7F\x01\x01f\0\x05");
 ```"##
     };
     (Imports) => {
-        r##"An entry of the import section, which [`ImportSection::imports`] takes: one import, or several of one module.
+        r##"An entry of the import section, which [`ImportSection::imports`](super::ImportSection::imports) takes: one import, or several of one module.
 
 Entries of several imports are a proposal, and not part of the core specification.
 
@@ -402,7 +402,7 @@ assert_eq!(ExportKind::Memory as u8, 2);
 ```"##
     };
     (TagKind) => {
-        r##"The kind of a tag, a field of [`TagType`]. Exceptions are the only kind.
+        r##"The kind of a tag, a field of [`TagType`](super::TagType). Exceptions are the only kind.
 
 ```
 use dolzhytik::{Encode, TagKind, TagSection, TagType};
@@ -592,7 +592,7 @@ assert_eq!(bytes, [8, 1, 0, 0x41, 0x2A, 0x0B, 2, b'h', b'i']);
 ```"##
     };
     (Elements) => {
-        r##"The elements of a segment of the [`ElementSection`].
+        r##"The elements of a segment of the [`ElementSection`](super::ElementSection).
 
 ```
 use dolzhytik::{ConstExpr, ElementSection, Elements, Encode, HeapType, RefType};
@@ -607,7 +607,7 @@ assert_eq!(bytes, [7, 1, 5, 0x6F, 1, 0xD0, 0x6F, 0x0B]);
 ```"##
     };
     (ElementMode) => {
-        r##"The mode of an [`ElementSegment`]: whether instantiation copies the elements into a table.
+        r##"The mode of an [`ElementSegment`](super::ElementSegment): whether instantiation copies the elements into a table.
 
 ```
 use dolzhytik::{ConstExpr, ElementMode, ElementSection, ElementSegment, Elements, Encode};
@@ -624,7 +624,7 @@ assert_eq!(bytes, [7, 1, 0, 0x41, 3, 0x0B, 1, 5]);
 ```"##
     };
     (ElementSegment) => {
-        r##"A segment of the [`ElementSection`], which [`ElementSection::segment`] takes.
+        r##"A segment of the [`ElementSection`](super::ElementSection), which [`ElementSection::segment`](super::ElementSection::segment) takes.
 
 ```
 use dolzhytik::{ElementMode, ElementSection, ElementSegment, Elements, Encode};
@@ -639,7 +639,7 @@ assert_eq!(bytes, [5, 1, 3, 0, 1, 7]);
 ```"##
     };
     (DataSegmentMode) => {
-        r##"The mode of a [`DataSegment`]: whether instantiation copies the bytes into a memory.
+        r##"The mode of a [`DataSegment`](super::DataSegment): whether instantiation copies the bytes into a memory.
 
 ```
 use dolzhytik::{ConstExpr, DataSection, DataSegment, DataSegmentMode, Encode};
@@ -655,7 +655,7 @@ assert_eq!(bytes, [8, 1, 0, 0x41, 8, 0x0B, 2, b'h', b'i']);
 ```"##
     };
     (DataSegment) => {
-        r##"A segment of the [`DataSection`], which [`DataSection::segment`] takes.
+        r##"A segment of the [`DataSection`](super::DataSection), which [`DataSection::segment`](super::DataSection::segment) takes.
 
 ```
 use dolzhytik::{DataSection, DataSegment, DataSegmentMode, Encode};
@@ -686,7 +686,7 @@ assert_eq!(bytes, *b"\x07\x04notehi");
     (NameMap) => {
         r##"A name map: indices of items, such as functions, and their names. Items may have the same name.
 
-Calls of [`NameSection`] take it, such as [`NameSection::functions`]. Core specification, Appendix, Custom Sections, Name Section, Name Maps.
+Calls of [`NameSection`](super::NameSection) take it, such as [`NameSection::functions`](super::NameSection::functions). Core specification, Appendix, Custom Sections, Name Section, Name Maps.
 
 ```
 use dolzhytik::{Encode, NameMap};
@@ -700,9 +700,9 @@ assert_eq!(bytes, [1, 5, 1, b'f']);
 ```"##
     };
     (IndirectNameMap) => {
-        r##"An indirect name map: indices of items, each with a [`NameMap`] of items in it, such as the locals of a function.
+        r##"An indirect name map: indices of items, each with a [`NameMap`](super::NameMap) of items in it, such as the locals of a function.
 
-Calls of [`NameSection`] take it, such as [`NameSection::locals`]. Core specification, Appendix, Custom Sections, Name Section, Name Maps.
+Calls of [`NameSection`](super::NameSection) take it, such as [`NameSection::locals`](super::NameSection::locals). Core specification, Appendix, Custom Sections, Name Section, Name Maps.
 
 ```
 use dolzhytik::{Encode, IndirectNameMap, NameMap};
@@ -758,7 +758,7 @@ assert_eq!(bytes, *b"\x11\x07linking\x02\x08\x06\x01\0\0\x01\x01f");
     (SymbolTable) => {
         r##"A symbol table: the functions, globals, tables and data that a linker knows by name.
 
-[`LinkingSection::symbol_table`] takes it. The flags of a symbol are a sum of the constants `WASM_SYM_..`. The tool conventions define it in [Linking](https://github.com/WebAssembly/tool-conventions/blob/main/Linking.md).
+[`LinkingSection::symbol_table`](super::LinkingSection::symbol_table) takes it. The flags of a symbol are a sum of the constants `WASM_SYM_..`. The tool conventions define it in [Linking](https://github.com/WebAssembly/tool-conventions/blob/main/Linking.md).
 
 ```
 use dolzhytik::{DataSymbolDefinition, Encode, SymbolTable};
@@ -795,7 +795,7 @@ assert_eq!(bytes, *b"\x1F\x09producers\x01\x08language\x01\x04Rust\x041.88");
     (ProducersField) => {
         r##"The values of a field of the producers section: names and versions.
 
-[`ProducersSection::field`] takes it.
+[`ProducersSection::field`](super::ProducersSection::field) takes it.
 
 ```
 use dolzhytik::{Encode, ProducersField};

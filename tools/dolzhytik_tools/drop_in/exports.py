@@ -2,6 +2,8 @@
 traits and functions. The head of tools/drop-in has the columns."""
 from __future__ import annotations
 
+import re
+from collections.abc import Collection
 from dataclasses import dataclass
 
 from ..errors import Stop
@@ -61,9 +63,15 @@ def names_file(exports: list[Export]) -> str:
     return NAMES_HEAD + "".join(it.line() for it in exports)
 
 
+def linked(text: str, root: Collection[str]) -> str:
+    """Returns a text in which the names of the root in brackets are links."""
+    link = lambda it: "%s(super::%s%s)" % (it[0], it[1], it[2]) if it[1] in root else it[0]
+    return re.sub(r"\[`(\w+)((?:::\w+)*)`\](?!\()", link, text)
+
+
 def texts_file(exports: list[Export], texts: dict[str, Text]) -> str:
     """Returns the file of the documentation of the root's own names."""
-    own = {it.name for it in exports if it.is_own()}
+    own, root = {it.name for it in exports if it.is_own()}, {it.name for it in exports}
     arms = []
     for name, text in texts.items():
         if "::" in name:
@@ -72,5 +80,5 @@ def texts_file(exports: list[Export], texts: dict[str, Text]) -> str:
             raise Stop("%s: the root has no %s of its own" % (text.where, name))
         if text.aliases or text.members:
             raise Stop("%s: %s has words or members: write words to %s" % (text.where, name, TABLE))
-        arms.append('    (%s) => {\n        r##"%s"##\n    };\n' % (name, "\n".join(text.lines)))
+        arms.append('    (%s) => {\n        r##"%s"##\n    };\n' % (name, linked("\n".join(text.lines), root)))
     return TEXTS_HEAD + "".join(arms) + "}\n"

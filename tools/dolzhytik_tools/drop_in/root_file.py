@@ -8,6 +8,7 @@ from collections.abc import Iterator
 from ..errors import Stop
 from ..to_rust.beside import Text
 from ..to_rust.render import wrapped
+from .exports import linked
 from .proved import MODULES, group_end, split
 from .root_table import TABLE, Call, Parameter, Row
 
@@ -88,7 +89,7 @@ def contract(call: Call) -> list[str]:
     parts = sections(call.proved.docs)
     name = call.proved.name
     link = "[`fallible::%s::%s`](crate::fallible::%s#method.%s)" % (call.row.of, name, call.row.of, name)
-    said = "The contract of %s, which this call makes." if call.is_made else "The contract of %s. This call leads to the same bytes, as tests show."
+    said = "The contract of %s, which this call makes." if call.is_made else "The contract of %s. This call does the same, as tests show."
     end = "panics" if panics(call) else "ends the program"
     said = said % link + " Where that returns an error, this call %s." % end * call.proved.can_fail()
     names = ["`S` is [`Entries`](crate::fallible::Entries)"] if any("S.model" in line for line in parts["Proved"]) else []
@@ -100,7 +101,7 @@ def contract(call: Call) -> list[str]:
 
 def documentation(call: Call, text: Text, root: frozenset[str]) -> list[str]:
     """Returns the doc comment of a call."""
-    prose, fence, example = "\n".join(text.lines).partition("```")
+    prose, fence, example = linked("\n".join(text.lines), root).partition("```")
     first = "\n".join(sections(call.described.docs)[""])
     lines = [*at_the_root(first, root).split("\n"), ""]
     if prose.strip():

@@ -111,9 +111,6 @@ def check(row: Row, root: frozenset[str]) -> None:
     for it in row.parameters:
         if not re.search(rf"\b{it.name}\b", row.expression):
             raise row.stop("the argument %s is not used" % it.name)
-    for name in ("Result", "Option"):
-        if row.returns.startswith(name) and "done(" in row.expression:
-            raise row.stop("it returns a %s, and panics" % name)
 
 
 def read(text: str, root: frozenset[str]) -> list[Row]:

@@ -15,7 +15,7 @@ from ..drop_in.command import main as main_of_tool
 from ..drop_in.effects import effect_of
 from ..drop_in.enum_file import documentation, instruction_file
 from ..drop_in.own_bytes import ALLOWED, check_writes
-from ..drop_in.proved import MODULES, SOURCES, layer
+from ..drop_in.proved import MODULES, SOURCES, Layer, layer
 from ..drop_in.root_file import root_file
 from ..drop_in.root_table import Call, calls_of, head_of
 from ..drop_in.standard import class_of, field
@@ -93,6 +93,63 @@ def said_trouble() -> str | None:
     return None
 
 
+# A file of the proved layer.
+PROVED = """/// A list.
+pub type List<A = Global> = Counted<Items, Pieces<A>>;
+
+impl<K, S: Store> Counted<K, S> {
+    /// Returns the number of entries.
+    ///
+    /// # Proved
+    #[inline]
+    pub fn len(&self) -> u32 {
+        self.entries.len()
+    }
+}
+
+impl<S: Store> Counted<Items, S>
+where
+    S: Copy,
+{
+    pub(crate) fn add<T: Into<u8>, F: Fn(u8) -> T>(
+        &mut self,
+        mut item: T,
+        given: (u8, F),
+    ) -> Result<()>
+    where
+        T: Copy,
+    {
+        Ok(())
+    }
+}
+
+impl Encode for Items {
+    fn encode(&self) {}
+}
+
+pub fn sum_of(items: &[u8]) -> Result<u8> {
+    Ok(0)
+}
+"""
+
+
+def layer_trouble() -> str | None:
+    """Calls of impls are those of the types that aliases name, and impls of traits have none."""
+    known = Layer([PROVED])
+    add, length, total = known.call("List", "add"), known.call("List", "len"), known.of_part("sum_of")
+    if (add.parameters, add.returns, add.is_public) != ([("item", "T"), ("given", "(u8, F)")], "Result<()>", False):
+        return f"another call: {add}"
+    if (length.docs, length.can_fail(), total.can_fail()) != (["Returns the number of entries.", "", "# Proved"], False, True):
+        return f"other calls: {length}, {total}"
+    for of, name in (("List", "encode"), ("Lists", "add"), ("List", "sum_of")):
+        try:
+            known.call(of, name)
+        except Stop:
+            continue
+        return f"{of} has {name}"
+    return None
+
+
 # Calls of the root, each with a part of the message that it stops the tool with.
 STOPPED = (
     ("Export\tfn export(&mut self)\tself.0.len()", "the root has no such type"),
@@ -158,7 +215,7 @@ def contract_trouble() -> str | None:
         if part not in text:
             return f"it does not have {part}"
     row = calls("GlobalSection\tfn global(&mut self, ty: GlobalType, init: &ConstExpr)\tdone(self.0.add_record(&(ty, Lent(init))))")
-    if "This call leads to the same bytes, as tests show." not in unwrapped(root_file(row, {}, frozenset())):
+    if "This call does the same, as tests show." not in unwrapped(root_file(row, {}, frozenset())):
         return "it does not say that another call is proved"
     if head_of("", "fn f<T>(self, list: [T; 2]) -> Map<u8, T> where T: Fn(u8) -> u8, T: Copy")[5:] != ("Map<u8, T>", ["T: Fn(u8) -> u8", "T: Copy"]):
         return "another signature"
@@ -171,7 +228,9 @@ def exports_trouble() -> str | None:
     named = exports.read(head + "Tag\tkinds\tevent, throw\nTags\tcrate::base\n")
     if not exports.names_file(named).endswith('#[doc(alias = "event")]\n#[doc(alias = "throw")]\npub use super::kinds::Tag;\npub use crate::base::Tags;\n'):
         return "other exports"
-    if '    (Tag) => {\n        r##"A tag."##\n    };\n' not in exports.texts_file(named, {"Tag": Text("", [], {}, ["A tag."]), "Tag::new": Text("")}):
+    text = Text("", [], {}, ["A tag, [`Tags`], [`Tag::new`], [`u8`] or [`Tags`](Tag)."])
+    said = "A tag, [`Tags`](super::Tags), [`Tag::new`](super::Tag::new), [`u8`] or [`Tags`](Tag)."
+    if f'    (Tag) => {{\n        r##"{said}"##\n    }};\n' not in exports.texts_file(named, {"Tag": text, "Tag::new": Text("")}):
         return "another text"
     stopped = (
         lambda: exports.read(head + "Tag\tkinds\nTag\tkinds\n"),
@@ -251,6 +310,6 @@ def main() -> int:
     """Runs the tests."""
     troubles = {
         "touched files": check_trouble, "the proved sink": proved_trouble, "matches": match_trouble, "doc comments": said_trouble,
-        "rows of calls at the root": rows_trouble, "contracts at the root": contract_trouble, "names of the root": exports_trouble, "bytes by hand": own_bytes_trouble,
+        "the proved layer": layer_trouble, "rows of calls at the root": rows_trouble, "contracts at the root": contract_trouble, "names of the root": exports_trouble, "bytes by hand": own_bytes_trouble,
     }
     return end([report("drop-in-test", name, trouble()) for name, trouble in troubles.items()])
