@@ -62,6 +62,7 @@ impl fmt::Debug for ConstExpr {
 }
 
 /// Returns the encodings of instructions.
+#[inline]
 pub fn encodings<'a>(instructions: impl IntoIterator<Item = Instruction<'a>>) -> Bytes {
     let mut bytes = Vec::with_capacity(FEW);
     for instruction in instructions {
@@ -72,6 +73,7 @@ pub fn encodings<'a>(instructions: impl IntoIterator<Item = Instruction<'a>>) ->
 
 impl ConstExpr {
     /// Returns the expression of these encoded instructions.
+    #[inline]
     pub(super) const fn stored(bytes: Bytes) -> Self {
         ConstExpr(Instructions::Encoded(bytes))
     }

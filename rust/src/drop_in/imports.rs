@@ -1,6 +1,6 @@
 //! The import section, and the types of imported items.
 use super::{ImportSection, TagType, by_proved, done, handed, same_cases, same_fields};
-use crate::ending::Root;
+use crate::base::CowSlice;
 use crate::sections;
 use crate::sections::{GlobalType, MemoryType, TableType};
 use alloc_crate::borrow::Cow;
@@ -77,7 +77,7 @@ impl ImportSection {
 impl<'a> Imports<'a> {
     /// Converts the entry for a proved call. A borrowed list of items is copied, since their types
     /// are converted.
-    pub(super) fn proved(self) -> sections::Imports<'a, Root> {
+    pub(super) fn proved(self) -> sections::Imports<'a> {
         match self {
             Imports::Single(import) => sections::Imports::Single(import.into()),
             Imports::Compact1 { module, items } => {
@@ -85,7 +85,7 @@ impl<'a> Imports<'a> {
                 let items: Vec<_> = items.map(sections::ImportCompact::from).collect();
                 sections::Imports::Compact1 {
                     module,
-                    items: handed(items.into()),
+                    items: CowSlice::Owned(items.into()),
                 }
             }
             Imports::Compact2 { module, ty, names } => sections::Imports::Compact2 {

@@ -103,10 +103,10 @@ impl From<Pieces> for Pieces<Root> {
 }
 
 /// Converts items for a proved call. None is copied.
-fn handed<T: Clone>(items: Cow<'_, [T]>) -> CowSlice<'_, T, Root> {
+fn handed<T: Clone>(items: Cow<'_, [T]>) -> CowSlice<'_, T> {
     match items {
         Cow::Borrowed(items) => CowSlice::Borrowed(items),
-        Cow::Owned(items) => CowSlice::Owned(vec::Vec::from(items).into_ending()),
+        Cow::Owned(items) => CowSlice::Owned(items.into()),
     }
 }
 

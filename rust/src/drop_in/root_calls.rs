@@ -524,9 +524,9 @@ impl ImportSection {
     /// # Proved
     ///
     /// The contract of
-    /// [`fallible::ImportSection::imports`](crate::fallible::ImportSection#method.imports), which
-    /// this call makes. Where that returns an error, this call panics. In the clauses, `S` is
-    /// [`Entries`](crate::fallible::Entries).
+    /// [`fallible::ImportSection::imports`](crate::fallible::ImportSection#method.imports). This
+    /// call does the same, as tests show. Where that returns an error, this call panics. In the
+    /// clauses, `S` is [`Entries`](crate::fallible::Entries).
     ///
     /// The builder gains one entry with this encoding, or the call returns an error and changes nothing. A full builder, with 2^32 - 1 entries, returns `TooLong`.
     ///
@@ -537,7 +537,7 @@ impl ImportSection {
     ///
     /// Definitions: [`AddsTo`](crate::definitions::base::calls::AddsTo), [`import_encoding`](crate::definitions::sections::imports::import_encoding), [`imports_item`](crate::definitions::sections::imports::imports_item), [`IsEncodableImport`](crate::definitions::sections::imports::IsEncodableImport). [How to read clauses](crate::definitions).
     pub fn imports<'a>(&mut self, imports: Imports<'a>) -> &mut Self {
-        done(self.0.imports(imports.proved()));
+        done(self.0.add_record(&imports.proved()));
         self
     }
 
