@@ -68,9 +68,8 @@ pub enum Imports<'a> {
 
 impl ImportSection {
     /// Appends an import. It is compiled here, and not in the user's crate for each type.
-    pub(super) fn single(&mut self, module: &str, name: &str, ty: EntityType) -> &mut Self {
+    pub(super) fn single(&mut self, module: &str, name: &str, ty: EntityType) {
         done(self.0.import(module, name, ty.into()));
-        self
     }
 }
 

@@ -570,7 +570,8 @@ impl ImportSection {
     /// Definitions: [`AddsTo`](crate::definitions::base::calls::AddsTo), [`size_prefixed_encoding`](crate::definitions::base::encodings::size_prefixed_encoding), [`entity_encoding`](crate::definitions::sections::imports::entity_encoding), [`HasEncodableSize`](crate::definitions::base::encodings::HasEncodableSize). [How to read clauses](crate::definitions).
     #[inline]
     pub fn import(&mut self, module: &str, name: &str, ty: impl Into<EntityType>) -> &mut Self {
-        self.single(module, name, ty.into())
+        self.single(module, name, ty.into());
+        self
     }
 }
 

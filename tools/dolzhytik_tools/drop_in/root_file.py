@@ -128,8 +128,8 @@ def signature(row: Row) -> str:
 
 
 def body(row: Row) -> str:
-    """Returns the body of a call, which returns the builder if the proved call returns nothing."""
-    if row.returns == "&mut Self" and not row.is_of_root():
+    """Returns the body of a call."""
+    if row.returns == "&mut Self":
         return "        %s;\n        self\n" % row.expression
     return "        %s\n" % row.expression
 

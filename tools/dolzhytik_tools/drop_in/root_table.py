@@ -44,10 +44,6 @@ class Row:
     expression: str
     attributes: str
 
-    def is_of_root(self) -> bool:
-        """Returns whether the expression calls another call of the root."""
-        return OF_ROOT.match(self.expression) is not None
-
     def is_constant(self) -> bool:
         """Returns whether it is a constant."""
         return self.name.isupper()
