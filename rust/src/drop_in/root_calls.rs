@@ -797,8 +797,7 @@ impl DataSection {
 
     /// Adds a segment.
     ///
-    /// If there are more than 4294967295 bytes, the call panics and requests none of
-    /// them, as tests show.
+    /// If there are more than 4294967295 bytes, the call panics and requests none of them.
     ///
     /// # Panics
     ///
@@ -842,7 +841,7 @@ impl DataSection {
 
     /// Adds a segment whose bytes are copied to this memory when the module is instantiated.
     ///
-    /// If there are more than 4294967295 bytes, the call panics.
+    /// If there are more than 4294967295 bytes, the call panics and requests none of them.
     ///
     /// # Panics
     ///
@@ -2058,8 +2057,7 @@ impl FuncType {
 }
 
 impl CoreTypeEncoder<'_> {
-    /// Adds a function type of these parameters and results. If an iterator reports more than
-    /// 4294967295 items, the call panics and requests none, as tests show.
+    /// Adds a function type of these parameters and results.
     ///
     /// The parameters are finished before the results are measured.
     ///
@@ -3333,9 +3331,6 @@ impl CoreDumpInstancesSection {
 
     /// Adds an instance of the module, with these memories and globals.
     ///
-    /// If there are more than 4294967295 memories or globals, the call panics and
-    /// requests none of either, as tests show.
-    ///
     /// The memories are finished before the globals are made and measured.
     ///
     /// # Panics
@@ -3447,9 +3442,6 @@ impl CoreDumpStackSection {
 
     /// Adds a stack frame: its instance and function, the offset in the function, its locals, and
     /// its operand stack.
-    ///
-    /// If there are more than 4294967295 values in either list, the call panics and
-    /// requests none of either, as tests show.
     ///
     /// The locals are finished before the stack is made and measured.
     ///

@@ -15,7 +15,8 @@ WRITES = re.compile(
     |\b(?:Extend::extend|copy_from_slice|copy_within|write_all|fill)\(
     |\+=\s*1\b                                                     # A count
     |\bto_[lbn]e_bytes\b
-    |\b0x[0-9A-Fa-f]{1,2}(?:_?u8)?\b | \bb'[^']*' | \bb"[^"]*"       # Bytes of the format
+    |\b(?:0x[0-9A-Fa-f]{1,2}(?:_?u8)?|\d+_?u8)\b | \bb['"]                   # Bytes of the format
+    |\bconst\s\w+:\s(?:u8|\[u8)\b
     """,
     re.VERBOSE,
 )

@@ -23,6 +23,8 @@ ERRORS = (
     (r"Returns \[`Memory`\]\(\S+\) if .*\ballocation .*fails\..*", ""),
 )
 ENDS = "A failed allocation ends the program."
+# Types with a lifetime.
+BORROWED = {"CoreTypeEncoder"}
 LENGTH_ALONE = '#[allow(clippy::len_without_is_empty, reason = "the Rust crate has none")]\n'
 
 
@@ -45,11 +47,17 @@ def trimmed(lines: list[str]) -> list[str]:
     return "\n".join(lines).strip("\n").split("\n") if any(lines) else []
 
 
-def at_the_root(prose: str, root: frozenset[str]) -> str:
-    """Returns prose about a proved call as prose about that of the root: its links are to types of
+# A sentence of a proved call about the order of its requests, which another call need not keep.
+ORDER = re.compile(r"\s*If [^.]* the call\s+returns `TooLong`[^.]*\.")
+
+
+def prose_of(call: Call, root: frozenset[str]) -> list[str]:
+    """Returns what the proved call does as prose about that of the root: its links are to types of
     the root, and it panics."""
-    linked = re.sub(r"\(crate::\w+::(\w+)\b", lambda it: "(super::%s" % it[1] if it[1] in root else it[0], prose)
-    return linked.replace("the call returns `TooLong`", "the call panics")
+    prose = "\n".join(sections(call.described.docs)[""])
+    prose = prose if call.is_made else ORDER.sub("", prose)
+    prose = re.sub(r"\(crate::\w+::(\w+)\b", lambda it: "(super::%s" % it[1] if it[1] in root else it[0], prose)
+    return prose.replace("the call returns `TooLong`", "the call panics").split("\n")
 
 
 def panics(call: Call) -> list[str]:
@@ -87,6 +95,8 @@ def given(call: Call) -> Iterator[Parameter | None]:
 def contract(call: Call) -> list[str]:
     """Returns the contract of the proved call, under what the root changes."""
     parts = sections(call.proved.docs)
+    if "Proved" not in parts:
+        raise call.row.stop("the proved call has no contract")
     name = call.proved.name
     link = "[`fallible::%s::%s`](crate::fallible::%s#method.%s)" % (call.row.of, name, call.row.of, name)
     said = "The contract of %s, which this call makes." if call.is_made else "The contract of %s. This call does the same, as tests show."
@@ -102,8 +112,7 @@ def contract(call: Call) -> list[str]:
 def documentation(call: Call, text: Text, root: frozenset[str]) -> list[str]:
     """Returns the doc comment of a call."""
     prose, fence, example = linked("\n".join(text.lines), root).partition("```")
-    first = "\n".join(sections(call.described.docs)[""])
-    lines = [*at_the_root(first, root).split("\n"), ""]
+    lines = [*prose_of(call, root), ""]
     if prose.strip():
         lines += [it for line in prose.strip().split("\n") for it in wrapped(line)] + [""]
     if call.row.is_constant():
@@ -152,7 +161,7 @@ def impls(calls: list[Call], items: list[str]) -> Iterator[str]:
         of.setdefault(call.row.of, []).append(place)
     for name, places in of.items():
         names = {calls[place].row.name for place in places}
-        generics = "<'_>" if name == "CoreTypeEncoder" else ""
+        generics = "<'_>" if name in BORROWED else ""
         head = LENGTH_ALONE if "len" in names and "is_empty" not in names else ""
         yield "%simpl %s%s {\n%s}\n" % (head, name, generics, "\n".join(items[place] for place in places))
 

@@ -217,6 +217,11 @@ def contract_trouble() -> str | None:
     row = calls("GlobalSection\tfn global(&mut self, ty: GlobalType, init: &ConstExpr)\tdone(self.0.add_record(&(ty, Lent(init))))")
     if "This call does the same, as tests show." not in unwrapped(root_file(row, {}, frozenset())):
         return "it does not say that another call is proved"
+    # Only the proved call says which items it requests.
+    for made, said in (("struct_(fields)", True), ("section.add_once(fields)", False)):
+        row = calls(f"CoreTypeEncoder\tfn struct_(self, fields: F)\tdone(self.0.{made})")
+        if ("the call panics and requests none" in unwrapped(root_file(row, {}, frozenset()))) != said:
+            return f"other words of the order of requests: {made}"
     if head_of("", "fn f<T>(self, list: [T; 2]) -> Map<u8, T> where T: Fn(u8) -> u8, T: Copy")[5:] != ("Map<u8, T>", ["T: Fn(u8) -> u8", "T: Copy"]):
         return "another signature"
     return None if "impl TagSection {" in root_files(TOP)["rust/src/drop_in/root_calls.rs"] else "the table has no calls of tags"
@@ -250,7 +255,7 @@ def exports_trouble() -> str | None:
 # Lines that write bytes. None is in the list of those that may.
 PLANTED = (
     "sink.push(0);", "sink.push_reserved(id);", "self.bytes.extend(bytes);", "dst.extend_from_slice(&data);", "self.count += 1;",
-    "let bytes = value.to_le_bytes();", "let mark = 0x40;", "(0x00u8, name).encode(sink)", "sink.insert(0, id);", "let end = b'\\x0B';",
+    "let bytes = value.to_le_bytes();", "let mark = 0x40;", "(0x00u8, name).encode(sink)", "(64_u8, name).encode(sink)", "const MARK: u8 = 64;", "let head = *b\"\\0asm\";", "sink.insert(0, id);", "let end = b'\\x0B';",
 )
 
 
@@ -263,7 +268,7 @@ def own_bytes_trouble() -> str | None:
         try:
             check_writes({**files, path: files[path] + f"fn planted() {{\n    {line}\n}}\n"}, rows)
         except Stop as stop:
-            if not str(stop).startswith(f"{path}:") or "planted writes bytes" not in str(stop):
+            if not str(stop).startswith(f"{path}:") or "writes bytes" not in str(stop):
                 return f"it stopped with: {stop}"
         else:
             return f"it was not stopped at: {line}"
