@@ -48,7 +48,7 @@ def trimmed(lines: list[str]) -> list[str]:
 
 
 # A sentence of a proved call about the order of its requests, which another call need not keep.
-ORDER = re.compile(r"\s*If [^.]* the call\s+returns `TooLong`[^.]*\.")
+ORDER = re.compile(r"\s*If [^.]*\sthe call\s+returns `TooLong`[^.]*\.")
 
 
 def prose_of(call: Call, root: frozenset[str]) -> list[str]:
