@@ -55,7 +55,7 @@
 //!
 //! | | at the root | here |
 //! |---|---|---|
-//! | status | tested: proved encoders append each entry, and the root itself raw bytes, ids of sections, and lists and options of any type | proved, by the clauses on each page |
+//! | status | tested: proved encoders append each number and entry, and the root itself opcodes and the raw bytes of bodies | proved, by the clauses on each page |
 //! | calls that add | return `&mut Self`, or nothing | return a `Result` |
 //! | a count, run or length past 4294967295 | a panic, before an item is taken from a list that is too long | the error `TooLong`, and no change |
 //! | a failed allocation | ends the program | the error `Memory`, and no change |

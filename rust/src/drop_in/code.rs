@@ -1,33 +1,15 @@
 //! Functions, the code section, and the named calls for instructions.
 use super::bytes::{append, append_once};
 use super::short::{EMPTY_BLOCK, Short, put_short};
-use super::{Encode, Instruction, NONE, done, listed};
-use crate::alloc::Global;
-use crate::base::{self, Encode as _, Result, ValType, vec_of};
+use super::{Encode, NONE, done, listed};
+use crate::base::{self, Encode as _, Result, vec_of};
 use crate::code::{CodeSectionIn, joined};
-use crate::ending::{FEW, Growing, Root, grow};
+use crate::ending::{Growing, Root, grow};
 use crate::immediates::BlockType;
 use crate::{code, insn};
 use alloc_crate::vec::Vec;
 
-/// Appends instructions to a list of bytes, by a named call for each.
-///
-/// [`Function::instructions`] returns one for a body, and [`InstructionSink::new`] makes one for
-/// any `Vec<u8>`. Each call returns the sink, so that calls form a chain. A call takes the
-/// immediates of its instruction as arguments. An [`Instruction`] is the same as a value.
-///
-/// An instruction is appended as its opcode, and each immediate by the proved `encode` that the
-/// calls of [`fallible::InstructionSink`](crate::fallible::InstructionSink) make too. Blocks and
-/// types are not checked.
-///
-/// ```
-/// use dolzhytik::InstructionSink;
-///
-/// let mut bytes = Vec::new();
-/// InstructionSink::new(&mut bytes).local_get(0).i32_const(64).i32_add().end();
-/// // local.get 0: 20 00. i32.const 64: 41, and 64 as signed LEB128, C0 00. i32.add: 6A. end: 0B.
-/// assert_eq!(bytes, [0x20, 0x00, 0x41, 0xC0, 0x00, 0x6A, 0x0B]);
-/// ```
+#[doc = text!(InstructionSink)]
 #[derive(Debug)]
 pub struct InstructionSink<'a> {
     sink: &'a mut Vec<u8>,
@@ -150,27 +132,10 @@ impl<'a> InstructionSink<'a> {
     }
 }
 
-/// The body of a function: its locals and its instructions.
-///
-/// [`CodeSection::function`] takes it. End it with the instruction `end`, which no call adds.
-/// Parameters are locals too, with the first indices; they are part of the function's type, and not
-/// of its body. The encoding is defined in the core specification, Modules, Code Section.
-///
-/// The proved builder of the same bytes is [`fallible::Function`](crate::fallible::Function), which
-/// converts to this type.
-///
-/// ```
-/// use dolzhytik::{Function, Instruction, ValType};
-///
-/// let mut body = Function::new([(1, ValType::I64)]);
-/// body.instruction(&Instruction::I32Const(7)).instruction(&Instruction::Drop);
-/// body.instructions().nop().end();
-/// // One run of locals: 1 of i64, 7E. i32.const 7: 41 07. drop: 1A. nop: 01. end: 0B.
-/// assert_eq!(body.into_raw_body(), [1, 1, 0x7E, 0x41, 0x07, 0x1A, 0x01, 0x0B]);
-/// ```
+#[doc = text!(Function)]
 #[derive(Clone, Debug, PartialEq, Eq)]
 pub struct Function {
-    bytes: Vec<u8>,
+    pub(super) bytes: Vec<u8>,
 }
 
 /// Converts a body built by the calls of [`fallible::Function`](crate::fallible::Function).
@@ -182,97 +147,6 @@ impl From<code::Function> for Function {
     }
 }
 
-impl Function {
-    /// Creates a body without instructions. Each pair is a run of locals: their number and type.
-    ///
-    /// # Panics
-    ///
-    /// Panics if there are more than 4294967295 runs.
-    pub fn new<L>(locals: L) -> Self
-    where
-        L: IntoIterator<Item = (u32, ValType)>,
-        L::IntoIter: ExactSizeIterator,
-    {
-        let mut bytes = Vec::with_capacity(FEW);
-        append_once(done(vec_of(locals)), &mut bytes);
-        Function { bytes }
-    }
-
-    /// Creates a body without instructions, with one local for each type. Neighbours of the same
-    /// type form one run.
-    ///
-    /// ```
-    /// use dolzhytik::{Function, ValType};
-    ///
-    /// let body = Function::new_with_locals_types([ValType::I32, ValType::I32, ValType::F32]);
-    /// // Two runs: 2 of i32, 7F, and 1 of f32, 7D.
-    /// assert_eq!(body.into_raw_body(), [2, 2, 0x7F, 1, 0x7D]);
-    /// ```
-    ///
-    /// # Panics
-    ///
-    /// Panics if the number of runs, or of locals in one, would pass 4294967295.
-    pub fn new_with_locals_types<L>(locals: L) -> Self
-    where
-        L: IntoIterator<Item = ValType>,
-    {
-        done(code::Function::new_with_locals_types(Global, locals)).into()
-    }
-
-    /// Returns the named calls that append instructions to this body.
-    #[inline]
-    pub fn instructions(&mut self) -> InstructionSink<'_> {
-        InstructionSink::new(&mut self.bytes)
-    }
-
-    /// Appends an instruction.
-    ///
-    /// # Panics
-    ///
-    /// Panics if a list of the instruction has more than 4294967295 items.
-    #[inline]
-    pub fn instruction(&mut self, instruction: &Instruction) -> &mut Self {
-        instruction.encode(&mut self.bytes);
-        self
-    }
-
-    /// Appends bytes as they are, such as encoded instructions. They are not checked.
-    pub fn raw<B>(&mut self, bytes: B) -> &mut Self
-    where
-        B: IntoIterator<Item = u8>,
-    {
-        self.bytes.extend(bytes);
-        self
-    }
-
-    /// Returns the length of the body in bytes, locals included. It is the offset of the next
-    /// instruction in [`into_raw_body`](Function::into_raw_body), as a
-    /// [`BranchHint`](super::BranchHint) needs it.
-    ///
-    /// ```
-    /// use dolzhytik::Function;
-    ///
-    /// let mut body = Function::new([]);
-    /// // No runs of locals: the count 0 is one byte.
-    /// assert_eq!(body.byte_len(), 1);
-    /// body.instructions().i32_const(7);
-    /// // i32.const 7: 41 07.
-    /// assert_eq!(body.byte_len(), 3);
-    /// ```
-    #[doc(alias = "offset")]
-    #[doc(alias = "byte offset")]
-    #[doc(alias = "instruction offset")]
-    #[doc(alias = "position")]
-    pub fn byte_len(&self) -> usize {
-        self.bytes.len()
-    }
-
-    /// Returns the bytes of the body without its size prefix, as [`CodeSection::raw`] takes them.
-    pub fn into_raw_body(self) -> Vec<u8> {
-        self.bytes
-    }
-}
-
 /// Encodes the size prefix and the body.
 impl Encode for Function {
     fn encode(&self, sink: &mut Vec<u8>) {
@@ -280,74 +154,7 @@ impl Encode for Function {
     }
 }
 
-/// The code section: the bodies of the functions that the module defines.
-///
-/// Add one body for each entry of the [`FunctionSection`](super::FunctionSection), in the same
-/// order. [`Module::section`](super::Module::section) takes the section. The encoding is defined in
-/// the core specification, Modules, Code Section.
-///
-/// Its calls are those of the proved
-/// [`fallible::joined::CodeSection`](crate::fallible::joined::CodeSection). To decode a code
-/// section, see [`reader::Section::bodies`](crate::reader::Section::bodies).
-///
-/// ```
-/// use dolzhytik::{CodeSection, Function, Module};
-///
-/// let mut body = Function::new([]);
-/// body.instructions().local_get(0).end();
-/// let mut code = CodeSection::new();
-/// code.function(&body);
-///
-/// let mut module = Module::new();
-/// module.section(&code);
-/// // Id 10, size 6, one body. The body: size 4, no locals, local.get 0 (20 00), end (0B).
-/// assert_eq!(module.as_slice()[8..], [10, 6, 1, 4, 0, 0x20, 0x00, 0x0B]);
-/// ```
-///
-/// # Panics
-///
-/// Its calls panic where the number of bodies, or the size of one, would pass 4294967295. A failed
-/// allocation ends the program.
-pub struct CodeSection(joined::CodeSection<Root>);
+#[doc = text!(CodeSection)]
+pub struct CodeSection(pub(super) joined::CodeSection<Root>);
 
 listed!(CodeSection of code Code: CodeSectionIn { entries: NONE });
-
-impl CodeSection {
-    /// Returns the length of all bodies in bytes, with their size prefixes. The number of bodies,
-    /// which is encoded before them, is not included.
-    pub fn byte_len(&self) -> usize {
-        self.0.byte_len()
-    }
-
-    /// Appends a body.
-    ///
-    /// # Panics
-    ///
-    /// Panics if the body has more than 4294967295 bytes, or the section has 4294967295 bodies.
-    #[inline]
-    pub fn function(&mut self, func: &Function) -> &mut Self {
-        self.raw(&func.bytes)
-    }
-
-    /// Appends a body by its bytes, without the size prefix. They are not checked.
-    ///
-    /// ```
-    /// use dolzhytik::{CodeSection, Encode};
-    ///
-    /// let mut code = CodeSection::new();
-    /// code.raw(&[0x00, 0x0B]); // No locals; end.
-    /// let mut bytes = Vec::new();
-    /// code.encode(&mut bytes);
-    /// // Size 4, one body, of size 2.
-    /// assert_eq!(bytes, [4, 1, 2, 0x00, 0x0B]);
-    /// ```
-    ///
-    /// # Panics
-    ///
-    /// Panics if there are more than 4294967295 bytes, or the section has 4294967295 bodies.
-    #[inline]
-    pub fn raw(&mut self, data: &[u8]) -> &mut Self {
-        done(self.0.raw(data));
-        self
-    }
-}

@@ -1,42 +1,18 @@
 //! Constant expressions.
 use super::bytes::Bytes;
 use super::{Encode, Instruction, done};
-use crate::base::{self, HeapType, Result};
+use crate::base::{self, Result};
 use crate::code;
 use crate::code::const_expr::{Stored, function_at_front};
 use crate::code::expression::END;
 use crate::code::first::First;
 use crate::ending::{FEW, Growing};
-use crate::immediates::{Ieee32, Ieee64};
 use crate::insn::InstructionSink;
 use crate::vec::Sink;
 use alloc_crate::vec::Vec;
 use core::fmt;
 
-/// A constant expression: the initial value of a global or a table, the offset of a segment, or an
-/// element.
-///
-/// [`GlobalSection::global`](super::GlobalSection::global),
-/// [`TableSection::table_with_init`](super::TableSection::table_with_init),
-/// [`DataSection::active`](super::DataSection::active),
-/// [`ElementSection::active`](super::ElementSection::active) and
-/// [`Elements::Expressions`](super::Elements::Expressions) take it. Begin with the call of an
-/// instruction, and add others by the calls `with_..`. The encoding appends `end`. The core
-/// specification defines it in Instructions, Expressions, and which instructions are constant in
-/// Validation, Constant Expressions. That is not checked.
-///
-/// It has the size of a vector. One instruction of a number or a type, and up to 15 bytes of
-/// instructions, take no allocation. The proved builder of the same bytes is
-/// [`fallible::ConstExpr`](crate::fallible::ConstExpr), which converts to this type.
-///
-/// ```
-/// use dolzhytik::{ConstExpr, Encode};
-///
-/// let mut bytes = Vec::new();
-/// ConstExpr::global_get(0).with_i32_const(8).with_i32_add().encode(&mut bytes);
-/// // global.get 0: 23 00. i32.const 8: 41 08. i32.add: 6A. end: 0B.
-/// assert_eq!(bytes, [0x23, 0x00, 0x41, 0x08, 0x6A, 0x0B]);
-/// ```
+#[doc = text!(ConstExpr)]
 #[derive(Clone)]
 pub struct ConstExpr(Instructions);
 
@@ -85,89 +61,41 @@ impl fmt::Debug for ConstExpr {
     }
 }
 
-/// Defines the calls that begin with an instruction, and those that append it.
-macro_rules! instructions {
-    ($($new:ident $with:ident $case:ident($name:ident: $type:ty))*) => {
-        $(
-            #[doc = concat!("Returns the expression of one instruction, [`Instruction::", stringify!($case), "`].")]
-            #[inline]
-            pub const fn $new($name: $type) -> Self {
-                ConstExpr(Instructions::One(First::$case($name)))
-            }
-
-            #[doc = concat!("Appends [`Instruction::", stringify!($case), "`].")]
-            pub fn $with(self, $name: $type) -> Self {
-                self.with_first(First::$case($name))
-            }
-        )*
-    };
-}
-
-/// Defines the calls that append an instruction without immediates.
-macro_rules! operations {
-    ($($with:ident $call:ident $case:ident)*) => {
-        $(
-            #[doc = concat!("Appends [`Instruction::", stringify!($case), "`].")]
-            pub fn $with(self) -> Self {
-                self.with(|sink| sink.$call())
-            }
-        )*
-    };
+/// Returns the encodings of instructions.
+#[inline]
+pub fn encodings<'a>(instructions: impl IntoIterator<Item = Instruction<'a>>) -> Bytes {
+    let mut bytes = Vec::with_capacity(FEW);
+    for instruction in instructions {
+        instruction.encode(&mut bytes);
+    }
+    bytes.into()
 }
 
 impl ConstExpr {
-    /// Returns the expression without instructions, to which calls `with_..` append.
-    pub const fn empty() -> Self {
-        ConstExpr(Instructions::Encoded(Bytes::new()))
+    /// Returns the expression of these encoded instructions.
+    #[inline]
+    pub(super) const fn stored(bytes: Bytes) -> Self {
+        ConstExpr(Instructions::Encoded(bytes))
     }
 
-    /// Returns the expression of these encoded instructions, without an `end`, which the encoding
-    /// appends. The bytes are not checked.
-    ///
-    /// ```
-    /// use dolzhytik::{ConstExpr, Encode};
-    ///
-    /// let mut bytes = Vec::new();
-    /// ConstExpr::raw([0x41, 0x2A]).encode(&mut bytes); // i32.const 42
-    /// assert_eq!(bytes, [0x41, 0x2A, 0x0B]);
-    /// ```
-    pub fn raw(bytes: impl IntoIterator<Item = u8>) -> Self {
-        let mut encoded = Bytes::new();
-        encoded.extend(bytes).ok();
-        ConstExpr(Instructions::Encoded(encoded))
-    }
-
-    /// Returns the expression of these instructions, without an `end`, which the encoding appends.
-    ///
-    /// ```
-    /// use dolzhytik::{ConstExpr, Encode, Instruction};
-    ///
-    /// let mut bytes = Vec::new();
-    /// ConstExpr::extended([Instruction::I32Const(1), Instruction::RefI31]).encode(&mut bytes);
-    /// // i32.const 1: 41 01. ref.i31: FB 1C. end: 0B.
-    /// assert_eq!(bytes, [0x41, 0x01, 0xFB, 0x1C, 0x0B]);
-    /// ```
-    ///
-    /// # Panics
-    ///
-    /// Panics if a list of an instruction has more than 4294967295 items.
-    pub fn extended<'a>(insns: impl IntoIterator<Item = Instruction<'a>>) -> Self {
-        let mut bytes = Vec::with_capacity(FEW);
-        for instruction in insns {
-            instruction.encode(&mut bytes);
-        }
-        ConstExpr(Instructions::Encoded(bytes.into()))
+    /// Returns the expression of an instruction of a number or a type.
+    #[inline]
+    pub(super) const fn one(instruction: First) -> Self {
+        ConstExpr(Instructions::One(instruction))
     }
 
     /// Appends an instruction of a number or a type by its proved `encode`.
-    fn with_first(self, instruction: First) -> Self {
+    pub(super) fn with_first(self, instruction: First) -> Self {
         let mut bytes = self.into_bytes();
         done(base::Encode::encode(&instruction, &mut bytes));
         ConstExpr(Instructions::Encoded(bytes))
     }
 
     /// Appends by a proved call.
-    fn with(self, call: impl FnOnce(&mut InstructionSink<'_, Bytes>) -> Result<()>) -> Self {
+    pub(super) fn with(
+        self,
+        call: impl FnOnce(&mut InstructionSink<'_, Bytes>) -> Result<()>,
+    ) -> Self {
         let mut bytes = self.into_bytes();
         done(call(&mut InstructionSink::new(&mut bytes)));
         ConstExpr(Instructions::Encoded(bytes))
@@ -186,44 +114,8 @@ impl ConstExpr {
         }
     }
 
-    instructions! {
-        global_get with_global_get GlobalGet(index: u32)
-        ref_null with_ref_null RefNull(ty: HeapType)
-        ref_func with_ref_func RefFunc(func: u32)
-        i32_const with_i32_const I32Const(value: i32)
-        i64_const with_i64_const I64Const(value: i64)
-        f32_const with_f32_const F32Const(value: Ieee32)
-        f64_const with_f64_const F64Const(value: Ieee64)
-    }
-
-    /// Returns the expression of one instruction, [`Instruction::V128Const`].
-    pub fn v128_const(value: i128) -> Self {
-        ConstExpr::empty().with_v128_const(value)
-    }
-
-    /// Appends [`Instruction::V128Const`].
-    pub fn with_v128_const(self, value: i128) -> Self {
-        self.with(|sink| sink.v128_const(value))
-    }
-
-    operations! {
-        with_i32_add i32_add I32Add
-        with_i32_sub i32_sub I32Sub
-        with_i32_mul i32_mul I32Mul
-        with_i64_add i64_add I64Add
-        with_i64_sub i64_sub I64Sub
-        with_i64_mul i64_mul I64Mul
-    }
-
     /// Returns the index of the function if the expression begins with `ref.func`.
-    ///
-    /// ```
-    /// use dolzhytik::ConstExpr;
-    ///
-    /// assert_eq!(ConstExpr::ref_func(3).get_ref_func(), Some(3));
-    /// assert_eq!(ConstExpr::i32_const(3).get_ref_func(), None);
-    /// ```
-    pub fn get_ref_func(&self) -> Option<u32> {
+    pub(super) fn function_index(&self) -> Option<u32> {
         match &self.0 {
             Instructions::One(first) => first.function_index(),
             Instructions::Encoded(bytes) => function_at_front(bytes),

@@ -1,20 +1,9 @@
 //! The kinds of sections, exports and tags: enums of one byte, with the crate's cases and numbers.
-use super::{Encode, by_proved};
+use super::{Encode, by_proved, same_cases, same_fields};
 use crate::{base, sections};
 use alloc_crate::vec::Vec;
 
-/// The id of a section: core specification, Modules, Sections.
-///
-/// [`Section::id`](super::Section::id) returns it as a byte, and [`RawSection`](super::RawSection)
-/// takes one.
-///
-/// ```
-/// use dolzhytik::SectionId::{self, *};
-///
-/// assert_eq!(Type as u8, 1);
-/// assert_eq!(u8::from(SectionId::DataCount), 12);
-/// assert!([Import, Function].iter().all(|id| *id < Code));
-/// ```
+#[doc = text!(SectionId)]
 #[derive(Clone, Copy, Debug, PartialEq, Eq, PartialOrd, Ord)]
 #[repr(u8)]
 pub enum SectionId {
@@ -48,16 +37,7 @@ pub enum SectionId {
     Tag = 13,
 }
 
-/// The kind of an exported item, which [`ExportSection::export`](super::ExportSection::export)
-/// takes.
-///
-/// Core specification, Modules, Export Section.
-///
-/// ```
-/// use dolzhytik::ExportKind;
-///
-/// assert_eq!(ExportKind::Memory as u8, 2);
-/// ```
+#[doc = text!(ExportKind)]
 #[derive(Clone, Copy, Debug, PartialEq, Eq, Hash)]
 #[repr(u8)]
 pub enum ExportKind {
@@ -73,18 +53,7 @@ pub enum ExportKind {
     Tag = base::CORE_TAG_SORT,
 }
 
-/// The kind of a tag, a field of [`TagType`]. Exceptions are the only kind.
-///
-/// ```
-/// use dolzhytik::{Encode, TagKind, TagSection, TagType};
-///
-/// let mut tags = TagSection::new();
-/// tags.tag(TagType { kind: TagKind::Exception, func_type_idx: 5 });
-/// let mut bytes = Vec::new();
-/// tags.encode(&mut bytes);
-/// // Size 3, one tag: an exception (00) of type 5.
-/// assert_eq!(bytes, [3, 1, 0x00, 5]);
-/// ```
+#[doc = text!(TagKind)]
 #[derive(Clone, Copy, Debug, PartialEq, Eq)]
 #[repr(u8)]
 pub enum TagKind {
@@ -92,18 +61,7 @@ pub enum TagKind {
     Exception = 0,
 }
 
-/// The type of a tag, which [`TagSection::tag`](super::TagSection::tag) takes, and
-/// [`EntityType::Tag`](super::EntityType::Tag) for an imported one.
-///
-/// Core specification, Types, Tag Types.
-///
-/// ```
-/// use dolzhytik::{TagKind, TagSection, TagType};
-///
-/// let mut tags = TagSection::new();
-/// tags.tag(TagType { kind: TagKind::Exception, func_type_idx: 0 });
-/// assert_eq!(tags.len(), 1);
-/// ```
+#[doc = text!(TagType)]
 #[derive(Clone, Copy, Debug, PartialEq, Eq)]
 pub struct TagType {
     /// The kind of the tag.
@@ -123,83 +81,22 @@ impl From<SectionId> for u8 {
 impl Encode for SectionId {
     #[inline]
     fn encode(&self, sink: &mut Vec<u8>) {
-        sink.push(*self as u8);
+        u8::from(*self).encode(sink);
     }
 }
 
 by_proved! { sections: ExportKind TagType }
 
-/// Implements the conversions between an enum and the proved one, by pairs of cases. Both have the
-/// same numbers, so that a conversion compiles to nothing.
-macro_rules! same_cases {
-    ($($name:ident of $module:ident { $($case:ident = $proved:ident),* })*) => {
-        $(
-            impl From<$name> for $module::$name {
-                #[inline]
-                fn from(value: $name) -> Self {
-                    match value {
-                        $($name::$case => Self::$proved,)*
-                    }
-                }
-            }
-
-            impl From<$module::$name> for $name {
-                #[inline]
-                fn from(value: $module::$name) -> Self {
-                    match value {
-                        $($module::$name::$proved => Self::$case,)*
-                    }
-                }
-            }
-        )*
-    };
-}
-
 same_cases! {
     SectionId of base {
-        Custom = Custom,
-        Type = Types,
-        Import = Import,
-        Function = Function,
-        Table = Table,
-        Memory = Memory,
-        Global = Global,
-        Export = Export,
-        Start = Start,
-        Element = Element,
-        Code = Code,
-        Data = Data,
-        DataCount = DataCount,
-        Tag = Tag
+        Custom = Custom, Type = Types, Import = Import, Function = Function, Table = Table,
+        Memory = Memory, Global = Global, Export = Export, Start = Start, Element = Element,
+        Code = Code, Data = Data, DataCount = DataCount, Tag = Tag
     }
     ExportKind of sections {
-        Func = Func,
-        Table = Table,
-        Memory = Memory,
-        Global = Global,
-        Tag = Tag
+        Func = Func, Table = Table, Memory = Memory, Global = Global, Tag = Tag
     }
-    TagKind of sections {
-        Exception = Exception
-    }
+    TagKind of sections { Exception = Exception }
 }
 
-impl From<TagType> for sections::TagType {
-    #[inline]
-    fn from(ty: TagType) -> Self {
-        sections::TagType {
-            kind: ty.kind.into(),
-            func_type_idx: ty.func_type_idx,
-        }
-    }
-}
-
-impl From<sections::TagType> for TagType {
-    #[inline]
-    fn from(ty: sections::TagType) -> Self {
-        TagType {
-            kind: ty.kind.into(),
-            func_type_idx: ty.func_type_idx,
-        }
-    }
-}
+same_fields! { TagType of sections { kind, func_type_idx } }

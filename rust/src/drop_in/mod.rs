@@ -4,11 +4,15 @@
 //! vector for which a failed allocation ends the program (`ending`). So is a custom section of
 //! entries. A list in one is the proved list, over such vectors.
 //!
+//! The calls of types are written from `tools/root-calls.tsv` (`root_calls`), each with the contract
+//! of its proved call. The names are written from `tools/root-exports.tsv` (`names`), and the
+//! documentation of the root's own types from `tools/rustdoc/root.md` (`texts`).
+//!
 //! An instruction is appended as its opcode, and the proved `encode` of each immediate. Short ones
 //! are encoded on the stack (`short`). A body and a module are lists of bytes here, since the crate
-//! lends these before they are complete. So [`Function::raw`] and [`Module::section`] append by
-//! themselves. So do the ids of sections, and [`encode_vec`] and `encode` of lists and options,
-//! whose items may be of any type. Nothing of this is proved; it is tested.
+//! lends these before they are complete. [`encode_vec`], and `encode` of lists and options, take
+//! items of any type. Nothing of this is proved; it is tested. Code by hand appends bytes by proved
+//! calls: `tools/drop-in` has the exceptions.
 //!
 //! Values that the proved calls take are the same types here. The enums of `kinds` and `imports`
 //! are not: they have the crate's cases and sizes, and `From` both ways.
@@ -16,6 +20,10 @@
 //! An error of a proved call ends here as in the crate: a panic where a count, run or length would
 //! pass 4294967295, and [`handle_alloc_error`] where an allocation fails. Sinks whose calls never
 //! fail (`ending`) leave the proved encoders no path for an error.
+
+#[macro_use]
+#[rustfmt::skip]
+mod texts;
 
 mod bytes;
 #[rustfmt::skip]
@@ -31,186 +39,16 @@ mod instruction;
 mod kinds;
 mod later;
 mod module;
+#[rustfmt::skip]
+mod names;
+#[rustfmt::skip]
+mod root_calls;
 mod sections;
 mod short;
 mod types;
 mod values;
 
-// The documentation of these is that of their definitions, with the texts of tools/rustdoc. Words
-// for search are at the re-exports: rustdoc drops those of definitions.
-
-#[doc(alias = "gc")]
-#[doc(alias = "any")]
-#[doc(alias = "exnref")]
-pub use crate::base::AbstractHeapType;
-pub use crate::base::CORE_FUNCTION_EXACT_SORT;
-pub use crate::base::CORE_FUNCTION_SORT;
-pub use crate::base::CORE_GLOBAL_SORT;
-pub use crate::base::CORE_MEMORY_SORT;
-pub use crate::base::CORE_TABLE_SORT;
-pub use crate::base::CORE_TAG_SORT;
-pub use crate::base::HeapType;
-#[doc(alias = "reference types")]
-pub use crate::base::RefType;
-pub use crate::base::ValType;
-#[doc(alias = "leb128")]
-pub use crate::base::encoding_size;
-pub use crate::custom::BranchHint;
-#[doc(alias = "coredump")]
-pub use crate::custom::CoreDumpValue;
-pub use crate::custom::DataSymbolDefinition;
-pub use crate::custom::RawCustomSection;
-pub use crate::immediates::BlockType;
-#[doc(alias = "exception handling")]
-pub use crate::immediates::Catch;
-#[doc(alias = "continuation")]
-#[doc(alias = "stack switching")]
-pub use crate::immediates::Handle;
-pub use crate::immediates::Ieee32;
-pub use crate::immediates::Ieee64;
-#[doc(alias = "simd")]
-pub use crate::immediates::Lane;
-#[doc(alias = "memarg")]
-#[doc(alias = "memory64")]
-#[doc(alias = "multi-memory")]
-pub use crate::immediates::MemArg;
-#[doc(alias = "atomic")]
-pub use crate::immediates::MemArgOrdering;
-pub use crate::immediates::MemArgTarget;
-#[doc(alias = "atomic")]
-pub use crate::immediates::Ordering;
-#[doc(alias = "bulk memory")]
-pub use crate::sections::DataCountSection;
-pub use crate::sections::GlobalType;
-#[doc(alias = "memory64")]
-#[doc(alias = "custom page sizes")]
-#[doc(alias = "limits")]
-pub use crate::sections::MemoryType;
-pub use crate::sections::StartSection;
-#[doc(alias = "table64")]
-#[doc(alias = "limits")]
-pub use crate::sections::TableType;
-#[doc(alias = "gc")]
-pub use crate::types::ArrayType;
-#[doc(alias = "stack switching")]
-pub use crate::types::ContType;
-#[doc(alias = "gc")]
-pub use crate::types::FieldType;
-#[doc(alias = "gc")]
-#[doc(alias = "packed")]
-pub use crate::types::StorageType;
-
-#[doc(alias = "bodies")]
-#[doc(alias = "code section")]
-pub use code::CodeSection;
-#[doc(alias = "body")]
-#[doc(alias = "func")]
-#[doc(alias = "locals")]
-pub use code::Function;
-#[doc(alias = "assembler")]
-#[doc(alias = "emit")]
-pub use code::InstructionSink;
-#[doc(alias = "init")]
-#[doc(alias = "initializer")]
-#[doc(alias = "constant expression")]
-#[doc(alias = "extended const")]
-pub use const_expr::ConstExpr;
-#[doc(alias = "likely")]
-pub use custom::BranchHints;
-#[doc(alias = "coredump")]
-pub use custom::CoreDumpInstancesSection;
-#[doc(alias = "coredump")]
-pub use custom::CoreDumpModulesSection;
-#[doc(alias = "coredump")]
-pub use custom::CoreDumpSection;
-#[doc(alias = "coredump")]
-#[doc(alias = "backtrace")]
-pub use custom::CoreDumpStackSection;
-#[doc(alias = "metadata")]
-#[doc(alias = "dwarf")]
-#[doc(alias = "custom section")]
-pub use custom::CustomSection;
-#[doc(alias = "object file")]
-#[doc(alias = "linker")]
-#[doc(alias = "linking section")]
-pub use custom::LinkingSection;
-#[doc(alias = "debug names")]
-#[doc(alias = "name section")]
-pub use custom::NameSection;
-#[doc(alias = "producers section")]
-pub use custom::ProducersSection;
-#[doc(alias = "symtab")]
-pub use custom::SymbolTable;
-pub use custom::{IndirectNameMap, NameMap, ProducersField};
-#[doc(alias = "leb128")]
-#[doc(alias = "varint")]
-#[doc(alias = "uleb128")]
-#[doc(alias = "sleb128")]
-#[doc(alias = "serialize")]
-pub use encode::Encode;
-pub use encode::{Section, encode_section, encode_vec};
-#[doc(alias = "externtype")]
-#[doc(alias = "extern type")]
-pub use imports::EntityType;
-#[doc(alias = "compact imports")]
-pub use imports::Imports;
-pub use imports::{Import, ImportCompact};
-#[doc(alias = "opcode")]
-#[doc(alias = "operator")]
-#[doc(alias = "mnemonic")]
-#[doc(alias = "wat")]
-#[doc(alias = "simd")]
-#[doc(alias = "threads")]
-#[doc(alias = "tail call")]
-#[doc(alias = "bulk memory")]
-pub use instruction::Instruction;
-#[doc(alias = "exception handling")]
-pub use kinds::TagKind;
-pub use kinds::{ExportKind, SectionId, TagType};
-#[doc(alias = "wasm")]
-#[doc(alias = "encoder")]
-pub use module::Module;
-pub use module::RawSection;
-#[doc(alias = "data section")]
-pub use sections::DataSection;
-#[doc(alias = "elem")]
-#[doc(alias = "element section")]
-pub use sections::ElementSection;
-#[doc(alias = "export")]
-#[doc(alias = "export section")]
-pub use sections::ExportSection;
-#[doc(alias = "function section")]
-pub use sections::FunctionSection;
-#[doc(alias = "global section")]
-pub use sections::GlobalSection;
-#[doc(alias = "import")]
-#[doc(alias = "import section")]
-pub use sections::ImportSection;
-#[doc(alias = "memory64")]
-#[doc(alias = "linear memory")]
-#[doc(alias = "memory section")]
-pub use sections::MemorySection;
-#[doc(alias = "table64")]
-#[doc(alias = "table section")]
-pub use sections::TableSection;
-#[doc(alias = "exception handling")]
-#[doc(alias = "event")]
-#[doc(alias = "tag section")]
-pub use sections::TagSection;
-pub use sections::{DataSegment, DataSegmentMode, ElementMode, ElementSegment, Elements};
-#[doc(alias = "signature")]
-#[doc(alias = "functype")]
-pub use types::FuncType;
-#[doc(alias = "gc")]
-pub use types::StructType;
-#[doc(alias = "gc")]
-#[doc(alias = "supertype")]
-pub use types::SubType;
-#[doc(alias = "gc")]
-#[doc(alias = "rectype")]
-#[doc(alias = "type section")]
-pub use types::TypeSection;
-pub use types::{CompositeInnerType, CompositeType, CoreTypeEncoder};
+pub use names::*;
 
 use crate::base::{CowSlice, Entries, Pieces, Refused, Result};
 use crate::ending::Root;
@@ -331,12 +169,62 @@ macro_rules! by_proved {
     };
 }
 
-/// Implements `Section` and `Encode` over a proved section.
-macro_rules! section {
-    ($($name:ident of $id:ident),*) => {
+/// Implements the conversions between an enum and the proved one of its name, by pairs of cases. The
+/// numbers and the values of both are the same, so that a conversion compiles to nothing.
+macro_rules! same_cases {
+    ($($name:ident of $module:ident { $($case:ident $(($value:ident))? = $proved:ident),* })*) => {
         $(
-            $crate::drop_in::encoded!($name);
+            impl From<$name> for $module::$name {
+                #[inline]
+                fn from(value: $name) -> Self {
+                    match value {
+                        $($name::$case $(($value))? => Self::$proved $(($value.into()))?,)*
+                    }
+                }
+            }
 
+            impl From<$module::$name> for $name {
+                #[inline]
+                fn from(value: $module::$name) -> Self {
+                    match value {
+                        $($module::$name::$proved $(($value))? => Self::$case $(($value.into()))?,)*
+                    }
+                }
+            }
+        )*
+    };
+}
+
+/// Implements the conversions between a struct and the proved one of its name, which has the same
+/// fields: both, or the one `to` the proved struct.
+macro_rules! same_fields {
+    ([$($life:lifetime)?] $from:ty => $to:ty { $($field:ident),* }) => {
+        impl<$($life)?> From<$from> for $to {
+            #[inline]
+            fn from(value: $from) -> Self {
+                Self { $($field: value.$field.into()),* }
+            }
+        }
+    };
+    ($($name:ident to $module:ident $fields:tt)*) => {
+        $($crate::drop_in::same_fields! { [] $name => $module::$name $fields })*
+    };
+    ($($name:ident $(<$life:lifetime>)? of $module:ident $fields:tt)*) => {
+        $(
+            $crate::drop_in::same_fields! {
+                [$($life)?] $name $(<$life>)? => $module::$name $(<$life>)? $fields
+            }
+            $crate::drop_in::same_fields! {
+                [$($life)?] $module::$name $(<$life>)? => $name $(<$life>)? $fields
+            }
+        )*
+    };
+}
+
+/// Implements `Section` by the id of a section.
+macro_rules! identified {
+    ($($name:ty: $id:ident),*) => {
+        $(
             impl $crate::drop_in::Section for $name {
                 #[inline]
                 fn id(&self) -> u8 {
@@ -347,27 +235,23 @@ macro_rules! section {
     };
 }
 
-/// Implements what all sections of counted entries have: `new`, `len`, `is_empty`, `Encode`,
-/// `Section`, `Clone`, `Debug`, and the conversion from the proved section of the same name, which
-/// also keeps where its entries end.
+/// Implements `Section` and `Encode` over a proved section.
+macro_rules! section {
+    ($($name:ident of $id:ident),*) => {
+        $crate::drop_in::encoded!($($name),*);
+        $crate::drop_in::identified!($($name: $id),*);
+    };
+}
+
+/// Implements what all sections of counted entries have: `new`, `Encode`, `Section`, `Clone`,
+/// `Debug`, and the conversion from the proved section of the same name, which also keeps where its
+/// entries end.
 macro_rules! listed {
     ($name:ident of $module:ident $id:ident: $new:expr) => {
         impl $name {
             /// Creates a section without entries.
             pub const fn new() -> Self {
                 $name($new)
-            }
-
-            /// Returns the number of entries.
-            #[inline]
-            pub fn len(&self) -> u32 {
-                self.0.len()
-            }
-
-            /// Returns `true` if there are no entries.
-            #[inline]
-            pub fn is_empty(&self) -> bool {
-                self.0.is_empty()
             }
         }
 
@@ -395,4 +279,7 @@ macro_rules! listed {
     };
 }
 
-use {by_proved, copied, default, encoded, listed, section, taken};
+use {
+    by_proved, copied, default, encoded, identified, listed, same_cases, same_fields, section,
+    taken,
+};

@@ -1,29 +1,12 @@
 //! Modules, and sections of raw bytes.
 use super::bytes::append;
-use super::{Encode, Section, default, done};
-use crate::alloc::Global;
+use super::{Encode, Section, default};
 use crate::base;
+use crate::code::const_expr::Stored;
 use crate::reader;
 use alloc_crate::vec::Vec;
 
-/// A module under construction: the header, and the sections added so far.
-///
-/// Build each section, add it by [`section`](Module::section), and take the bytes by
-/// [`finish`](Module::finish). The encoding is defined in the core specification, Binary Format,
-/// Modules. Neither the order of sections nor the module is validated. To decode a module, see
-/// [`reader::Sections`](crate::reader::Sections). The proved builder is
-/// [`fallible::Module`](crate::fallible::Module), which converts to this type.
-///
-/// ```
-/// use dolzhytik::{FunctionSection, Module};
-///
-/// let mut functions = FunctionSection::new();
-/// functions.function(0).function(1);
-/// let mut module = Module::new();
-/// module.section(&functions);
-/// // The header; id 3, size 3, two functions, of types 0 and 1.
-/// assert_eq!(module.finish(), b"\0asm\x01\0\0\0\x03\x03\x02\x00\x01");
-/// ```
+#[doc = text!(Module)]
 #[derive(Clone, Debug)]
 pub struct Module {
     bytes: Vec<u8>,
@@ -36,11 +19,6 @@ impl Module {
     #[doc(alias = "version")]
     #[doc(alias = "preamble")]
     pub const HEADER: [u8; 8] = *b"\0asm\x01\0\0\0";
-
-    /// Creates a module without sections: its bytes are [`HEADER`](Module::HEADER).
-    pub fn new() -> Self {
-        done(base::Module::new(Global)).into()
-    }
 
     /// Appends a section: its id, and its encoding.
     ///
@@ -94,21 +72,7 @@ impl From<base::Module> for Module {
     }
 }
 
-/// A section of any id and raw payload: the size prefix is added, and the payload is not checked.
-///
-/// [`Module::section`] takes it. Use it for sections that this package has no builder for, or
-/// whose payload is already encoded. For a custom section with a name, see
-/// [`CustomSection`](super::CustomSection). The encoding of sections is defined in the core
-/// specification, Modules, Sections.
-///
-/// ```
-/// use dolzhytik::{Module, RawSection};
-///
-/// let mut module = Module::new();
-/// module.section(&RawSection { id: 3, data: &[1, 0] });
-/// // Id 3, size 2, one function, of type 0.
-/// assert_eq!(module.as_slice()[8..], [3, 2, 1, 0]);
-/// ```
+#[doc = text!(RawSection)]
 #[derive(Clone, Copy, Debug)]
 pub struct RawSection<'a> {
     /// The id of the section.
@@ -143,7 +107,7 @@ impl Section for RawSection<'_> {
 /// Copies the bytes of the section after its id, also a padded size prefix.
 impl Encode for reader::Section<'_> {
     fn encode(&self, sink: &mut Vec<u8>) {
-        sink.extend_from_slice(&self.bytes()[1..])
+        append(&Stored(&self.bytes()[1..]), sink)
     }
 }
 

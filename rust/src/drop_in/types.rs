@@ -1,56 +1,21 @@
 //! The type section, and the types that a module defines.
-use super::later::Later;
-use super::{NONE, by_proved, copied, done, encoded, listed, taken};
-use crate::alloc::Global;
-use crate::base::{Entries, Store, ValType};
+use super::{NONE, by_proved, copied, encoded, listed, same_fields, taken};
+use crate::base::Entries;
 use crate::ending::Root;
 use crate::types;
 use crate::types::joined;
 use crate::types::type_section::{CoreTypeEncoderIn, TypeSectionIn};
-use crate::types::types::FUNC;
-use crate::types::{ArrayType, ContType, FieldType, StorageType};
+use crate::types::{ArrayType, ContType, FieldType};
 use alloc_crate::boxed::Box;
 use core::fmt;
 use core::hash::{Hash, Hasher};
 
-/// The type of a function: the types of its parameters and of its results.
-///
-/// [`CoreTypeEncoder::func_type`] takes it, and [`CompositeInnerType::Func`] has one. To add a type
-/// without a value, see [`CoreTypeEncoder::function`]. Core specification, Types, Composite Types.
-///
-/// ```
-/// use dolzhytik::{FuncType, TypeSection, ValType};
-///
-/// let ty = FuncType::new([ValType::I32], [ValType::I64]);
-/// assert_eq!((ty.params(), ty.results()), (&[ValType::I32][..], &[ValType::I64][..]));
-/// TypeSection::new().ty().func_type(&ty);
-/// ```
-pub struct FuncType(types::FuncType);
+#[doc = text!(FuncType)]
+pub struct FuncType(pub(super) types::FuncType);
 
 copied!(FuncType);
 encoded!(FuncType);
 taken!(FuncType of types);
-
-impl FuncType {
-    /// Returns the type of functions with these parameters and results.
-    pub fn new<P, R>(params: P, results: R) -> Self
-    where
-        P: IntoIterator<Item = ValType>,
-        R: IntoIterator<Item = ValType>,
-    {
-        FuncType(done(types::FuncType::new(Global, params, results)))
-    }
-
-    /// Returns the types of the parameters.
-    pub fn params(&self) -> &[ValType] {
-        self.0.params()
-    }
-
-    /// Returns the types of the results.
-    pub fn results(&self) -> &[ValType] {
-        self.0.results()
-    }
-}
 
 impl fmt::Debug for FuncType {
     fn fmt(&self, f: &mut fmt::Formatter<'_>) -> fmt::Result {
@@ -76,36 +41,14 @@ impl Hash for FuncType {
     }
 }
 
-/// The type of a structure: its fields. It is a case of [`CompositeInnerType`]; to add one without
-/// a value, see [`CoreTypeEncoder::struct_`].
-///
-/// Core specification, Types, Composite Types.
-///
-/// ```
-/// use dolzhytik::{Encode, FieldType, StorageType, StructType};
-///
-/// let mut bytes = Vec::new();
-/// let field = FieldType { element_type: StorageType::I8, mutable: true };
-/// StructType { fields: Box::new([field]) }.encode(&mut bytes);
-/// // A structure: 5F. One field: i8, 78, mutable, 01.
-/// assert_eq!(bytes, [0x5F, 1, 0x78, 0x01]);
-/// ```
+#[doc = text!(StructType)]
 #[derive(Clone, Debug, PartialEq, Eq, Hash)]
 pub struct StructType {
     /// The types of its fields.
     pub fields: Box<[FieldType]>,
 }
 
-/// A composite type without sharing and descriptors: a field of [`CompositeType`].
-///
-/// ```
-/// use dolzhytik::{CompositeInnerType, Encode, FuncType};
-///
-/// let mut bytes = Vec::new();
-/// CompositeInnerType::Func(FuncType::new([], [])).encode(&mut bytes);
-/// // A function: 60. No parameters and no results.
-/// assert_eq!(bytes, [0x60, 0, 0]);
-/// ```
+#[doc = text!(CompositeInnerType)]
 #[derive(Clone, Debug, PartialEq, Eq, Hash)]
 pub enum CompositeInnerType {
     /// A function type, byte 60.
@@ -118,24 +61,7 @@ pub enum CompositeInnerType {
     Cont(ContType),
 }
 
-/// A composite type: a field of [`SubType`].
-///
-/// Core specification, Types, Composite Types.
-///
-/// ```
-/// use dolzhytik::{CompositeInnerType, CompositeType, Encode, FuncType};
-///
-/// let mut bytes = Vec::new();
-/// CompositeType {
-///     inner: CompositeInnerType::Func(FuncType::new([], [])),
-///     shared: true,
-///     descriptor: None,
-///     describes: None,
-/// }
-/// .encode(&mut bytes);
-/// // Shared: 65. The function type: 60, no parameters, no results.
-/// assert_eq!(bytes, [0x65, 0x60, 0, 0]);
-/// ```
+#[doc = text!(CompositeType)]
 #[derive(Clone, Debug, PartialEq, Eq, Hash)]
 pub struct CompositeType {
     /// The function, array, structure or continuation type.
@@ -148,29 +74,7 @@ pub struct CompositeType {
     pub describes: Option<u32>,
 }
 
-/// A subtype: a composite type, its supertype, and whether it can have subtypes.
-///
-/// [`CoreTypeEncoder::subtype`] and [`CoreTypeEncoder::rec`] take it. Core specification, Types,
-/// Recursive Types.
-///
-/// ```
-/// use dolzhytik::{CompositeInnerType, CompositeType, Encode, FuncType, SubType};
-///
-/// let mut bytes = Vec::new();
-/// SubType {
-///     is_final: false,
-///     supertype_idx: Some(5),
-///     composite_type: CompositeType {
-///         inner: CompositeInnerType::Func(FuncType::new([], [])),
-///         shared: false,
-///         descriptor: None,
-///         describes: None,
-///     },
-/// }
-/// .encode(&mut bytes);
-/// // Not final: 50. One supertype, 5. A function without parameters and results.
-/// assert_eq!(bytes, [0x50, 1, 5, 0x60, 0, 0]);
-/// ```
+#[doc = text!(SubType)]
 #[derive(Clone, Debug, PartialEq, Eq, Hash)]
 pub struct SubType {
     /// Whether it is final, so that it can have no subtypes.
@@ -202,80 +106,20 @@ impl From<CompositeInnerType> for types::CompositeInnerType {
     }
 }
 
-impl From<CompositeType> for types::CompositeType {
-    fn from(ty: CompositeType) -> Self {
-        types::CompositeType {
-            inner: ty.inner.into(),
-            shared: ty.shared,
-            descriptor: ty.descriptor,
-            describes: ty.describes,
-        }
-    }
-}
-
-impl From<SubType> for types::SubType {
-    fn from(ty: SubType) -> Self {
-        types::SubType {
-            is_final: ty.is_final,
-            supertype_idx: ty.supertype_idx,
-            composite_type: ty.composite_type.into(),
-        }
-    }
+same_fields! {
+    CompositeType to types { inner, shared, descriptor, describes }
+    SubType to types { is_final, supertype_idx, composite_type }
 }
 
 by_proved! { types: StructType CompositeInnerType CompositeType SubType }
 
-/// The type section: the types that functions, blocks and other types of the module refer to by
-/// index.
-///
-/// [`ty`](TypeSection::ty) returns the calls that add a type, and
-/// [`Module::section`](super::Module::section) takes the section. Core specification, Modules, Type
-/// Section. Its calls are those of the proved
-/// [`fallible::joined::TypeSection`](crate::fallible::joined::TypeSection).
-///
-/// ```
-/// use dolzhytik::{Encode, TypeSection, ValType};
-///
-/// let mut types = TypeSection::new();
-/// types.ty().function([ValType::I32, ValType::I32], [ValType::I64]);
-/// let mut bytes = Vec::new();
-/// types.encode(&mut bytes);
-/// // Size 7, one type: a function (60) of two i32 (7F) to one i64 (7E).
-/// assert_eq!(bytes, [7, 1, 0x60, 2, 0x7F, 0x7F, 1, 0x7E]);
-/// ```
-///
-/// # Panics
-///
-/// Its calls panic where the number of entries, or a count in one, would pass 4294967295. A failed
-/// allocation ends the program.
-pub struct TypeSection(joined::TypeSection<Root>);
+#[doc = text!(TypeSection)]
+pub struct TypeSection(pub(super) joined::TypeSection<Root>);
 
 listed!(TypeSection of types Type: TypeSectionIn { entries: NONE });
 
-impl TypeSection {
-    /// Returns the calls that append an entry: a type, or a group of types. Each call uses the
-    /// value up. Nothing is appended or counted if none is made.
-    #[must_use = "an entry is appended by a call of the returned value"]
-    pub fn ty(&mut self) -> CoreTypeEncoder<'_> {
-        CoreTypeEncoder(self.0.ty())
-    }
-}
-
-/// The calls that append an entry of a [`TypeSection`], which [`TypeSection::ty`] returns.
-///
-/// ```
-/// use dolzhytik::{Encode, FieldType, StorageType, TypeSection, ValType};
-///
-/// let mut types = TypeSection::new();
-/// types.ty().array(&StorageType::I8, true);
-/// types.ty().struct_([FieldType { element_type: ValType::F32.into(), mutable: false }]);
-/// let mut bytes = Vec::new();
-/// types.encode(&mut bytes);
-/// // Size 8, two types: an array (5E) of mutable (01) i8 (78), and a structure (5F) of one field,
-/// // f32 (7D), immutable (00).
-/// assert_eq!(bytes, [8, 2, 0x5E, 0x78, 1, 0x5F, 1, 0x7D, 0]);
-/// ```
-pub struct CoreTypeEncoder<'a>(CoreTypeEncoderIn<'a, Entries<Root>>);
+#[doc = text!(CoreTypeEncoder)]
+pub struct CoreTypeEncoder<'a>(pub(super) CoreTypeEncoderIn<'a, Entries<Root>>);
 
 /// The flag is for types in components, which have a prefix.
 impl fmt::Debug for CoreTypeEncoder<'_> {
@@ -284,130 +128,5 @@ impl fmt::Debug for CoreTypeEncoder<'_> {
             .field("push_prefix_if_component_core_type", &false)
             .field("bytes", &self.0.section.entries.bytes)
             .finish()
-    }
-}
-
-impl CoreTypeEncoder<'_> {
-    /// Appends the type of functions with these parameters and results. The parameters are finished
-    /// before the results are measured.
-    ///
-    /// # Panics
-    ///
-    /// Panics if the section has 4294967295 entries, or if an iterator reports more than 4294967295
-    /// types. Nothing is then appended.
-    #[inline]
-    pub fn function<P, R>(self, params: P, results: R)
-    where
-        P: IntoIterator<Item = ValType>,
-        P::IntoIter: ExactSizeIterator,
-        R: IntoIterator<Item = ValType>,
-        R::IntoIter: ExactSizeIterator,
-    {
-        let params = Later(params.into_iter());
-        let results = Later(results.into_iter());
-        let entries = &mut self.0.section.entries;
-        done(entries.add_item_once((FUNC, params, results)))
-    }
-
-    /// Appends a function type.
-    ///
-    /// # Panics
-    ///
-    /// Panics if the section has 4294967295 entries, or if a list of the type has more than
-    /// 4294967295 items.
-    pub fn func_type(self, ty: &FuncType) {
-        done(self.0.func_type(&ty.0))
-    }
-
-    /// Appends the type of arrays with elements of this type.
-    ///
-    /// # Panics
-    ///
-    /// Panics if the section has 4294967295 entries.
-    pub fn array(self, ty: &StorageType, mutable: bool) {
-        done(self.0.array(ty, mutable))
-    }
-
-    /// Appends the type of structures with these fields.
-    ///
-    /// # Panics
-    ///
-    /// Panics if the section has 4294967295 entries. Panics if the iterator reports more than
-    /// 4294967295 fields, before one is requested.
-    pub fn struct_<F>(self, fields: F)
-    where
-        F: IntoIterator<Item = FieldType>,
-        F::IntoIter: ExactSizeIterator,
-    {
-        done(self.0.struct_(fields))
-    }
-
-    /// Appends a continuation type, by the stack switching proposal.
-    ///
-    /// # Panics
-    ///
-    /// Panics if the section has 4294967295 entries.
-    pub fn cont(self, ty: &ContType) {
-        done(self.0.cont(ty))
-    }
-
-    /// Appends a subtype. The lists of the type are copied.
-    ///
-    /// ```
-    /// use dolzhytik::{
-    ///     CompositeInnerType, CompositeType, Encode, StructType, SubType, TypeSection,
-    /// };
-    ///
-    /// let mut types = TypeSection::new();
-    /// types.ty().subtype(&SubType {
-    ///     is_final: false,
-    ///     supertype_idx: Some(0),
-    ///     composite_type: CompositeType {
-    ///         inner: CompositeInnerType::Struct(StructType { fields: Box::new([]) }),
-    ///         shared: false,
-    ///         descriptor: None,
-    ///         describes: None,
-    ///     },
-    /// });
-    /// let mut bytes = Vec::new();
-    /// types.encode(&mut bytes);
-    /// // Size 6, one type: not final (50), one supertype, 0; a structure (5F) of no fields.
-    /// assert_eq!(bytes, [6, 1, 0x50, 1, 0, 0x5F, 0]);
-    /// ```
-    ///
-    /// # Panics
-    ///
-    /// Panics if the section has 4294967295 entries, or if a list of the type has more than
-    /// 4294967295 items.
-    pub fn subtype(self, ty: &SubType) {
-        done(self.0.subtype(&types::SubType::from(ty.clone())))
-    }
-
-    /// Appends a group of types that may refer to each other. It is one entry, and each type takes
-    /// an index.
-    ///
-    /// ```
-    /// use dolzhytik::{Encode, TypeSection};
-    ///
-    /// let mut types = TypeSection::new();
-    /// types.ty().rec([]);
-    /// let mut bytes = Vec::new();
-    /// types.encode(&mut bytes);
-    /// // Size 3, one entry: a group (4E) of no types.
-    /// assert_eq!(bytes, [3, 1, 0x4E, 0]);
-    /// ```
-    ///
-    /// # Panics
-    ///
-    /// Panics if the section has 4294967295 entries. Panics if the iterator reports more than
-    /// 4294967295 types, before one is requested.
-    #[doc(alias = "recursive type")]
-    #[doc(alias = "recursion group")]
-    pub fn rec<T>(self, types: T)
-    where
-        T: IntoIterator<Item = SubType>,
-        T::IntoIter: ExactSizeIterator,
-    {
-        done(self.0.rec(types.into_iter().map(types::SubType::from)))
     }
 }

@@ -29,7 +29,7 @@ from .source import Source
 from .tables import BETWEEN, LIBRARIES
 
 FOLDER = 'tools/rustdoc'
-HEAD = 'rust/src/drop_in/mod.rs'
+ROOT = 'tools/root-exports.tsv'
 KINDS = ('struct', 'enum', 'trait', 'fn', 'type', 'const')
 # The headings of a doc comment, before which a text's paragraphs go.
 HEADINGS = ('/// # Errors', '/// # Panics', '/// # Examples')
@@ -82,8 +82,7 @@ def texts(crate: str) -> dict[str, Text]:
 @functools.lru_cache(maxsize=None)
 def at_the_root() -> frozenset[str]:
     """Returns the names of definitions that the root of the package exports."""
-    names = re.findall(r'^pub use crate::\w+::(\w+);$', text_of(TOP / HEAD), re.MULTILINE)
-    return frozenset(names)
+    return frozenset(re.findall(r'^(\w+)\tcrate::', text_of(TOP / ROOT), re.MULTILINE))
 
 
 @dataclass(frozen=True)
