@@ -210,6 +210,14 @@ impl<T, A: Allocator> Vec<T, A> {
     }
 }
 
+impl<T> Vec<T, Root> {
+    /// Returns the vector of `std`, which the calls of the root that append to one take.
+    #[inline]
+    pub(crate) fn as_std(&mut self) -> &mut vec::Vec<T> {
+        &mut self.items
+    }
+}
+
 impl<T: Clone, A: Allocator> Vec<T, A> {
     /// Creates a vector of these items.
     ///

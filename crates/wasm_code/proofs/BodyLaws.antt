@@ -1,10 +1,12 @@
 -- This file proves that bodies are unambiguous, and that a longer body continues where a shorter
 -- one ends.
-use Rattle.wasm_base.proofs.Words.{◌≡◌, ◌≢◌, ℕ, List, [], ◌∷◌, ◌++◌, length, false, arith, Ok, Option, refl, sym, ap, subst, ◌∙◌, ◌<◌, append_assoc, append-nil, Count, Drains, size, Mode, minimal}
-use Rattle.wasm_base.proofs.Words.{padded, u32, size_prefixed, pair, members, vec, Unambiguous, UnambiguousWhole, DecodesBack, AppendsVec, longest, size_prefixed_encoding, HasEncodableSize, val_type}
+use Rattle.wasm_base.proofs.Words.{◌≡◌, ◌≢◌, ℕ, List, [], ◌∷◌, ◌++◌, length, false, arith, Ok, Option, refl, sym, ap, subst, ◌∙◌, ◌≤◌, append_assoc, append-nil, Count, size, Mode, minimal}
+use Rattle.wasm_base.proofs.Words.{padded, u32, size_prefixed, pair, members, vec, Unambiguous, UnambiguousWhole, DecodesBack, longest, size_prefixed_encoding, HasEncodableSize, val_type}
 use Rattle.wasm_base.proofs.Words.{val_encoding, mapped_whole, pair_unambiguous, pair_whole, vec_unambiguous, size_prefixed_unambiguous, members_go_on, u32_unambiguous, groups_encoding-last}
 use Rattle.wasm_base.proofs.Words.{val_unambiguous, val-encodings, decodes_uniquely, size_prefixed_encodes, u32_encodes, vec_encodes}
+use Rattle.std.specs.Iterator.{IsFinite}
 use Rattle.std.specs.declared.vec.Vec.{Vec}
+use Rattle.wasm_base.specs.Once.{AppendsOnce, GivesVec, YieldsEncodable}
 use Rattle.wasm_insn.specs.declared.instruction.Instruction.{Instruction}
 use Rattle.wasm_insn.proofs.Words.{Plain, instruction, table, instruction_encoding, IsWellFormedInstruction, unique, any_begins, lists_whole}
 use Rattle.wasm_code.specs.{normal_row, Run, run_encoding, locals_encoding, IsRun, Body, body_of, body, IsWellFormedBody, IsPaddedBody, and_then, Grows, GrowsBy, HasLocals, BeginsWithRuns}
@@ -129,14 +131,16 @@ finds_added i = record {
 -- ---- calls
 
 -- The items of an iterator of known length are encoded as the runs.
-pub runs_given : {U S A : Type 0} (becomes : U → S → Type 0) (gives : S → Option Run → S → Type 0) (remaining : S → Count) (Encodable : Run → Type 0) (elements : U) (it : S) (old new : Vec ℕ A) → becomes elements it → old.items ≡ []
-    → AppendsVec (λ a b. b ≡ a) gives remaining Encodable run_encoding it old new (Ok (tt {0})) → BeginsWithRuns becomes gives remaining elements (Ok new.items)
-runs_given becomes gives remaining Encodable elements it old new made e h =
+pub runs_given : {U S A : Type 0} (becomes : U → S → Type 0) (gives : S → Option Run → S → Type 0) (remaining : S → Count) (Encodable : Run → Type 0) (elements : U) (it : S) (count : ℕ) (old new : Vec ℕ A)
+    → becomes elements it × IsFinite (remaining it) × (size (remaining it) ≡ count) × (count ≤ longest) → old.items ≡ [] → AppendsOnce (GivesVec gives Encodable run_encoding it) (YieldsEncodable gives Encodable it) old new (Ok (tt {0}))
+    → BeginsWithRuns becomes gives remaining elements (Ok new.items)
+runs_given becomes gives remaining Encodable elements it count old new begun e h =
     let given = h.ok in
+    let runs = given.1 in
     record {
-      ok = (it, given.1, made, subst (λ i. Drains gives i given.1) given.2 given.3, given.4.count, has_locals given.1 new.items (given.5 ∙ ap (λ z. z ++ locals_encoding given.1) e));
+      ok = (it, runs.items, begun.0, runs.drained, runs.encodable.count, has_locals runs.items new.items (given.2 ∙ ap (λ z. z ++ given.0) e ∙ runs.is));
       too_long = λ in_limit is. absurd (cc is);
-      too_many = λ many. absurd (cc (h.too_many (λ i same. subst (λ j. longest < size (remaining j)) (sym same) (many it made))));
+      too_many = λ many. absurd (omega (arith, many it begun.0, begun.2, begun.3));
     }
 
 pub ruleset offset = (offsets, finds_added)

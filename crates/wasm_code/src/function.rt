@@ -11,7 +11,7 @@ ghost use Rattle.wasm_code.specs.Bodies.{body, IsWellFormedBody, GrowsBy, AddsIn
 use crate::locals::runs_of;
 use std::alloc::{Allocator, Global};
 use std::marker::Model;
-use wasm_base::{Encode, Refused, Result, ValType, encode_size_prefixed, encode_vec};
+use wasm_base::{Encode, EncodeOnce, Refused, Result, ValType, encode_size_prefixed, vec_of};
 use wasm_insn::{Buffer, Instruction, InstructionSink};
 
 /// A function, modelled as its raw body: the runs of its locals, and its instructions.
@@ -55,12 +55,9 @@ impl<A: Allocator> Function<A> {
         requires { HasKnownLength V.into_iter_gives V.IntoIter.can_next V.IntoIter.next_gives V.IntoIter.remaining locals }
         ensures { BeginsWithRuns V.into_iter_gives V.IntoIter.next_gives V.IntoIter.remaining locals result }
     {
-        let locals = locals.into_iter();
-        if u32::try_from(locals.len()).is_err() {
-            return Err(Refused::TooLong);
-        }
+        let runs = vec_of(locals)?;
         let mut bytes = Vec::with_capacity(alloc, FIRST_CAPACITY)?;
-        encode_vec(locals, &mut bytes)?;
+        runs.encode_once(&mut bytes)?;
         Ok(Function { bytes })
     }
 

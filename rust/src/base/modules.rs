@@ -25,7 +25,7 @@ use crate::alloc::{Allocator, Global};
 /// abort.
 #[derive(Debug)]
 pub struct Module<A: Allocator = Global> {
-    bytes: Vec<u8, A>,
+    pub(crate) bytes: Vec<u8, A>,
 }
 
 impl<A: Allocator> Module<A> {

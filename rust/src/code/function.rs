@@ -4,7 +4,7 @@
 use crate::vec::{Sink, Vec};
 use crate::code::locals::runs_of;
 use crate::alloc::{Allocator, Global};
-use crate::base::{Encode, Refused, Result, ValType, encode_size_prefixed, encode_vec};
+use crate::base::{Encode, EncodeOnce, Refused, Result, ValType, encode_size_prefixed, vec_of};
 use crate::insn::{Buffer, Instruction, InstructionSink};
 
 /// A function.
@@ -39,7 +39,7 @@ use crate::insn::{Buffer, Instruction, InstructionSink};
 /// Contracts model it as its raw body: the runs of its locals, and its instructions.
 #[derive(Debug)]
 pub struct Function<A: Allocator = Global> {
-    bytes: Vec<u8, A>,
+    pub(crate) bytes: Vec<u8, A>,
 }
 
 /// The initial capacity in bytes, so that a short function allocates once.
@@ -78,12 +78,9 @@ impl<A: Allocator> Function<A> {
     where
         V::IntoIter: ExactSizeIterator,
     {
-        let locals = locals.into_iter();
-        if u32::try_from(locals.len()).is_err() {
-            return Err(Refused::TooLong);
-        }
-        let mut bytes = Vec::with_capacity(alloc, FIRST_CAPACITY)?;
-        encode_vec(locals, &mut bytes)?;
+        let runs = vec_of(locals)?;
+        let mut bytes = Vec::with_capacity(alloc, if A::ends() { crate::ending::FEW } else { FIRST_CAPACITY })?;
+        runs.encode_once(&mut bytes)?;
         Ok(Function { bytes })
     }
 

@@ -2,7 +2,7 @@
 use super::done;
 use crate::alloc::AllocError;
 use crate::base::{Encode, EncodeOnce};
-use crate::ending::{FEW, Growing};
+use crate::ending::Growing;
 use crate::vec::{Sealed, Sink};
 use alloc_crate::vec::Vec;
 use core::ops::{Deref, DerefMut};
@@ -129,13 +129,6 @@ impl Sink for Bytes {
 #[inline]
 pub fn append(value: &impl Encode, bytes: &mut Vec<u8>) {
     done(value.encode(&mut Growing(bytes)))
-}
-
-/// Returns the encoding of a value by its proved `encode_once`, with some spare capacity.
-pub fn encoding_once(value: impl EncodeOnce) -> Vec<u8> {
-    let mut bytes = Vec::with_capacity(FEW);
-    append_once(value, &mut bytes);
-    bytes
 }
 
 /// Appends the encoding of a value by its proved `encode_once`, which consumes it.

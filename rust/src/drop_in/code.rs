@@ -1,13 +1,14 @@
 //! Functions, the code section, and the named calls for instructions.
 use super::bytes::{append, append_once};
 use super::short::{EMPTY_BLOCK, Short, put_short};
-use super::{Encode, NONE, done, listed};
+use super::{NONE, copied, done, encoded, listed};
 use crate::base::{self, Encode as _, Result, vec_of};
 use crate::code::{CodeSectionIn, joined};
 use crate::ending::{Growing, Root, grow};
 use crate::immediates::BlockType;
 use crate::{code, insn};
 use alloc_crate::vec::Vec;
+use core::fmt;
 
 #[doc = text!(InstructionSink)]
 #[derive(Debug)]
@@ -133,24 +134,26 @@ impl<'a> InstructionSink<'a> {
 }
 
 #[doc = text!(Function)]
-#[derive(Clone, Debug, PartialEq, Eq)]
-pub struct Function {
-    pub(super) bytes: Vec<u8>,
-}
+#[derive(PartialEq, Eq)]
+pub struct Function(pub(super) code::Function<Root>);
+
+copied!(Function);
+encoded!(Function);
 
 /// Converts a body built by the calls of [`fallible::Function`](crate::fallible::Function).
 impl From<code::Function> for Function {
     fn from(built: code::Function) -> Self {
-        Function {
-            bytes: built.into_raw_body().into(),
-        }
+        Function(code::Function {
+            bytes: built.bytes.into_ending(),
+        })
     }
 }
 
-/// Encodes the size prefix and the body.
-impl Encode for Function {
-    fn encode(&self, sink: &mut Vec<u8>) {
-        done(base::encode_size_prefixed(&mut Growing(sink), &self.bytes))
+impl fmt::Debug for Function {
+    fn fmt(&self, f: &mut fmt::Formatter<'_>) -> fmt::Result {
+        f.debug_struct("Function")
+            .field("bytes", &self.0.bytes)
+            .finish()
     }
 }
 

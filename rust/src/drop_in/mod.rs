@@ -239,7 +239,19 @@ macro_rules! identified {
 macro_rules! section {
     ($($name:ident of $id:ident),*) => {
         $crate::drop_in::encoded!($($name),*);
-        $crate::drop_in::identified!($($name: $id),*);
+        $(
+            impl $crate::drop_in::Section for $name {
+                #[inline]
+                fn id(&self) -> u8 {
+                    $crate::SectionId::$id.into()
+                }
+
+                fn append_to(&self, dst: &mut alloc_crate::vec::Vec<u8>) {
+                    let mut sink = $crate::ending::Growing(dst);
+                    $crate::drop_in::done($crate::base::Section::append_to(&self.0, &mut sink))
+                }
+            }
+        )*
     };
 }
 

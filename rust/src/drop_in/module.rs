@@ -1,16 +1,17 @@
 //! Modules, and sections of raw bytes.
 use super::bytes::append;
-use super::{Encode, Section, default};
+use super::{Encode, Section, copied, default};
 use crate::base;
 use crate::code::const_expr::Stored;
+use crate::ending::Root;
 use crate::reader;
 use alloc_crate::vec::Vec;
+use core::fmt;
 
 #[doc = text!(Module)]
-#[derive(Clone, Debug)]
-pub struct Module {
-    bytes: Vec<u8>,
-}
+pub struct Module(pub(super) base::Module<Root>);
+
+copied!(Module);
 
 #[allow(clippy::len_without_is_empty, reason = "a module has a header")]
 impl Module {
@@ -39,36 +40,44 @@ impl Module {
     /// assert_eq!(module.as_slice()[8..], [8, 1, 2]);
     /// ```
     pub fn section(&mut self, section: &impl Section) -> &mut Self {
-        section.append_to(&mut self.bytes);
+        section.append_to(self.0.bytes.as_std());
         self
     }
 
     /// Returns the bytes of the header and the sections so far.
     pub fn as_slice(&self) -> &[u8] {
-        &self.bytes
+        &self.0.bytes
     }
 
     /// Returns the length of the module so far in bytes, header included.
     pub fn len(&self) -> usize {
-        self.bytes.len()
+        self.0.bytes.len()
     }
 
     /// Returns the bytes of the module, without a copy.
     #[doc(alias = "bytes")]
     #[doc(alias = "into_bytes")]
     pub fn finish(self) -> Vec<u8> {
-        self.bytes
+        self.0.finish().into()
     }
 }
 
 default!(Module);
 
+impl fmt::Debug for Module {
+    fn fmt(&self, f: &mut fmt::Formatter<'_>) -> fmt::Result {
+        f.debug_struct("Module")
+            .field("bytes", &self.0.bytes)
+            .finish()
+    }
+}
+
 /// Converts a module built by the calls of [`fallible::Module`](crate::fallible::Module).
 impl From<base::Module> for Module {
     fn from(built: base::Module) -> Self {
-        Module {
-            bytes: built.finish().into(),
-        }
+        Module(base::Module {
+            bytes: built.bytes.into_ending(),
+        })
     }
 }
 

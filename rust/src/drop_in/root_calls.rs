@@ -12,14 +12,14 @@ use super::{
     StorageType, SubType, SymbolTable, TableSection, TableType, TagSection, TagType, TypeSection,
     ValType, done,
 };
-use super::bytes::{Bytes, encoding_once};
+use super::bytes::Bytes;
 use super::const_expr::encodings;
 use super::custom::MARK;
 use super::later::Later;
 use super::sections::{Front, Given};
 use crate::{base, code, custom, types};
 use crate::alloc::Global;
-use crate::base::{Lent, Store, bytes_of, vec_of};
+use crate::base::{Lent, Store, bytes_of};
 use crate::code::first::First;
 use crate::ending::Root;
 use crate::sections::table::BEFORE_INIT;
@@ -1017,21 +1017,22 @@ impl CodeSection {
     ///
     /// # Proved
     ///
-    /// The contract of [`fallible::CodeSection::raw`](crate::fallible::CodeSection#method.raw),
-    /// which this call makes. Where that returns an error, this call panics. In the clauses, `S` is
-    /// [`Entries`](crate::fallible::Entries), and `body` is `func`.
+    /// The contract of
+    /// [`fallible::CodeSection::function`](crate::fallible::CodeSection#method.function), which
+    /// this call makes. Where that returns an error, this call panics. In the clauses, `S` is
+    /// [`Entries`](crate::fallible::Entries), and `function` is `func`.
     ///
     /// The builder gains one entry with this encoding, or the call returns an error and changes nothing. A full builder, with 2^32 - 1 entries, returns `TooLong`.
     ///
     /// ```text
-    /// ensures { AddsTo S.model (size_prefixed_encoding body.now)
-    ///     (HasEncodableSize body.now) self.old self.new result }
+    /// ensures { AddsTo S.model (size_prefixed_encoding function.now)
+    ///     (HasEncodableSize function.now) self.old self.new result }
     /// ```
     ///
     /// Definitions: [`AddsTo`](crate::definitions::base::calls::AddsTo), [`size_prefixed_encoding`](crate::definitions::base::encodings::size_prefixed_encoding), [`HasEncodableSize`](crate::definitions::base::encodings::HasEncodableSize). [How to read clauses](crate::definitions).
     #[inline]
     pub fn function(&mut self, func: &Function) -> &mut Self {
-        done(self.0.raw(&func.bytes));
+        done(self.0.function(&func.0));
         self
     }
 
@@ -1154,9 +1155,8 @@ impl Function {
     ///
     /// # Proved
     ///
-    /// The contract of [`fallible::Function::new`](crate::fallible::Function#method.new). This call
-    /// does the same, as tests show. Where that returns an error, this call panics. In the clauses,
-    /// `V` is `L`.
+    /// The contract of [`fallible::Function::new`](crate::fallible::Function#method.new), which
+    /// this call makes. Where that returns an error, this call panics. In the clauses, `V` is `L`.
     ///
     /// The new function has the runs that the iterator yields. If the iterator reports more than 2^32 - 1 runs, the call returns `TooLong`.
     ///
@@ -1171,7 +1171,7 @@ impl Function {
         L: IntoIterator<Item = (u32, ValType)>,
         L::IntoIter: ExactSizeIterator,
     {
-        Function { bytes: encoding_once(done(vec_of(locals))) }
+        Function(done(code::Function::new(Root, locals)))
     }
 
     /// Returns a function with locals of these types. Neighbours of one type form one run.
@@ -1219,7 +1219,7 @@ impl Function {
     where
         L: IntoIterator<Item = ValType>,
     {
-        done(code::Function::new_with_locals_types(Global, locals)).into()
+        Function(done(code::Function::new_with_locals_types(Root, locals)))
     }
 
     /// Returns a sink that appends instructions to the raw body.
@@ -1238,7 +1238,7 @@ impl Function {
     /// [How to read clauses](crate::definitions).
     #[inline]
     pub fn instructions(&mut self) -> InstructionSink<'_> {
-        InstructionSink::new(&mut self.bytes)
+        InstructionSink::new(self.0.bytes.as_std())
     }
 
     /// Appends an instruction.
@@ -1262,7 +1262,7 @@ impl Function {
     /// Definitions: [`AddsInstruction`](crate::definitions::code::bodies::AddsInstruction). [How to read clauses](crate::definitions).
     #[inline]
     pub fn instruction(&mut self, instruction: &Instruction) -> &mut Self {
-        instruction.encode(&mut self.bytes);
+        instruction.encode(self.0.bytes.as_std());
         self
     }
 
@@ -1301,7 +1301,7 @@ impl Function {
     where
         B: IntoIterator<Item = u8>,
     {
-        self.bytes.extend(bytes);
+        self.0.bytes.as_std().extend(bytes);
         self
     }
 
@@ -1325,8 +1325,8 @@ impl Function {
     ///
     /// # Proved
     ///
-    /// The contract of [`fallible::Function::byte_len`](crate::fallible::Function#method.byte_len).
-    /// This call does the same, as tests show.
+    /// The contract of [`fallible::Function::byte_len`](crate::fallible::Function#method.byte_len),
+    /// which this call makes.
     ///
     /// ```text
     /// ensures { result ≡ length self.now }
@@ -1338,7 +1338,7 @@ impl Function {
     #[doc(alias = "instruction offset")]
     #[doc(alias = "position")]
     pub fn byte_len(&self) -> usize {
-        self.bytes.len()
+        self.0.byte_len()
     }
 
     /// Returns the raw body, which `CodeSection::raw` accepts.
@@ -1346,8 +1346,8 @@ impl Function {
     /// # Proved
     ///
     /// The contract of
-    /// [`fallible::Function::into_raw_body`](crate::fallible::Function#method.into_raw_body). This
-    /// call does the same, as tests show.
+    /// [`fallible::Function::into_raw_body`](crate::fallible::Function#method.into_raw_body), which
+    /// this call makes.
     ///
     /// ```text
     /// ensures { result.items ≡ self }
@@ -1355,7 +1355,7 @@ impl Function {
     ///
     /// [How to read clauses](crate::definitions).
     pub fn into_raw_body(self) -> Vec<u8> {
-        self.bytes
+        self.0.into_raw_body().into()
     }
 }
 
@@ -2365,7 +2365,7 @@ impl Module {
     ///
     /// Definitions: [`header`](crate::definitions::base::formats::header), [`DecodesWhole`](crate::definitions::base::decoding::DecodesWhole), [`wasm_module`](crate::definitions::base::formats::wasm_module). [How to read clauses](crate::definitions).
     pub fn new() -> Self {
-        done(base::Module::new(Global)).into()
+        Module(done(base::Module::new(Root)))
     }
 }
 

@@ -184,7 +184,6 @@ ELSEWHERE = {
     "Root": "crate::ending",
     "String": "alloc_crate::string",
     "bytes_of": "crate::base",
-    "encoding_once": "super::bytes",
     "encodings": "super::const_expr",
     "Vec": "alloc_crate::vec",
     "vec_of": "crate::base",

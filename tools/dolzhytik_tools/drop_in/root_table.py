@@ -16,7 +16,7 @@ ATTRIBUTE = re.compile(r'#\[inline\]|#\[must_use = "[^"]+"\]')
 OF_VALUE = re.compile(r"self\.0((?:\.\w+)*)\.(\w+)\(")
 OF_MODULE = re.compile(rf"\b(?:{'|'.join(MODULES)})::(?:joined::)?(\w+)::(\w+)\b")
 OF_FUNCTION = re.compile(r"\bdone\((\w+)\(")
-OF_BYTES = re.compile(r"\bself\.bytes\b")
+OF_BYTES = re.compile(r"\bself\.0\.bytes\.as_std\(\)")
 OF_ROOT = re.compile(r"^(?:self\.|[A-Z]\w+::)(\w+)\(")
 
 

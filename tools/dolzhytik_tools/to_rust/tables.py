@@ -216,10 +216,14 @@ PLACES = [
     Place('wasm_base/src/types.rt', '#[inline(never)]', '#[inline(always)]', 'fn encode<'),
     # The root of the package makes empty builders by a constant, prints their bytes, and takes those
     # of other builders.
+    Place('wasm_base/src/modules.rt', 'bytes: Vec<u8, A>,', 'pub(crate) bytes: Vec<u8, A>,'),
     Place('wasm_base/src/pieces.rt', 'bytes: Vec<u8, A>, ends: Vec<usize, A>,', 'pub(crate) bytes: Vec<u8, A>, pub(crate) ends: Vec<usize, A>,'),
     Place('wasm_custom/src/entries.rt', 'entries: S, kind: PhantomData<K>,', 'pub(crate) entries: S, pub(crate) kind: PhantomData<K>,'),
     Place('wasm_custom/src/lists.rt', 'entries: S, kind: PhantomData<K>,', 'pub(crate) entries: S, pub(crate) kind: PhantomData<K>,'),
     Place('wasm_base/src/store.rt', 'bytes: Vec<u8, A>, count: u32,', 'pub(crate) bytes: Vec<u8, A>, pub(crate) count: u32,'),
+    Place('wasm_code/src/function.rt', 'bytes: Vec<u8, A>,', 'pub(crate) bytes: Vec<u8, A>,'),
+    # A list of bytes of the root begins with less.
+    Place('wasm_code/src/function.rt', 'FIRST_CAPACITY)', 'if A::ends() { crate::ending::FEW } else { FIRST_CAPACITY })'),
     Place('wasm_sections/src/counted_section.rt', 'entries: S, kind: PhantomData<K>,', 'pub(crate) entries: S, pub(crate) kind: PhantomData<K>,'),
     Place('wasm_types/src/type_section.rt', 'entries: S,', 'pub(crate) entries: S,'),
     Place('wasm_types/src/type_section.rt', "section: &'a mut TypeSectionIn<S>,", "pub(crate) section: &'a mut TypeSectionIn<S>,"),
