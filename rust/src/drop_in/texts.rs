@@ -6,7 +6,7 @@ macro_rules! text {
     (Module) => {
         r##"A module under construction: the header, and the sections added so far.
 
-Build each section, add it by [`section`](Module::section), and take the bytes by [`finish`](Module::finish). The encoding is defined in the core specification, Binary Format, Modules. Neither the order of sections nor the module is validated. To decode a module, see [`reader::Sections`](crate::reader::Sections). The proved builder is [`fallible::Module`](crate::fallible::Module), which converts to this type.
+Build each section, add it by [`section`](Module::section), and take the bytes by [`finish`](Module::finish). The encoding is defined in the core specification, Binary Format, Modules. Neither the order of sections nor the module is validated. To decode a module, see [`reader::Sections`](crate::reader::Sections). Its bytes are those of the proved [`fallible::Module`](crate::fallible::Module), which converts to this type. A section of this package is appended by its proved call.
 
 ```
 use dolzhytik::{FunctionSection, Module};
@@ -255,7 +255,7 @@ assert_eq!(bytes, [0x20, 0x00, 0x41, 0xC0, 0x00, 0x6A, 0x0B]);
 
 [`CodeSection::function`](super::CodeSection::function) takes it. End it with the instruction `end`, which no call adds. Parameters are locals too, with the first indices; they are part of the function's type, and not of its body. The encoding is defined in the core specification, Modules, Code Section.
 
-The proved builder of the same bytes is [`fallible::Function`](crate::fallible::Function), which converts to this type.
+It is built by the calls of the proved [`fallible::Function`](crate::fallible::Function), which converts to this type. Its instructions are appended by those of the root.
 
 ```
 use dolzhytik::{Function, Instruction, ValType};
