@@ -87,7 +87,7 @@ def given(call: Call) -> Iterator[Parameter | None]:
         return
     rest = call.row.expression.partition(call.proved.name + "(")[2]
     for argument in split(rest[: group_end("(" + rest) - 2]):
-        if argument != "Global":
+        if argument not in ("Global", "Root"):
             named = [it for it in call.row.parameters if re.search(rf"\b{it.name}\b", argument)]
             yield named[0] if len(named) == 1 else None
 
@@ -102,7 +102,8 @@ def contract(call: Call) -> list[str]:
     said = "The contract of %s, which this call makes." if call.is_made else "The contract of %s. This call does the same, as tests show."
     end = "panics" if panics(call) else "ends the program"
     said = said % link + " Where that returns an error, this call %s." % end * call.proved.can_fail()
-    names = ["`S` is [`Entries`](crate::fallible::Entries)"] if any("S.model" in line for line in parts["Proved"]) else []
+    stores = sorted(set(re.findall(r"\b([A-Z])\.model\b", "\n".join(parts["Proved"]))))
+    names = ["`%s` is [`Entries`](crate::fallible::Entries)" % it for it in stores]
     names += ["`%s` is `%s`" % it for it in renamed(call)]
     said += " In the clauses, %s." % ", and ".join(names) if names else ""
     asked = ["# Asks", "", *parts["Asks"], ""] if "Asks" in parts else []
@@ -178,6 +179,7 @@ ELSEWHERE = {
     "Later": "super::later",
     "Lent": "crate::base",
     "MARK": "super::custom",
+    "Root": "crate::ending",
     "Store": "crate::base",
     "String": "alloc_crate::string",
     "bytes_of": "crate::base",

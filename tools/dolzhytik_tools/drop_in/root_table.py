@@ -14,7 +14,7 @@ ATTRIBUTE = re.compile(r'#\[inline\]|#\[must_use = "[^"]+"\]')
 # The forms of an expression: a call of the proved value, or of a part of it, a proved function or
 # constant, another call of the root, and what the list of bytes has, which a body is.
 OF_VALUE = re.compile(r"self\.0((?:\.\w+)*)\.(\w+)\(")
-OF_MODULE = re.compile(rf"\b(?:{'|'.join(MODULES)})::(\w+)::(\w+)\b")
+OF_MODULE = re.compile(rf"\b(?:{'|'.join(MODULES)})::(?:joined::)?(\w+)::(\w+)\b")
 OF_FUNCTION = re.compile(r"\bdone\((\w+)\(")
 OF_BYTES = re.compile(r"\bself\.bytes\b")
 OF_ROOT = re.compile(r"^(?:self\.|[A-Z]\w+::)(\w+)\(")
@@ -145,7 +145,7 @@ def made(row: Row, layer: Layer, calls: set[str]) -> Proved | None:
 def check_errors(row: Row, proved: Proved) -> None:
     """Stops at an error that the expression drops, and at `done` of a call that has none."""
     before = row.expression.partition(proved.name + "(")[0]
-    is_done = re.search(r"\bdone\((?:self(?:\.\w+)*\.|\w+::\w+::)?$", before) is not None
+    is_done = re.search(r"\bdone\((?:self(?:\.\w+)*\.|(?:\w+::)+)?$", before) is not None
     if proved.can_fail() != is_done:
         raise row.stop("%s %s" % (proved.name, "returns an error: write done(..)" if proved.can_fail() else "returns no error"))
 
