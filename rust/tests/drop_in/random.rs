@@ -2,14 +2,23 @@
 use crate::checks::encoded;
 use dolzhytik::fallible::{self, CowSlice, Global, Result};
 use dolzhytik::{
-    CodeSection, ConstExpr, DataSection, ElementSection, Elements, Encode, EntityType, ExportKind,
-    ExportSection, Function, FunctionSection, GlobalSection, GlobalType, HeapType, ImportSection,
-    Instruction, MemArg, MemArgTarget, MemorySection, MemoryType, RefType, TableSection, TableType,
-    TagKind, TagSection, TagType, TypeSection, ValType,
+    BranchHint, BranchHints, CodeSection, ConstExpr, CoreDumpInstancesSection,
+    CoreDumpStackSection, CoreDumpValue, DataSection, DataSymbolDefinition, ElementSection,
+    Elements, Encode, EntityType, ExportKind, ExportSection, Function, FunctionSection,
+    GlobalSection, GlobalType, HeapType, ImportSection, IndirectNameMap, Instruction,
+    LinkingSection, MemArg, MemArgTarget, MemorySection, MemoryType, NameMap, NameSection,
+    ProducersField, ProducersSection, RefType, SymbolTable, TableSection, TableType, TagKind,
+    TagSection, TagType, TypeSection, ValType,
 };
 
 /// How often each section is built, unless the environment variable `DOLZHYTIK_ROUNDS` says it.
 const ROUNDS: u32 = 300;
+
+/// How often each section is built. The variable is read while this is compiled: on wasm32 a program
+/// has no environment.
+fn rounds() -> u32 {
+    option_env!("DOLZHYTIK_ROUNDS").map_or(ROUNDS, |it| it.parse().expect("a number"))
+}
 
 /// Random numbers, of a fixed start.
 struct Numbers(u64);
@@ -186,15 +195,73 @@ impl Numbers {
     }
 }
 
+/// A name map of some names.
+fn names(it: &mut Numbers) -> Result<(NameMap, fallible::NameMap)> {
+    let (mut root, mut proved) = (NameMap::new(), fallible::NameMap::new(Global));
+    for _ in 0..it.below(6) {
+        let (index, name) = (it.next(), it.name());
+        root.append(index, &name);
+        proved.append(index, &name)?;
+    }
+    assert_eq!(root.is_empty(), proved.is_empty());
+    Ok((root, proved))
+}
+
+/// A map of some name maps, some of which are copies.
+fn maps(it: &mut Numbers) -> Result<(IndirectNameMap, fallible::IndirectNameMap)> {
+    let (mut root, mut proved) = (
+        IndirectNameMap::new(),
+        fallible::IndirectNameMap::new(Global),
+    );
+    for _ in 0..it.below(4) {
+        let (index, (inside, other)) = (it.next(), names(it)?);
+        root.append(index, &inside.clone());
+        proved.append(index, &other)?;
+    }
+    Ok((root, proved))
+}
+
+/// A symbol table of some symbols.
+fn symbols(it: &mut Numbers) -> Result<(SymbolTable, fallible::SymbolTable)> {
+    let (mut root, mut proved) = (SymbolTable::new(), fallible::SymbolTable::new(Global));
+    for _ in 0..it.below(6) {
+        let (flags, index, name) = (it.next(), it.next(), it.name());
+        let given = it.flag().then_some(name.as_str());
+        let definition = it.flag().then(|| DataSymbolDefinition {
+            index: it.next(),
+            offset: it.next(),
+            size: it.next(),
+        });
+        root.function(flags, index, given)
+            .global(flags, index, given)
+            .table(flags, index, given)
+            .data(flags, &name, definition.clone());
+        proved.function(flags, index, given)?;
+        proved.global(flags, index, given)?;
+        proved.table(flags, index, given)?;
+        proved.data(flags, &name, definition)?;
+    }
+    Ok((root, proved))
+}
+
+/// Values of locals or of a stack.
+fn values(it: &mut Numbers) -> Vec<CoreDumpValue> {
+    (0..it.below(5))
+        .map(|_| match it.below(3) {
+            0 => CoreDumpValue::Missing,
+            1 => CoreDumpValue::I32(it.next() as i32),
+            _ => CoreDumpValue::I64(it.wide() as i64),
+        })
+        .collect()
+}
+
 /// Builds a section at the root and in `fallible` by the same calls, and compares their bytes.
 fn same<T: Default + Encode, P: fallible::Encode>(
     numbers: &mut Numbers,
     new: fn(Global) -> P,
     add: fn(&mut Numbers, &mut T, &mut P) -> Result<()>,
 ) -> Result<()> {
-    // While it is compiled: on wasm32 a program has no environment.
-    let rounds = option_env!("DOLZHYTIK_ROUNDS");
-    for _ in 0..rounds.map_or(ROUNDS, |it| it.parse().expect("a number")) {
+    for _ in 0..rounds() {
         let (mut root, mut proved) = (T::default(), new(Global));
         for _ in 0..numbers.below(12) {
             add(numbers, &mut root, &mut proved)?;
@@ -301,4 +368,82 @@ fn sections_with_expressions() -> Result<()> {
         proved.active(table, &other, functions())?;
         proved.declared::<Global>(functions())
     })
+}
+
+#[test]
+fn names_of_items() -> Result<()> {
+    let it = &mut Numbers(4);
+    same::<NameSection, _>(it, fallible::NameSection::new, |it, root, proved| {
+        let (name, (map, other), (inside, others)) = (it.name(), names(it)?, maps(it)?);
+        root.module(&name);
+        proved.module(&name)?;
+        root.functions(&map);
+        proved.functions(&other)?;
+        root.locals(&inside);
+        proved.locals(&others)?;
+        let id = it.next() as u8;
+        root.raw(id, name.as_bytes());
+        proved.raw(id, name.as_bytes())
+    })
+}
+
+#[test]
+fn custom_sections() -> Result<()> {
+    let it = &mut Numbers(5);
+    same::<LinkingSection, _>(it, fallible::LinkingSection::new, |it, root, proved| {
+        let (name, (table, other)) = (it.name(), symbols(it)?);
+        root.symbol_table(&table).target_arch(&name);
+        proved.symbol_table(&other)?;
+        proved.target_arch(&name)
+    })?;
+    same::<ProducersSection, _>(it, fallible::ProducersSection::new, |it, root, proved| {
+        let (name, mut field) = (it.name(), ProducersField::new());
+        let mut other = fallible::ProducersField::new(Global);
+        for _ in 0..it.below(4) {
+            let (tool, version) = (it.name(), it.name());
+            field.value(&tool, &version);
+            other.value(&tool, &version)?;
+        }
+        root.field(&name, &field);
+        proved.field(&name, &other)
+    })?;
+    same::<BranchHints, _>(it, fallible::BranchHints::new, |it, root, proved| {
+        let (function, count) = (it.next(), it.below(5));
+        let hints: Vec<_> = (0..count)
+            .map(|_| BranchHint {
+                branch_func_offset: it.next(),
+                branch_hint_value: it.below(2),
+            })
+            .collect();
+        root.function_hints(function, hints.iter().copied());
+        proved.function_hints(function, hints)
+    })
+}
+
+#[test]
+fn core_dumps() -> Result<()> {
+    let it = &mut Numbers(6);
+    for _ in 0..rounds() {
+        let name = it.name();
+        let mut root = CoreDumpStackSection::new(name.as_str());
+        let mut proved = fallible::CoreDumpStackSection::new(Global, &name)?;
+        let mut instances = CoreDumpInstancesSection::new();
+        let mut others = fallible::CoreDumpInstancesSection::new(Global);
+        for _ in 0..it.below(12) {
+            let (module, function, offset) = (it.next(), it.next(), it.next());
+            let (locals, stack) = (values(it), values(it));
+            root.frame(module, function, offset, locals.clone(), stack.clone());
+            proved.frame(module, function, offset, locals, stack)?;
+            let indices: Vec<_> = (0..it.below(5)).map(|_| it.next()).collect();
+            instances.instance(module, indices.clone(), [function]);
+            others.instance(module, indices, [function])?;
+        }
+        let mut expected = Vec::new();
+        fallible::Encode::encode(&proved, &mut expected)?;
+        fallible::Encode::encode(&others, &mut expected)?;
+        let mut bytes = encoded(&root.clone());
+        instances.encode(&mut bytes);
+        assert_eq!(bytes, expected);
+    }
+    Ok(())
 }
