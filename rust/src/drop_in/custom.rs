@@ -103,20 +103,28 @@ section!(NameSection of Custom, LinkingSection of Custom, ProducersSection of Cu
 section!(BranchHints of Custom, CoreDumpModulesSection of Custom);
 section!(CoreDumpInstancesSection of Custom);
 
-// A custom section begins with its size and name, a list with its count. A symbol table has the id
-// and the size of its subsection before the count. The version of a linking section is printed.
 debugged!(
-    NameMap: [Number] count,
-    IndirectNameMap: [Number] count,
-    ProducersField: [Number] num_values,
-    SymbolTable: [Number Number Number] num_added,
-    NameSection: [Number Name],
-    LinkingSection: [Number Name],
-    ProducersSection: [Number Name Number] num_fields,
-    BranchHints: [Number Name Number] num_hints,
-    CoreDumpModulesSection: num_added [Number Name Number],
-    CoreDumpInstancesSection: num_added [Number Name Number],
+    NameMap(bytes, count),
+    IndirectNameMap(bytes, count),
+    ProducersField(bytes, num_values),
+    SymbolTable(bytes, num_added),
+    NameSection(bytes),
+    ProducersSection(bytes, num_fields),
+    BranchHints(bytes, num_hints),
+    CoreDumpModulesSection(num_added, bytes),
+    CoreDumpInstancesSection(num_added, bytes),
 );
+
+/// The version is a part of the bytes.
+impl fmt::Debug for LinkingSection {
+    fn fmt(&self, f: &mut fmt::Formatter<'_>) -> fmt::Result {
+        let mut section = f.debug_struct("LinkingSection");
+        let Some(bytes) = debug::after(&self.0, &[Before::Number, Before::Name]) else {
+            return section.finish_non_exhaustive();
+        };
+        section.field("bytes", &bytes).finish()
+    }
+}
 
 /// The first byte of an entry of a core dump.
 pub const MARK: u8 = 0x00;
@@ -170,16 +178,10 @@ impl From<custom::CoreDumpStackSection> for CoreDumpStackSection {
 
 impl fmt::Debug for CoreDumpStackSection {
     fn fmt(&self, f: &mut fmt::Formatter<'_>) -> fmt::Result {
-        let mut stack = f.debug_struct("CoreDumpStackSection");
-        let Some(marked) = debug::after(&self.0, MARKED) else {
-            return stack.finish_non_exhaustive();
-        };
-        let (length, rest) = debug::number(&marked);
-        let (name, rest) = rest.split_at(length);
-        let (count, frames) = debug::number(rest);
-        stack
-            .field("frame_bytes", &frames)
-            .field("count", &count)
+        let (_, name) = debug::number(&self.0.front[1..]);
+        f.debug_struct("CoreDumpStackSection")
+            .field("frame_bytes", &self.0.frames.bytes)
+            .field("count", &self.0.frames.count)
             .field("name", &String::from_utf8_lossy(name))
             .finish()
     }

@@ -44,31 +44,25 @@ pub fn after(builder: &impl Encode, before: &[Before]) -> Option<Vec<u8>> {
     Some(entries.to_vec())
 }
 
-/// Bytes that may be missing, as a list or as `..`.
-pub struct Bytes(pub Option<Vec<u8>>);
-
-impl fmt::Debug for Bytes {
-    fn fmt(&self, f: &mut fmt::Formatter<'_>) -> fmt::Result {
-        match &self.0 {
-            Some(bytes) => bytes.fmt(f),
-            None => f.write_str(".."),
-        }
-    }
+/// Returns a field of a builder: the bytes of its entries, or their number.
+macro_rules! field {
+    ($builder:tt bytes) => {
+        &$builder.0.entries.bytes
+    };
+    ($builder:tt $number:ident) => {
+        &$builder.0.entries.count
+    };
 }
 
-/// Writes `Debug` of builders over proved ones: the parts before the entries in an encoding, and
-/// the name of the number of entries, if it is printed. It is before the bytes in core dumps alone.
+/// Writes `Debug` of builders over proved ones, by the names of their fields: `bytes`, and the number
+/// of entries by another name.
 macro_rules! debugged {
-    ($($name:ident: $($first:ident)? [$($before:ident)*] $($last:ident)?),* $(,)?) => {
+    ($($name:ident($($field:ident),*)),* $(,)?) => {
         $(
             impl core::fmt::Debug for $name {
                 fn fmt(&self, f: &mut core::fmt::Formatter<'_>) -> core::fmt::Result {
-                    use $crate::drop_in::debug::{Before, Bytes, after};
-                    let bytes = Bytes(after(&self.0, &[$(Before::$before),*]));
                     f.debug_struct(stringify!($name))
-                        $(.field(stringify!($first), &self.0.len()))?
-                        .field("bytes", &bytes)
-                        $(.field(stringify!($last), &self.0.len()))?
+                        $(.field(stringify!($field), $crate::drop_in::debug::field!(self $field)))*
                         .finish()
                 }
             }
@@ -88,4 +82,4 @@ impl fmt::Debug for Ieee64 {
     }
 }
 
-pub(super) use debugged;
+pub(super) use {debugged, field};

@@ -280,14 +280,7 @@ macro_rules! listed {
             }
         }
 
-        impl core::fmt::Debug for $name {
-            fn fmt(&self, f: &mut core::fmt::Formatter<'_>) -> core::fmt::Result {
-                f.debug_struct(stringify!($name))
-                    .field("bytes", &self.0.entries.bytes)
-                    .field("num_added", &self.0.entries.count)
-                    .finish()
-            }
-        }
+        $crate::drop_in::debug::debugged!($name(bytes, num_added));
     };
 }
 
