@@ -1,8 +1,10 @@
 //! Queries of builders: counts and entries.
 ghost use Rattle.std.specs.Option.{option_copied};
 ghost use Rattle.std.specs.Prelude.{◌≡◌, ◌↔◌, IsTrue, length, slice_get};
+ghost use Rattle.wasm_base.specs.Pieces.{joined};
 
 use std::alloc::Allocator;
+use wasm_base::Pieces;
 use wasm_code::CodeSection;
 use wasm_custom::{NameMap, NameSection};
 use wasm_types::TypeSection;
@@ -47,4 +49,11 @@ pub fn is_without_names<A: Allocator>(map: &NameMap<A>) -> bool
     ensures { IsTrue result ↔ (length map.now ≡ 0) }
 {
     map.is_empty()
+}
+
+/// Returns the number of bytes of all entries.
+pub fn length_of_pieces<A: Allocator>(pieces: &Pieces<A>) -> usize
+    ensures { result ≡ length (joined pieces.now) }
+{
+    pieces.raw_len()
 }

@@ -2,6 +2,7 @@
 //! Queries of builders: counts and entries.
 
 use dolzhytik::fallible::Allocator;
+use dolzhytik::fallible::Pieces;
 use dolzhytik::fallible::CodeSection;
 use dolzhytik::fallible::{NameMap, NameSection};
 use dolzhytik::fallible::TypeSection;
@@ -70,4 +71,15 @@ pub fn count_of_names<A: Allocator>(map: &NameMap<A>) -> u32 {
 /// ```
 pub fn is_without_names<A: Allocator>(map: &NameMap<A>) -> bool {
     map.is_empty()
+}
+
+/// Returns the number of bytes of all entries.
+///
+/// # Proved
+///
+/// ```text
+/// ensures { result ≡ length (joined pieces.now) }
+/// ```
+pub fn length_of_pieces<A: Allocator>(pieces: &Pieces<A>) -> usize {
+    pieces.raw_len()
 }
