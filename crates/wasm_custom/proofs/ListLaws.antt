@@ -1,5 +1,5 @@
 -- This file proves the members of lists that are one argument of a call.
-use Rattle.wasm_base.proofs.Words.{◌≡◌, ℕ, ◌^◌, ◌<◌, List, [], ◌∷◌, ◌++◌, length, map, Option, Some, None, IsUtf8, refl, sym, ap, ap₂, ◌∙◌, subst, arith, length-append, IfSome, length-map, map-append}
+use Rattle.wasm_base.proofs.Words.{◌≡◌, ℕ, ◌^◌, ◌<◌, List, [], ◌∷◌, ◌++◌, length, map, Option, Some, None, IsUtf8, refl, sym, ap, ap₂, ◌∙◌, arith, length-append, IfSome, length-map, map-append}
 use Rattle.wasm_base.proofs.Words.{payload_joined, All-nil, All-push, flat_map, unsigned_encoding, joined, longest, vec_encoding, size_prefixed_encoding, HasEncodableSize, optional_encoding, IsEncodableName}
 use Rattle.std.specs.Borrow.{Bor}
 use Rattle.wasm_base.specs.Stores.{Joined, Cut, pieces_model}

@@ -1,4 +1,4 @@
-use Rattle.wasm_custom.proofs.Common.{◌≤◌, length, true, refl, ap, sym, subst, longest, on_ok, stack_name, stack_stored, same_encodable}
+use Rattle.wasm_custom.proofs.Common.{true, refl, subst, on_ok, stack_name, stack_stored, same_encodable}
 use Rattle.wasm_base.specs.Words.{DecodesBack}
 use Rattle.wasm_custom.specs.{joined_data, named_encoding, stack_section, SaysStackIn}
 use Rattle.wasm_custom.proofs.core_stack.CoreDumpStackInEncode.encode.Goals as goal
