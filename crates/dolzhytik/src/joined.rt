@@ -1,6 +1,6 @@
-//! The builders of sections, and of lists in them, over [`Entries`](crate::Entries): they keep the bytes of their entries and
-//! their number. They take 8 bytes an entry less than the builders of the same names in the crate,
-//! and no call returns an entry.
+//! The builders of sections, and of lists in them, over [`Entries`](crate::Entries): they keep the
+//! bytes of their entries and their number. They take 8 bytes an entry less than the builders of the
+//! same names in the crate, and no call returns an entry.
 pub use wasm_code::joined::CodeSection;
 pub use wasm_custom::joined::{
     BranchHints, ComdatSymbols, Comdats, CoreDumpInstancesSection, CoreDumpModulesSection,

@@ -1,5 +1,5 @@
-//! The custom sections of entries, and the lists in them, over [`Entries`]: each keeps the bytes of its
-//! entries and their number. It does not keep where an entry ends.
+//! The custom sections of entries, and the lists in them, over [`Entries`]: each keeps the bytes of
+//! its entries and their number. It does not keep where an entry ends.
 use crate::comdats::{ComdatMembers, ComdatSymbolMembers};
 use crate::core_dumps::{InstanceItems, ModuleItems};
 use crate::core_stack::CoreDumpStackIn;

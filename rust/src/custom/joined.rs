@@ -1,6 +1,6 @@
 // Written by tools/to-rust from crates/wasm_custom/src/joined.rt: change that.
-//! The custom sections of entries, and the lists in them, over [`Entries`]: each keeps the bytes of its
-//! entries and their number. It does not keep where an entry ends.
+//! The custom sections of entries, and the lists in them, over [`Entries`]: each keeps the bytes of
+//! its entries and their number. It does not keep where an entry ends.
 
 use crate::custom::comdats::{ComdatMembers, ComdatSymbolMembers};
 use crate::custom::core_dumps::{InstanceItems, ModuleItems};

@@ -6,7 +6,7 @@ macro_rules! text {
     (Module) => {
         r##"A module under construction: the header, and the sections added so far.
 
-Build each section, add it by [`section`](Module::section), and take the bytes by [`finish`](Module::finish). The encoding is defined in the core specification, Binary Format, Modules. Neither the order of sections nor the module is validated. To decode a module, see [`reader::Sections`](crate::reader::Sections). Its bytes are those of the proved [`fallible::Module`](crate::fallible::Module), which converts to this type. A section of this package is appended by its proved call.
+Build each section, add it by [`section`](Module::section), and take the bytes by [`finish`](Module::finish). The encoding is defined in the core specification, Binary Format, Modules. Neither the order of sections nor the module is validated. To decode a module, see [`reader::Sections`](crate::reader::Sections). Its bytes are those of the proved [`fallible::Module`](crate::fallible::Module), which converts to this type. [`section`](Module::section) appends a builder of entries by its proved call, and any other section by its id and its encoding.
 
 ```
 use dolzhytik::{FunctionSection, Module};
