@@ -2,9 +2,10 @@
 -- encoding of the content in that grammar.
 use Rattle.wasm_base.proofs.Words.{◌≡◌, ℕ, List, [], ◌++◌, ◌∙◌, ap, sym, subst, padded_of, minimal_of, Grammar, AppendsMinimal, RejectsWhole, Format, UnambiguousWhole}
 use Rattle.wasm_base.specs.Numbers.{builders, admitted, minimal, padded, standard_minimal, standard}
-use Rattle.wasm_base.specs.Minimal.{Grammars, Includes, MinimizesWhole, builders_alone, both_grammars}
+use Rattle.wasm_base.specs.Minimal.{MinimizesWhole}
 use Rattle.wasm_reader.specs.declared.kinds.SectionKind.{SectionKind}
-use Rattle.wasm_reader.specs.{Contents, content, grammars_of, kind_in, Extends, HasContentIn, AppendsContentIn, Takes}
+use Rattle.wasm_reader.specs.{Contents, content, grammars_of, kind_in, Extends, HasContentIn, HasShortBodies, AppendsContentIn}
+use Rattle.wasm_reader.proofs.BuiltSections.{is_writable}
 use Rattle.wasm_reader.proofs.KindLaws.{content_whole, kind_is}
 
 -- A minimal encoding is one in each grammar that extends this one.
@@ -17,8 +18,9 @@ extended F u admitted admitted i s x h = u.encodings.included standard_minimal s
 -- What builders write for the content decodes to it.
 written_decodes : (w : Grammar) (x : Contents) (written : List ℕ) → AppendsMinimal (grammars_of (kind_in x)) (content (kind_in x)) x [] written → HasContentIn w x → content (kind_in x) (padded_of w) written x
 written_decodes w x written a h =
+    let v = is_writable w x h in
     subst (λ s. content (kind_in x) (padded_of w) s x) (sym a.appended)
-    (extended (content (kind_in x)) (content_whole (kind_in x)) w h.grammar h.extended a.encoding x (a.encodes h.grammar h.included h.bytes h.decoded))
+    (extended (content (kind_in x)) (content_whole (kind_in x)) w v.grammar v.extended a.encoding x (a.encodes v.grammar v.included v.bytes v.decoded))
 
 minimized : (w : Grammar) (x : Contents) (written old new : List ℕ) → AppendsMinimal (grammars_of (kind_in x)) (content (kind_in x)) x [] written → MinimizesWhole w (content (kind_in x)) written old new → AppendsContentIn w x old new
 minimized w x written old new a m = record {
@@ -47,26 +49,12 @@ content_not_rejected w x kind bytes i r h = r.none x (subst (λ k. content k (pa
 
 -- ---- for callers
 
-builders_included : (k : Grammars) → Includes k builders
-builders_included builders_alone = tt
-builders_included both_grammars = tt
-
-builders_extended : (w : Grammar) → Extends w builders
-builders_extended builders = tt
-builders_extended admitted = tt
-
--- The items of a section of the builders' grammar.
-pub taken_content : (w : Grammar) (kind : SectionKind) (bytes : List ℕ) (x : Contents) (n : ℕ) → Takes kind bytes x n → HasContentIn w x
-taken_content w kind bytes x n t =
-    let p = t.decodes.encodes in
-    record {
-      grammar = builders;
-      included = builders_included (grammars_of (kind_in x));
-      extended = builders_extended w;
-      bytes = p.content;
-      decoded = subst (λ k. content k padded p.content x) (sym (kind_is padded kind p.content x p.encodes)) p.encodes;
-    }
+-- The items that a payload decodes to.
+pub decoded_content : (w v : Grammar) (kind : SectionKind) (bytes : List ℕ) (x : Contents) → Extends w v → content kind (padded_of v) bytes x → HasShortBodies v kind bytes → HasContentIn w x
+decoded_content w v kind bytes x i h short =
+    let same = sym (kind_is (padded_of v) kind bytes x h) in
+    record { grammar = v; extended = i; bytes = bytes; decoded = subst (λ k. content k (padded_of v) bytes x) same h; short = subst (λ k. HasShortBodies v k bytes) same short }
 
 -- What an empty buffer gains for them is their minimal encoding.
-pub content_written : {w : Grammar} {kind : SectionKind} {bytes old new : List ℕ} {x : Contents} {n : ℕ} → Takes kind bytes x n → old ≡ [] → AppendsContentIn w x old new → content (kind_in x) (minimal_of w) new x
-content_written {w = w} {kind = kind} {bytes = bytes} {x = x} {n = n} t e a = subst (λ s. content (kind_in x) (minimal_of w) s x) (sym (a.appended ∙ ap (λ o. o ++ a.encoding) e)) (a.encodes (taken_content w kind bytes x n t))
+pub content_written : {w : Grammar} {old new : List ℕ} {x : Contents} → HasContentIn w x → old ≡ [] → AppendsContentIn w x old new → content (kind_in x) (minimal_of w) new x
+content_written {w = w} {new = new} {x = x} h e a = subst (λ s. content (kind_in x) (minimal_of w) s x) (sym (a.appended ∙ ap (λ o. o ++ a.encoding) e)) (a.encodes h)

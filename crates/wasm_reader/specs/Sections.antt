@@ -1,10 +1,10 @@
 -- This file defines sections of each kind, and the promises of their reader and their minimizer.
-use Rattle.std.specs.Prelude.{◌≡◌, ◌↔◌, ℕ, ◌≤◌, List, ◌++◌, length, drop}
+use Rattle.std.specs.Prelude.{◌≡◌, ◌↔◌, ℕ, ◌≤◌, ◌<◌, ◌^◌, List, ◌++◌, length, drop}
 use Rattle.wasm_base.specs.Words.{Grammar, builders, minimal_of, padded_of, Format, size_prefixed, Decodes}
 use Rattle.wasm_base.specs.Numbers.{admitted}
-use Rattle.wasm_base.specs.Minimal.{Includes}
-use Rattle.wasm_reader.specs.Kinds.{Contents, content, grammars_of, kind_in}
+use Rattle.wasm_reader.specs.Kinds.{Contents, content, kind_in}
 use Rattle.wasm_reader.specs.declared.kinds.SectionKind.{SectionKind}
+use Rattle.wasm_reader.specs.declared.kinds.SectionKind.TheVariants as kinds
 
 -- A section of this kind without its id: its size-prefixed content.
 abbrev pub section : SectionKind → Format Contents
@@ -40,14 +40,19 @@ Extends admitted v = Unit {0}
 Extends builders builders = Unit {0}
 Extends builders admitted = ⊥
 
--- Some bytes decode to this content in a grammar that the grammar `w` extends. For the kinds of
--- `grammars_of` that have the builders' alone, it is the builders' grammar.
+-- A code section in the standard's grammar has fewer than 2^31 bytes. Builders may need twice as
+-- many for it, and they write no body of 2^32 bytes or more.
+abbrev pub HasShortBodies : Grammar → SectionKind → List ℕ → Type 0
+HasShortBodies admitted kinds.Bodies bytes = length bytes < 2 ^ 31
+HasShortBodies w kind bytes = Unit {0}
+
+-- Some bytes decode to this content in a grammar that the grammar `w` extends.
 pub record HasContentIn (w : Grammar) (x : Contents) : Type 0 where
   pub grammar : Grammar
-  pub included : Includes (grammars_of (kind_in x)) grammar
   pub extended : Extends w grammar
   pub bytes : List ℕ
   pub decoded : content (kind_in x) (padded_of grammar) bytes x
+  pub short : HasShortBodies grammar (kind_in x) bytes
 
 -- The buffer gains the minimal encoding of this content in the grammar `w`, if some bytes decode to
 -- it.

@@ -6,7 +6,7 @@ import re
 
 from ..errors import Stop
 from ..repository import text_of
-from . import conversion_proofs, conversions
+from . import conversion_proofs, conversions, spaces
 from .definitions import all_cases, bare_definition, nested_rows, row_definition, rows, variants_used
 from .formatting import WIDTH, arm, noted
 from .opcodes import byte_shapes, counts, parts_defined, parts_made, runs_defined, runs_made, shapes_declared, shapes_used
@@ -15,7 +15,7 @@ from .sources import append, bare_source, constants, copied, look, op_arms, shar
 from .table import ENUMS, INSTRUCTION, NESTED, PREFIXES, Case, Enum, of_enum
 from .test_files import cases_file, rows_file
 
-CRATE, READER = "crates/wasm_insn", "crates/wasm_reader"
+CRATE, READER, REMAP = "crates/wasm_insn", "crates/wasm_reader", "crates/wasm_remap"
 TESTS = "tests/wasm_insn_tests/src"
 ATOMIC, VECTOR_IMMEDIATE = ENUMS["Atomic"], ENUMS["VectorImmediate"]
 
@@ -105,6 +105,15 @@ def whole_files(cases: list[Case]) -> dict[str, str]:
     return {path: noted(path, text) for path, text in found.items()}
 
 
+def space_regions(cases: list[Case]) -> dict[str, list[Region]]:
+    """Returns the regions of files of wasm_remap: the index spaces of numbers."""
+    tables = [("ONE_BYTE", "one_byte", None), *((f"AFTER_{it:02X}", f"after_{it:02x}", it) for it in PREFIXES if spaces.runs(cases, it))]
+    return {
+        "src/spaces.rt": [Region((f"/// {name}:",), spaces.made(cases, name, prefix)) for name, _, prefix in tables],
+        "specs/Spaces.antt": [Region((f"abbrev pub {name} :", f"{name} ="), spaces.defined(cases, prefix)) for _, name, prefix in tables],
+    }
+
+
 def conversion_files(cases: list[Case]) -> dict[str, str]:
     """Returns the files of wasm_reader that convert an opcode and its immediates."""
     found = {
@@ -131,6 +140,9 @@ def generated(top: pathlib.Path, cases: list[Case]) -> dict[str, str]:
         for it in found:
             stop_if_long(path, it.text)
         path = f"{CRATE}/{path}"
+        files[path] = filled(path, text_of(top / path), found)
+    for path, found in space_regions(cases).items():
+        path = f"{REMAP}/{path}"
         files[path] = filled(path, text_of(top / path), found)
     files |= {f"{READER}/{path}": text for path, text in conversion_files(cases).items()}
     tests = {f"{TESTS}/cases.rtt": cases_file(cases), f"{TESTS}/rows.rtt": rows_file(cases)}

@@ -1,0 +1,5 @@
+use Rattle.std.proofs.Common.{◌≡◌, map, take, drop}
+use Rattle.wasm_remap.proofs.indexed.remap_numbers.Given as goal
+
+abbrev pub invariant-loop-item : goal.invariant-loop-item
+invariant-loop-item g l = (drop l.item-index l.items ≡ drop l.item-index l.fn.items) × (take l.item-index l.items ≡ map (g.M.Remap.mapped l.indices l.space) (take l.item-index l.fn.items))

@@ -1,0 +1,8 @@
+-- The definitions of the crate: each file as a module.
+pub mod Spaces
+pub mod Mapping
+pub mod Instructions
+pub mod Items
+pub mod Types
+pub mod Customs
+pub mod Sections

@@ -1,0 +1,54 @@
+-- This file defines what a map of indices makes of the content of a section, and the promises of the
+-- calls that map.
+use Rattle.std.specs.Prelude.{◌≡◌, ℕ, List, ◌++◌, map}
+use Rattle.wasm_base.specs.Words.{admitted, standard}
+use Rattle.wasm_reader.specs.Kinds.{Contents, content, Bodies, Segments, DataCount, Elements, Exports, Functions, Globals, Imports, Memories, Start, Tables, Tags, Names, Linking, Producers, Hints, Core, CoreModules, CoreInstances}
+use Rattle.wasm_reader.specs.Kinds.{CoreStack, Custom, Raw, Types, TargetFeatures, SourceMappingUrl, ExternalDebugInfo, BuildId, Dylink, Relocations}
+use Rattle.wasm_reader.specs.Sections.{AppendsContentIn}
+use Rattle.wasm_reader.specs.Words.{Section, section_kind_of}
+use Rattle.wasm_remap.specs.Customs.{remapped_hints, remapped_link, remapped_name, remapped_relocation}
+use Rattle.wasm_remap.specs.Instructions.{remapped_body}
+use Rattle.wasm_remap.specs.Items.{remapped_data, remapped_element, remapped_export, remapped_global, remapped_import, remapped_table, remapped_tag}
+use Rattle.wasm_remap.specs.Mapping.{Mapping}
+use Rattle.wasm_remap.specs.Types.{remapped_type}
+use Rattle.wasm_remap.specs.declared.spaces.IndexSpace.TheVariants as spaces
+
+-- The content with each index mapped. A core dump has indices of the module that it is a dump of,
+-- which stay.
+abbrev pub remapped : Mapping → Contents → Contents
+remapped m (Bodies xs) = Bodies (map (remapped_body m) xs)
+remapped m (Segments xs) = Segments (map (remapped_data m) xs)
+remapped m (DataCount n) = DataCount n
+remapped m (Elements xs) = Elements (map (remapped_element m) xs)
+remapped m (Exports xs) = Exports (map (remapped_export m) xs)
+remapped m (Functions xs) = Functions (map (m spaces.Types) xs)
+remapped m (Globals xs) = Globals (map (remapped_global m) xs)
+remapped m (Imports xs) = Imports (map (remapped_import m) xs)
+remapped m (Memories xs) = Memories xs
+remapped m (Start n) = Start (m spaces.Functions n)
+remapped m (Tables xs) = Tables (map (remapped_table m) xs)
+remapped m (Tags xs) = Tags (map (remapped_tag m) xs)
+remapped m (Names xs) = Names (map (remapped_name m) xs)
+remapped m (Linking xs) = Linking (map (remapped_link m) xs)
+remapped m (Producers xs) = Producers xs
+remapped m (Hints xs) = Hints (map (remapped_hints m) xs)
+remapped m (Core n) = Core n
+remapped m (CoreModules xs) = CoreModules xs
+remapped m (CoreInstances xs) = CoreInstances xs
+remapped m (CoreStack x) = CoreStack x
+remapped m (Custom x) = Custom x
+remapped m (Raw x) = Raw x
+remapped m (Types xs) = Types (map (remapped_type m) xs)
+remapped m (TargetFeatures xs) = TargetFeatures xs
+remapped m (SourceMappingUrl x) = SourceMappingUrl x
+remapped m (ExternalDebugInfo x) = ExternalDebugInfo x
+remapped m (BuildId x) = BuildId x
+remapped m (Dylink xs) = Dylink xs
+remapped m (Relocations x) = Relocations (x.0, (x.1.0, map (remapped_relocation m) x.1.1))
+
+-- The section decodes to items, and the buffer gains the minimal encoding of these items with each
+-- index mapped.
+pub record RemapsSection (m : Mapping) (s : Section) (old new : List ℕ) : Type 0 where
+  pub items : Contents
+  pub decoded : content (section_kind_of s) standard s.payload items
+  pub appended : AppendsContentIn admitted (remapped m items) old new

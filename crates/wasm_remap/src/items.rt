@@ -1,0 +1,82 @@
+// The items of sections whose indices are mapped.
+ghost use Rattle.std.specs.Prelude.{◌≡◌, IfErr, OnOk, OnErr};
+ghost use Rattle.wasm_reader.specs.Kinds.{contents_of};
+ghost use Rattle.wasm_remap.specs.Mapping.{ComesFrom};
+ghost use Rattle.wasm_remap.specs.Sections.{RemapsSection, remapped};
+
+use crate::indexed::{Remap, RemapError, mapped, remap_each, remap_numbers};
+use crate::spaces::IndexSpace;
+use std::alloc::Allocator;
+use wasm_base::Standard;
+use wasm_reader::{Items, Section, encode_items_in};
+
+/// Maps each index of the items of a section. After an error, some of them are mapped.
+///
+/// # Errors
+///
+/// Returns the error of the map if it rejects an index, and `Memory` if an allocation fails.
+pub fn remap_items<A: Allocator + Copy, M: Remap>(
+    items: &mut Items<'_, A>,
+    alloc: A,
+    indices: &M,
+) -> Result<(), RemapError<M::Error>>
+    ensures ok { OnOk result (contents_of items.new ≡ remapped (M.mapped indices.now) (contents_of items.old)) }
+    ensures err { IfErr result (λ e. ComesFrom (M.rejects indices.now) e) }
+{
+    match items {
+        Items::Bodies(items) => remap_each(items, alloc, indices),
+        Items::Segments(items) => remap_each(items, alloc, indices),
+        Items::Elements(items) => remap_each(items, alloc, indices),
+        Items::Exports(items) => remap_each(items, alloc, indices),
+        Items::Functions(items) => remap_numbers(items, IndexSpace::Types, indices),
+        Items::Globals(items) => remap_each(items, alloc, indices),
+        Items::Imports(items) => remap_each(items, alloc, indices),
+        Items::Start(index) => {
+            *index = mapped(indices, IndexSpace::Functions, *index)?;
+            Ok(())
+        }
+        Items::Tables(items) => remap_each(items, alloc, indices),
+        Items::Tags(items) => remap_each(items, alloc, indices),
+        Items::Names(items) => remap_each(items, alloc, indices),
+        Items::Linking(items) => remap_each(items, alloc, indices),
+        Items::Hints(items) => remap_each(items, alloc, indices),
+        Items::Types(items) => remap_each(items, alloc, indices),
+        Items::Relocations { relocations, .. } => remap_each(relocations, alloc, indices),
+        Items::DataCount(_)
+        | Items::Memories(_)
+        | Items::Producers(_)
+        | Items::Core(_)
+        | Items::CoreModules(_)
+        | Items::CoreInstances(_)
+        | Items::CoreStack { .. }
+        | Items::Custom { .. }
+        | Items::Raw(_)
+        | Items::TargetFeatures(_)
+        | Items::SourceMappingUrl(_)
+        | Items::ExternalDebugInfo(_)
+        | Items::BuildId(_)
+        | Items::Dylink(_) => Ok(()),
+    }
+}
+
+/// Decodes the items of a section, maps each index, and appends the minimal encoding of the items
+/// as a payload. On an error, the sink is unchanged.
+///
+/// # Errors
+///
+/// Returns `Read` if the section does not decode, `Index` with the error of the map if it rejects an
+/// index, and `Refused` if an encoding is too long or an allocation fails.
+pub fn remap_section<A: Allocator + Copy, M: Remap, B: Allocator>(
+    section: &Section<'_, A>,
+    alloc: A,
+    indices: &M,
+    sink: &mut Vec<u8, B>,
+) -> Result<(), RemapError<M::Error>>
+    ensures ok { OnOk result (RemapsSection (M.mapped indices.now) section.now.section sink.old.items sink.new.items) }
+    ensures err { OnErr result (sink.new.items ≡ sink.old.items) }
+{
+    let mut items = section.items()?;
+    remap_items(&mut items, alloc, indices)?;
+    encode_items_in::<Standard, _, _, _>(alloc, &items, sink)?;
+    Ok(())
+}

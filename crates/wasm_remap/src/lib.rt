@@ -1,0 +1,16 @@
+//! The indices of a WebAssembly module, mapped: every place that refers to a function, a type, a
+//! table, a memory, a global, a tag, an element segment or a data segment.
+#![tactic(auto)]
+
+mod customs;
+mod indexed;
+mod instructions;
+mod items;
+mod recursive;
+mod sections;
+mod spaces;
+mod types;
+
+pub use indexed::{Remap, RemapError};
+pub use items::{remap_items, remap_section};
+pub use spaces::{IndexSpace, spaces_of};
