@@ -84,6 +84,7 @@ written! {
     pub mod reader;
     #[cfg(feature = "recipe")]
     mod recipe;
+    mod remap;
     mod sections;
     mod types;
 }

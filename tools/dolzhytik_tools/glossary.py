@@ -25,6 +25,7 @@ TOPICS = {
     "wasm_types": "the type section",
     "wasm_custom": "custom sections",
     "wasm_reader": "the reader",
+    "wasm_remap": "maps of indices",
     "wasm_tool": "recipes",
     "wasm_c": "the C API",
     "wasm_bench": "workloads",

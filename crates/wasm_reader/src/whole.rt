@@ -37,7 +37,7 @@ ghost use Rattle.wasm_reader.specs.Shortening.{
 
 use crate::minimal::shorten_in;
 use crate::modules::HEADER;
-use crate::sections::Sections;
+use crate::sections::{Section, Sections};
 use crate::standing::Standing;
 use std::alloc::{AllocError, Allocator};
 use thiserror::Error;
@@ -179,6 +179,16 @@ impl Standing<'_> {
             | (Some(Target::Module), Target::Module) => true,
             _ => false,
         }
+    }
+}
+
+impl<A: Allocator + Copy> Section<'_, A> {
+    /// Returns `true` if the section holds offsets into other sections, by its name: those that
+    /// [`Offsets`] lists do.
+    pub fn has_offsets(&self) -> bool
+        ensures { result ≡ contains_offsets self.now.section.name }
+    {
+        self.standing().target().is_some()
     }
 }
 

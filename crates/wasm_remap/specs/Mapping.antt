@@ -2,7 +2,7 @@
 use Rattle.std.specs.Prelude.{◌≡◌, ℕ, Option, Some, None}
 use Rattle.wasm_base.specs.declared.refused.Refused.TheVariants as refusals
 use Rattle.wasm_remap.specs.declared.indexed.RemapError.{RemapError}
-use Rattle.wasm_remap.specs.declared.indexed.RemapError.TheVariants.{Read, Refused, Index}
+use Rattle.wasm_remap.specs.declared.indexed.RemapError.TheVariants.{Read, Refused, Index, Offsets}
 use Rattle.wasm_remap.specs.declared.spaces.IndexSpace.{IndexSpace}
 
 -- For each index space, the new index of each old one.
@@ -22,4 +22,5 @@ mapped_first m space p = (mapped_in m space p.0, p.1)
 abbrev pub ComesFrom : {E : Type 0} → (IndexSpace → ℕ → E → Type 0) → RemapError E → Type 0
 ComesFrom rejects (Read fault) = ⊥
 ComesFrom rejects (Refused refused) = refused ≡ refusals.Memory
+ComesFrom rejects (Offsets offset) = ⊥
 ComesFrom rejects (Index e) = (space : IndexSpace) × (n : ℕ) × rejects space n e

@@ -1,7 +1,12 @@
 -- This file defines what a map of indices makes of the content of a section, and the promises of the
 -- calls that map.
-use Rattle.std.specs.Prelude.{◌≡◌, ℕ, List, ◌++◌, map}
-use Rattle.wasm_base.specs.Words.{admitted, standard}
+use Rattle.std.specs.Prelude.{◌≡◌, ◌⊎◌, ℕ, List, [], ◌∷◌, true, false, map}
+use Rattle.std.specs.List.{AllByRecursion}
+use Rattle.wasm_base.specs.Words.{admitted, standard, wasm_module, DecodesWhole}
+use Rattle.wasm_reader.specs.Outlines.{HasSections}
+use Rattle.wasm_reader.specs.Shortening.{contains_offsets}
+use Rattle.wasm_reader.specs.declared.whole.Offsets.{Offsets}
+use Rattle.wasm_reader.specs.declared.whole.Offsets.TheVariants.{Refuse}
 use Rattle.wasm_reader.specs.Kinds.{Contents, content, Bodies, Segments, DataCount, Elements, Exports, Functions, Globals, Imports, Memories, Start, Tables, Tags, Names, Linking, Producers, Hints, Core, CoreModules, CoreInstances}
 use Rattle.wasm_reader.specs.Kinds.{CoreStack, Custom, Raw, Types, TargetFeatures, SourceMappingUrl, ExternalDebugInfo, BuildId, Dylink, Relocations}
 use Rattle.wasm_reader.specs.Sections.{AppendsContentIn}
@@ -52,3 +57,23 @@ pub record RemapsSection (m : Mapping) (s : Section) (old new : List ℕ) : Type
   pub items : Contents
   pub decoded : content (section_kind_of s) standard s.payload items
   pub appended : AppendsContentIn admitted (remapped m items) old new
+
+-- ---- modules
+
+-- The sections of the new module for those of the old one, each an id and a payload: the payload has
+-- the items with each index mapped. Sections that hold offsets are left out.
+abbrev pub AreRemapped : Mapping → List Section → List (ℕ × List ℕ) → Type 0
+AreRemapped m [] news = news ≡ []
+AreRemapped m (s ∷ olds) news =
+    ((contains_offsets s.name ≡ true) × AreRemapped m olds news)
+    ⊎ ((payload : List ℕ) (others : List (ℕ × List ℕ)) × (contains_offsets s.name ≡ false) × (news ≡ (s.id, payload) ∷ others) × RemapsSection m s [] payload × AreRemapped m olds others)
+
+-- The bytes are a module, and the new bytes are a module of its sections with each index mapped. With
+-- `Refuse`, no section holds offsets.
+pub record RemapsModule (m : Mapping) (offsets : Offsets) (bytes new : List ℕ) : Type 0 where
+  pub olds : List Section
+  pub has : HasSections bytes olds
+  pub news : List (ℕ × List ℕ)
+  pub are : AreRemapped m olds news
+  pub refused : offsets ≡ Refuse → AllByRecursion (λ s. contains_offsets s.name ≡ false) olds
+  pub decodes : DecodesWhole wasm_module new news

@@ -40,6 +40,8 @@ pub enum RemapError<E> {
     Refused(Refused),
     /// The map rejects an index.
     Index(E),
+    /// The section at this offset holds offsets, which would become wrong.
+    Offsets(usize),
 }
 
 impl<E> From<AllocError> for RemapError<E> {

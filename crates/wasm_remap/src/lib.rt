@@ -6,6 +6,7 @@ mod customs;
 mod indexed;
 mod instructions;
 mod items;
+mod modules;
 mod recursive;
 mod sections;
 mod spaces;
@@ -13,4 +14,5 @@ mod types;
 
 pub use indexed::{Remap, RemapError};
 pub use items::{remap_items, remap_section};
+pub use modules::remap_module;
 pub use spaces::{IndexSpace, spaces_of};

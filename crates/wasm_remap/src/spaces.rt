@@ -7,11 +7,17 @@ use wasm_insn::Op;
 /// An index space of a module.
 #[derive(Clone, Copy, PartialEq, Eq, Hash, Debug)]
 pub enum IndexSpace {
+    /// Functions, imported ones first.
     Functions,
+    /// Types: each type of a recursion group has an index.
     Types,
+    /// Tables, imported ones first.
     Tables,
+    /// Memories, imported ones first.
     Memories,
+    /// Globals, imported ones first.
     Globals,
+    /// Tags, imported ones first.
     Tags,
     /// Element segments.
     Elements,

@@ -24,5 +24,6 @@ pub mod immediates;
 pub mod insn;
 pub mod reader;
 pub mod recipe;
+pub mod remap;
 pub mod sections;
 pub mod types;

@@ -862,18 +862,28 @@ pub trait sections {
     ///
     /// Definitions: [`Grammar`](super::base::numbers::Grammar), [`admitted`](super::base::numbers::Grammar), [`builders`](super::base::numbers::Grammar).
     type Extends;
-    /// Some bytes decode to this content in a grammar that the grammar `w` extends. For the kinds of [`grammars_of`](kinds::grammars_of) that have the builders' alone, it is the builders' grammar.
+    /// A code section in the standard's grammar has fewer than 2^31 bytes. Builders may need twice as many for it, and they write no body of 2^32 bytes or more.
+    ///
+    /// ```text
+    /// abbrev pub HasShortBodies : Grammar → SectionKind → List ℕ → Type 0
+    /// HasShortBodies admitted kinds.Bodies bytes = length bytes < 2 ^ 31
+    /// HasShortBodies w kind bytes = Unit {0}
+    /// ```
+    ///
+    /// Definitions: [`Grammar`](super::base::numbers::Grammar), [`admitted`](super::base::numbers::Grammar).
+    type HasShortBodies;
+    /// Some bytes decode to this content in a grammar that the grammar `w` extends.
     ///
     /// ```text
     /// pub record HasContentIn (w : Grammar) (x : Contents) : Type 0 where
     ///   pub grammar : Grammar
-    ///   pub included : Includes (grammars_of (kind_in x)) grammar
     ///   pub extended : Extends w grammar
     ///   pub bytes : List ℕ
     ///   pub decoded : content (kind_in x) (padded_of grammar) bytes x
+    ///   pub short : HasShortBodies grammar (kind_in x) bytes
     /// ```
     ///
-    /// Definitions: [`Grammar`](super::base::numbers::Grammar), [`Contents`](kinds::Contents), [`Includes`](super::base::minimal::Includes), [`grammars_of`](kinds::grammars_of), [`kind_in`](kinds::kind_in), [`Extends`](sections::Extends), [`content`](kinds::content), [`padded_of`](super::base::numbers::padded_of).
+    /// Definitions: [`Grammar`](super::base::numbers::Grammar), [`Contents`](kinds::Contents), [`Extends`](sections::Extends), [`content`](kinds::content), [`kind_in`](kinds::kind_in), [`padded_of`](super::base::numbers::padded_of), [`HasShortBodies`](sections::HasShortBodies).
     type HasContentIn;
     /// The buffer gains the minimal encoding of this content in the grammar `w`, if some bytes decode to it.
     ///

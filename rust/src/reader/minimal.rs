@@ -102,8 +102,9 @@ pub(crate) fn shorten_in<A: Allocator + Copy, G: Grammar, B: Sink>(
 /// In the standard's grammar no encoding of the items is shorter. [`encode_items`] writes types,
 /// instructions and flags as builders do, and all else alike.
 ///
-/// The call promises this for items to which some bytes decode: in the builders' grammar for types,
-/// code, imports, tables, globals, elements and data, in that or `G` for all others.
+/// The call promises this for items to which some bytes decode in `G` or in the builders' grammar.
+/// Code that only the standard's grammar has is an exception at 2^31 bytes: builders may need twice
+/// as many, and encode no body of 2^32.
 ///
 /// # Errors
 ///

@@ -8,6 +8,10 @@ pub use crate::code::reading::*;
 pub use crate::sections::reading::*;
 pub use crate::custom::reading::*;
 
+pub mod remap {
+    pub use crate::remap::*;
+}
+
 mod by_opcode;
 mod code_bodies;
 mod convert;

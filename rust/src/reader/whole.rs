@@ -4,7 +4,7 @@
 use crate::vec::Sink;
 use crate::reader::minimal::shorten_in;
 use crate::reader::modules::HEADER;
-use crate::reader::sections::Sections;
+use crate::reader::sections::{Section, Sections};
 use crate::reader::standing::Standing;
 use crate::alloc::{AllocError, Allocator};
 use crate::base::{ReadFault, Standard};
@@ -167,6 +167,22 @@ impl Standing<'_> {
             | (Some(Target::Module), Target::Module) => true,
             _ => false,
         }
+    }
+}
+
+impl<A: Allocator + Copy> Section<'_, A> {
+    /// Returns `true` if the section holds offsets into other sections, by its name: those that
+    /// [`Offsets`] lists do.
+    ///
+    /// # Proved
+    ///
+    /// ```text
+    /// ensures { result ≡ contains_offsets self.now.section.name }
+    /// ```
+    ///
+    /// Definitions: [`contains_offsets`](crate::definitions::reader::shortening::contains_offsets). [How to read clauses](crate::definitions).
+    pub fn has_offsets(&self) -> bool {
+        self.standing().target().is_some()
     }
 }
 

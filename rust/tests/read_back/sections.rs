@@ -122,23 +122,26 @@ pub fn encode_again<A: Allocator + Copy>(
     }
 }
 
-/// Decodes the section at the front as builders encode it, and returns the shortest payload with
-/// its items that the standard admits.
+/// Decodes the items of a section, and returns the shortest payload with these items.
 ///
 /// # Proved
 ///
 /// ```text
-/// ensures { IfOk result (λ payload. IsShortestPayload kind bytes.now payload.items) }
+/// ensures { IfOk result (λ payload. IsShortestPayload section.now.section payload.items) }
 /// ```
 pub fn shortest_payload<A: Allocator + Copy>(
+    section: &Section<'_, A>,
     alloc: A,
-    kind: SectionKind,
-    bytes: &[u8],
-) -> Result<Vec<u8, A>, ReadFault> {
-    let (items, _taken) = read_section(alloc, kind, bytes)?;
+) -> Result<Vec<u8, A>, ReadError> {
+    let items = section.items()?;
     let mut payload = Vec::new(alloc);
-    encode_items_in::<Standard, _, _, _>(alloc, &items, &mut payload)?;
-    Ok(payload)
+    match encode_items_in::<Standard, _, _, _>(alloc, &items, &mut payload) {
+        Ok(()) => Ok(payload),
+        Err(_) => Err(ReadError {
+            cause: ReadFault::Memory,
+            offset: section.offset(),
+        }),
+    }
 }
 
 /// Decodes the section at the front, and returns the kind of its items.

@@ -9,11 +9,12 @@ use crate::examples::{encode_given_import, encode_memories, grow, grow_by_each};
 use crate::read_back::handed::{code_of, encode_listed_exports};
 use crate::read_back::sections::{kind_of_items, shortest_payload};
 use crate::read_back::{shortened_function, write_function, write_names, written_function, written_names};
+use dolzhytik::fallible::Global;
 use crate::test_support::{MOST, Refusing};
 use dolzhytik::fallible::Encode;
 use dolzhytik::fallible::Function;
 use dolzhytik::fallible::Instruction;
-use dolzhytik::reader::{Items, SectionKind};
+use dolzhytik::reader::{Items, SectionKind, Sections};
 use dolzhytik::fallible::{EntityType, Export, ExportKind, Import, MemoryType};
 
 /// The name section of a module `m`, whose first function is `f`, without its id.
@@ -57,14 +58,29 @@ fn functions() {
     check_bytes(&rt, &sink, &[2, 1, 7])
 }
 
-/// A table of `anyref`, which the standard encodes in one byte: 63 6E becomes 6E.
+/// Checks the shortest payload of the first section of a module.
+fn check_shortest(rt: &impl Abort, alloc: Global, module: &[u8], expected: &[u8]) {
+    let mut sections = Sections::new(alloc, module).expect("a module");
+    match sections.next() {
+        None => panic!(rt; "no section"),
+        Some(section) => {
+            let section = section.expect("a section");
+            let payload = shortest_payload(&section, alloc).expect("a table");
+            check_bytes(rt, &payload, expected)
+        }
+    }
+}
+
+/// A table of `anyref`, which the standard encodes in one byte: 63 6E becomes 6E, and 6E stays.
+/// Builders write 63 6E.
 #[test]
 fn shortest() {
     let rt = crate::host::HostRuntime;
-    let section = &[5, 1, 0x63, 0x6E, 0, 7];
-    let payload = shortest_payload(rt.alloc(), SectionKind::Tables, section).expect("a table");
-    check_bytes(&rt, &payload, &[1, 0x6E, 0, 7]);
-    let kind = kind_of_items(rt.alloc(), SectionKind::Tables, section).expect("a table");
+    let built = &[0, b'a', b's', b'm', 1, 0, 0, 0, 4, 5, 1, 0x63, 0x6E, 0, 7];
+    check_shortest(&rt, rt.alloc(), built, &[1, 0x6E, 0, 7]);
+    let short = &[0, b'a', b's', b'm', 1, 0, 0, 0, 4, 4, 1, 0x6E, 0, 7];
+    check_shortest(&rt, rt.alloc(), short, &[1, 0x6E, 0, 7]);
+    let kind = kind_of_items(rt.alloc(), SectionKind::Tables, &built[9..]).expect("a table");
     assert_eq!(rt; kind, SectionKind::Tables)
 }
 

@@ -27,6 +27,7 @@ TOPICS = {
     'wasm_sections': 'The core sections except types and code',
     'wasm_custom': 'Custom sections',
     'wasm_reader': 'Modules and their sections, decoded and minimized',
+    'wasm_remap': 'Maps of indices',
     'wasm_tool': 'Recipes of modules',
 }
 # Names that no item of Rust can have.

@@ -13,7 +13,7 @@ from .context import sources, uses
 from .crates import Crate, reading
 from .modules import SKIP
 from .source import Source
-from .tables import BESIDE_TESTS, BY_HAND, LIBRARIES, PUBLIC, READERS, TESTS
+from .tables import BESIDE_TESTS, BY_HAND, INNER, LIBRARIES, PUBLIC, READERS, TESTS
 from .uses import grouped
 
 # The hidden lines around the examples of documentation.
@@ -111,7 +111,8 @@ def exported_readers(crate: Crate, relative: str | pathlib.Path) -> str:
     """Returns what the root of `reader` exports of the libraries below it."""
     if crate.name != 'wasm_reader' or str(relative) != 'lib.rt':
         return ''
-    return ''.join(f'pub use {reading(name)}::*;\n' for name in READERS) + '\n'
+    inner = ''.join(f'pub mod {LIBRARIES[name]} {{\n    pub use crate::{LIBRARIES[name]}::*;\n}}\n' for name in INNER)
+    return ''.join(f'pub use {reading(name)}::*;\n' for name in READERS) + f'\n{inner}\n'
 
 
 def support(crate: Crate, is_root: bool) -> str:

@@ -35,14 +35,18 @@ LIBRARIES = {
     'wasm_sections': 'sections',
     'wasm_custom': 'custom',
     'wasm_reader': 'reader',
+    'wasm_remap': 'remap',
     'wasm_tool': 'recipe',
 }
 # The public modules of a library, where that is not `fallible`, and of its laws, where that is not
 # a module of `fallible::laws`.
 PUBLIC = {
     'wasm_reader': 'reader',
+    'wasm_remap': 'reader::remap',
     'wasm_tool': 'fallible::recipe',
 }
+# The libraries that are public as a module of `reader`.
+INNER = ('wasm_remap',)
 PUBLIC_LAWS = {'wasm_reader': 'reader::laws'}
 # The names of a library that decode: users find them in `reader`, and not in `fallible`. The
 # library's module has them in a module of its own, which `reader` exports.

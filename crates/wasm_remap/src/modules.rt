@@ -1,0 +1,66 @@
+// Modules whose indices are mapped.
+ghost use Rattle.std.specs.Prelude.{◌≡◌, ℕ, List, [], IfOk, OnOk};
+ghost use Rattle.wasm_base.specs.Calls.{DecodesOneMore};
+ghost use Rattle.wasm_remap.specs.Sections.{RemapsModule, RemapsSection};
+
+use crate::indexed::{Remap, RemapError};
+use crate::items::remap_section;
+use std::alloc::Allocator;
+use wasm_base::{Module, RawSection};
+use wasm_reader::{Offsets, Section, Sections};
+
+/// Appends a section with each index mapped to a module.
+fn append_remapped<A: Allocator + Copy, M: Remap>(
+    section: &Section<'_, A>,
+    alloc: A,
+    indices: &M,
+    module: &mut Module<A>,
+) -> Result<(), RemapError<M::Error>>
+    ensures ok { OnOk result ((payload : List ℕ) × RemapsSection (M.mapped indices.now) section.now.section [] payload × DecodesOneMore (λ p. p ≡ payload) section.now.section.id module.old module.new) }
+{
+    let mut payload = Vec::new(alloc);
+    remap_section(section, alloc, indices, &mut payload)?;
+    let remapped = RawSection {
+        id: section.id(),
+        bytes: &payload,
+    };
+    module.section(&remapped)?;
+    Ok(())
+}
+
+/// Returns a module with each index mapped.
+///
+/// Every section is decoded, and encoded again in its minimal form. Custom sections that hold
+/// offsets would become wrong ([`Offsets`] lists them): with [`Offsets::Refuse`] such a section is
+/// an error, and with [`Offsets::LeaveOut`] it is left out. Other custom sections stay.
+///
+/// # Errors
+///
+/// Returns `Read` if the bytes are no module or a section does not decode, `Index` with the error
+/// of the map if it rejects an index, `Offsets` for a section that holds offsets, and `Refused` if
+/// an encoding is too long or an allocation fails.
+pub fn remap_module<A: Allocator + Copy, M: Remap>(
+    bytes: &[u8],
+    alloc: A,
+    indices: &M,
+    offsets: Offsets,
+) -> Result<Vec<u8, A>, RemapError<M::Error>>
+    ensures { IfOk result (λ new. RemapsModule (M.mapped indices.now) offsets bytes.now new.items) }
+{
+    let mut sections = Sections::new(alloc, bytes)?;
+    let mut module = Module::new(alloc)?;
+    loop {
+        let section = match sections.next() {
+            None => return Ok(module.finish()),
+            Some(section) => section?,
+        };
+        if section.has_offsets() {
+            match offsets {
+                Offsets::Refuse => return Err(RemapError::Offsets(section.offset())),
+                Offsets::LeaveOut => {}
+            }
+        } else {
+            append_remapped(&section, alloc, indices, &mut module)?;
+        }
+    }
+}

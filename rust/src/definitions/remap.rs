@@ -1,0 +1,866 @@
+// Written by tools/to-rust from crates/wasm_remap/specs: change that.
+//! Maps of indices.
+//!
+//! The contracts of [`wasm_remap`](https://github.com/dolzhytik/dolzhytik/blob/main/crates/wasm_remap/README.md) name these definitions.
+
+/// What a map of indices makes of the items of custom sections.
+///
+/// - Names: [`name_spaces`](customs::name_spaces), [`remapped_name`](customs::remapped_name).
+/// - Hints: [`remapped_hints`](customs::remapped_hints).
+/// - Linking: [`space_of_symbol`](customs::space_of_symbol), [`remapped_definition`](customs::remapped_definition), [`remapped_symbol`](customs::remapped_symbol), [`comdat_spaces`](customs::comdat_spaces), [`remapped_member`](customs::remapped_member), [`remapped_comdat`](customs::remapped_comdat), [`remapped_link`](customs::remapped_link).
+/// - Relocations: [`space_of_relocation`](customs::space_of_relocation), [`remapped_relocation`](customs::remapped_relocation).
+///
+/// [How to read definitions](super). The file is [`Customs.antt`](https://github.com/dolzhytik/dolzhytik/blob/main/crates/wasm_remap/specs/Customs.antt).
+pub trait customs {
+    /// The index space that the list has for the number, if it has one.
+    ///
+    /// ```text
+    /// abbrev pub space_among : List (ℕ × IndexSpace) → ℕ → Option IndexSpace
+    /// space_among [] n = None
+    /// space_among (row ∷ rows) n = cond (n == row.0) (Some row.1) (space_among rows n)
+    /// ```
+    type space_among;
+    /// The index spaces of the subsections that have one, by their ids. Of an indirect name map it is that of the outer indices: the functions of locals (2) and of labels (3), the types of fields (10) and of parameters (12), and the tags of parameters (13).
+    ///
+    /// ```text
+    /// abbrev pub name_spaces : List (ℕ × IndexSpace)
+    /// name_spaces =
+    ///     (1, spaces.Functions) ∷ (2, spaces.Functions) ∷ (3, spaces.Functions)
+    ///         ∷ (4, spaces.Types) ∷ (5, spaces.Tables) ∷ (6, spaces.Memories)
+    ///         ∷ (7, spaces.Globals)
+    ///     ∷ (8, spaces.Elements)
+    ///     ∷ (9, spaces.Data)
+    ///     ∷ (10, spaces.Types)
+    ///     ∷ (11, spaces.Tags)
+    ///     ∷ (12, spaces.Types)
+    ///     ∷ (13, spaces.Tags)
+    ///     ∷ []
+    /// ```
+    type name_spaces;
+    /// A subsection of a name section.
+    ///
+    /// ```text
+    /// abbrev pub remapped_name : Mapping → NameItem → NameItem
+    /// remapped_name m (Module n) = Module n
+    /// remapped_name m (Map id ns) = Map id
+    ///     (map (mapped_first m (space_among name_spaces id)) ns)
+    /// remapped_name m (Indirect id ms) = Indirect id
+    ///     (map (mapped_first m (space_among name_spaces id)) ms)
+    /// remapped_name m (Other id bytes) = Other id bytes
+    /// ```
+    ///
+    /// Definitions: [`Mapping`](mapping::Mapping), [`NameItem`](super::custom::names::NameItem), [`Module`](super::custom::names::NameItem), [`Map`](super::custom::names::NameItem), [`mapped_first`](mapping::mapped_first), [`space_among`](customs::space_among), [`name_spaces`](customs::name_spaces), [`Indirect`](super::custom::names::NameItem), [`Other`](super::custom::names::NameItem).
+    type remapped_name;
+    /// The branch hints of a function.
+    ///
+    /// ```text
+    /// abbrev pub remapped_hints : Mapping → Hints → Hints
+    /// remapped_hints m h = mapped_first m (Some spaces.Functions) h
+    /// ```
+    ///
+    /// Definitions: [`Mapping`](mapping::Mapping), [`Hints`](super::custom::hints::Hints), [`mapped_first`](mapping::mapped_first).
+    type remapped_hints;
+    /// The index space of a symbol with an index.
+    ///
+    /// ```text
+    /// abbrev pub space_of_symbol : SymbolKind → IndexSpace
+    /// space_of_symbol symbols.Function = spaces.Functions
+    /// space_of_symbol symbols.Global = spaces.Globals
+    /// space_of_symbol symbols.Table = spaces.Tables
+    /// space_of_symbol symbols.Tag = spaces.Tags
+    /// ```
+    type space_of_symbol;
+    /// The definition of a data symbol: the index of its data segment is mapped.
+    ///
+    /// ```text
+    /// abbrev pub remapped_definition : Mapping → DataSymbolDefinition → DataSymbolDefinition
+    /// remapped_definition m d = record
+    ///     { index = m spaces.Data d.index; offset = d.offset; size = d.size }
+    /// ```
+    ///
+    /// Definitions: [`Mapping`](mapping::Mapping).
+    type remapped_definition;
+    /// A symbol. Indices of sections stay.
+    ///
+    /// ```text
+    /// abbrev pub remapped_symbol : Mapping → Symbol → Symbol
+    /// remapped_symbol m (indexed kind flags index name) = indexed kind flags
+    ///     (m (space_of_symbol kind) index) name
+    /// remapped_symbol m (of_data flags name definition) = of_data flags name
+    ///     (option_map (remapped_definition m) definition)
+    /// remapped_symbol m (of_section flags section) = of_section flags section
+    /// ```
+    ///
+    /// Definitions: [`Mapping`](mapping::Mapping), [`Symbol`](super::custom::symbols::Symbol), [`indexed`](super::custom::symbols::Symbol), [`space_of_symbol`](customs::space_of_symbol), [`of_data`](super::custom::symbols::Symbol), [`remapped_definition`](customs::remapped_definition), [`of_section`](super::custom::symbols::Symbol).
+    type remapped_symbol;
+    /// The index spaces of the members of a COMDAT group, by their kinds. A member of kind 5 is a section.
+    ///
+    /// ```text
+    /// abbrev pub comdat_spaces : List (ℕ × IndexSpace)
+    /// comdat_spaces = (0, spaces.Data) ∷ (1, spaces.Functions) ∷ (2, spaces.Globals)
+    ///     ∷ (3, spaces.Tags) ∷ (4, spaces.Tables) ∷ []
+    /// ```
+    type comdat_spaces;
+    /// A member of a COMDAT group.
+    ///
+    /// ```text
+    /// abbrev pub remapped_member : Mapping → ComdatSymbol → ComdatSymbol
+    /// remapped_member m s = record
+    ///     { kind = s.kind; index = mapped_in m (space_among comdat_spaces s.kind) s.index }
+    /// ```
+    ///
+    /// Definitions: [`Mapping`](mapping::Mapping), [`mapped_in`](mapping::mapped_in), [`space_among`](customs::space_among), [`comdat_spaces`](customs::comdat_spaces).
+    type remapped_member;
+    /// A COMDAT group.
+    ///
+    /// ```text
+    /// abbrev pub remapped_comdat : Mapping → Comdat → Comdat
+    /// remapped_comdat m c = record
+    ///     { name = c.name; flags = c.flags; symbols = map (remapped_member m) c.symbols }
+    /// ```
+    ///
+    /// Definitions: [`Mapping`](mapping::Mapping), [`Comdat`](super::custom::comdats::Comdat), [`remapped_member`](customs::remapped_member).
+    type remapped_comdat;
+    /// A subsection of a linking section. Init functions have indices of symbols, which stay.
+    ///
+    /// ```text
+    /// abbrev pub remapped_link : Mapping → LinkItem → LinkItem
+    /// remapped_link m (Segments xs) = Segments xs
+    /// remapped_link m (InitFunctions xs) = InitFunctions xs
+    /// remapped_link m (Comdats xs) = Comdats (map (remapped_comdat m) xs)
+    /// remapped_link m (Symbols xs) = Symbols (map (remapped_symbol m) xs)
+    /// remapped_link m (Target n) = Target n
+    /// remapped_link m (OtherLink id bytes) = OtherLink id bytes
+    /// ```
+    ///
+    /// Definitions: [`Mapping`](mapping::Mapping), [`LinkItem`](super::custom::linking::LinkItem), [`Segments`](super::custom::linking::LinkItem), [`InitFunctions`](super::custom::linking::LinkItem), [`Comdats`](super::custom::linking::LinkItem), [`remapped_comdat`](customs::remapped_comdat), [`Symbols`](super::custom::linking::LinkItem), [`remapped_symbol`](customs::remapped_symbol), [`Target`](super::custom::linking::LinkItem), [`OtherLink`](super::custom::linking::LinkItem).
+    type remapped_link;
+    /// The index space of the index of a relocation. All but one have the index of a symbol.
+    ///
+    /// ```text
+    /// abbrev pub space_of_relocation : PlainRelocation → Option IndexSpace
+    /// space_of_relocation relocations.TypeIndexLeb = Some spaces.Types
+    /// space_of_relocation kind = None
+    /// ```
+    type space_of_relocation;
+    /// A relocation.
+    ///
+    /// ```text
+    /// abbrev pub remapped_relocation : Mapping → Relocation → Relocation
+    /// remapped_relocation m (Plain kind offset index) = Plain kind offset
+    ///     (mapped_in m (space_of_relocation kind) index)
+    /// remapped_relocation m (Addend32 kind offset index addend) = Addend32 kind offset index
+    ///     addend
+    /// remapped_relocation m (Addend64 kind offset index addend) = Addend64 kind offset index
+    ///     addend
+    /// ```
+    ///
+    /// Definitions: [`Mapping`](mapping::Mapping), [`mapped_in`](mapping::mapped_in), [`space_of_relocation`](customs::space_of_relocation).
+    type remapped_relocation;
+}
+
+/// What a map of indices makes of types, instructions and bodies.
+///
+/// - Types: [`remapped_heap`](instructions::remapped_heap), [`remapped_ref`](instructions::remapped_ref), [`remapped_val`](instructions::remapped_val).
+/// - Immediates: [`remapped_block`](instructions::remapped_block), [`remapped_target`](instructions::remapped_target), [`remapped_memory`](instructions::remapped_memory), [`remapped_catch`](instructions::remapped_catch), [`remapped_handle`](instructions::remapped_handle), [`remapped_argument`](instructions::remapped_argument), [`spaces_after`](instructions::spaces_after), [`remapped_arguments`](instructions::remapped_arguments).
+/// - Instructions: [`remapped_instruction`](instructions::remapped_instruction), [`remapped_body`](instructions::remapped_body).
+///
+/// [How to read definitions](super). The file is [`Instructions.antt`](https://github.com/dolzhytik/dolzhytik/blob/main/crates/wasm_remap/specs/Instructions.antt).
+pub trait instructions {
+    /// A heap type: the index of a type is mapped.
+    ///
+    /// ```text
+    /// abbrev pub remapped_heap : Mapping → HeapType → HeapType
+    /// remapped_heap m (Abstract shared ty) = Abstract shared ty
+    /// remapped_heap m (Concrete n) = Concrete (m spaces.Types n)
+    /// remapped_heap m (Exact n) = Exact (m spaces.Types n)
+    /// ```
+    ///
+    /// Definitions: [`Mapping`](mapping::Mapping).
+    type remapped_heap;
+    /// A reference type.
+    ///
+    /// ```text
+    /// abbrev pub remapped_ref : Mapping → RefType → RefType
+    /// remapped_ref m r = record
+    ///     { nullable = r.nullable; heap_type = remapped_heap m r.heap_type }
+    /// ```
+    ///
+    /// Definitions: [`Mapping`](mapping::Mapping), [`remapped_heap`](instructions::remapped_heap).
+    type remapped_ref;
+    /// A value type.
+    ///
+    /// ```text
+    /// abbrev pub remapped_val : Mapping → ValType → ValType
+    /// remapped_val m I32 = I32
+    /// remapped_val m I64 = I64
+    /// remapped_val m F32 = F32
+    /// remapped_val m F64 = F64
+    /// remapped_val m V128 = V128
+    /// remapped_val m (Ref r) = Ref (remapped_ref m r)
+    /// ```
+    ///
+    /// Definitions: [`Mapping`](mapping::Mapping), [`remapped_ref`](instructions::remapped_ref).
+    type remapped_val;
+    /// A block type.
+    ///
+    /// ```text
+    /// abbrev pub remapped_block : Mapping → BlockType → BlockType
+    /// remapped_block m blocks.Empty = blocks.Empty
+    /// remapped_block m (blocks.Result ty) = blocks.Result (remapped_val m ty)
+    /// remapped_block m (blocks.FunctionType n) = blocks.FunctionType (m spaces.Types n)
+    /// ```
+    ///
+    /// Definitions: [`Mapping`](mapping::Mapping), [`remapped_val`](instructions::remapped_val).
+    type remapped_block;
+    /// The memory or the array type that is accessed.
+    ///
+    /// ```text
+    /// abbrev pub remapped_target : Mapping → MemArgTarget → MemArgTarget
+    /// remapped_target m (targets.Memory n) = targets.Memory (m spaces.Memories n)
+    /// remapped_target m (targets.Array n) = targets.Array (m spaces.Types n)
+    /// ```
+    ///
+    /// Definitions: [`Mapping`](mapping::Mapping).
+    type remapped_target;
+    /// A memory argument.
+    ///
+    /// ```text
+    /// abbrev pub remapped_memory : Mapping → MemArg → MemArg
+    /// remapped_memory m a = record
+    ///     { offset = a.offset; align = a.align; target = remapped_target m a.target;
+    ///     ordering = a.ordering }
+    /// ```
+    ///
+    /// Definitions: [`Mapping`](mapping::Mapping), [`remapped_target`](instructions::remapped_target).
+    type remapped_memory;
+    /// A catch clause: its tag is mapped, and its label stays.
+    ///
+    /// ```text
+    /// abbrev pub remapped_catch : Mapping → Catch → Catch
+    /// remapped_catch m (One tag label) = One (m spaces.Tags tag) label
+    /// remapped_catch m (OneRef tag label) = OneRef (m spaces.Tags tag) label
+    /// remapped_catch m (All label) = All label
+    /// remapped_catch m (AllRef label) = AllRef label
+    /// ```
+    ///
+    /// Definitions: [`Mapping`](mapping::Mapping).
+    type remapped_catch;
+    /// A handle clause: its tag is mapped, and its label stays.
+    ///
+    /// ```text
+    /// abbrev pub remapped_handle : Mapping → Handle → Handle
+    /// remapped_handle m (OnLabel tag label) = OnLabel (m spaces.Tags tag) label
+    /// remapped_handle m (OnSwitch tag) = OnSwitch (m spaces.Tags tag)
+    /// ```
+    ///
+    /// Definitions: [`Mapping`](mapping::Mapping).
+    type remapped_handle;
+    /// An immediate, and the index space of the next number.
+    ///
+    /// ```text
+    /// abbrev pub remapped_argument : Mapping → Spaces → Argument → Argument
+    /// remapped_argument m s (unsigned n) = unsigned (mapped_in m s.0 n)
+    /// remapped_argument m s (signed32 v) = signed32 v
+    /// remapped_argument m s (signed64 v) = signed64 v
+    /// remapped_argument m s (float32 v) = float32 v
+    /// remapped_argument m s (float64 v) = float64 v
+    /// remapped_argument m s (vector v) = vector v
+    /// remapped_argument m s (memory a) = memory (remapped_memory m a)
+    /// remapped_argument m s (lane n) = lane n
+    /// remapped_argument m s (lanes ns) = lanes ns
+    /// remapped_argument m s (block ty) = block (remapped_block m ty)
+    /// remapped_argument m s (heap ty) = heap (remapped_heap m ty)
+    /// remapped_argument m s (ordering o) = ordering o
+    /// remapped_argument m s (labels ns) = labels ns
+    /// remapped_argument m s (catches cs) = catches (map (remapped_catch m) cs)
+    /// remapped_argument m s (types ts) = types (map (remapped_val m) ts)
+    /// remapped_argument m s (handles hs) = handles (map (remapped_handle m) hs)
+    /// remapped_argument m s (flag n) = flag n
+    /// ```
+    ///
+    /// Definitions: [`Mapping`](mapping::Mapping), [`Spaces`](spaces::Spaces), [`Argument`](super::insn::arguments::Argument), [`unsigned`](super::insn::arguments::Argument), [`mapped_in`](mapping::mapped_in), [`signed32`](super::insn::arguments::Argument), [`signed64`](super::insn::arguments::Argument), [`float32`](super::insn::arguments::Argument), [`float64`](super::insn::arguments::Argument), [`vector`](super::insn::arguments::Argument), [`memory`](super::insn::arguments::Argument), [`remapped_memory`](instructions::remapped_memory), [`lane`](super::insn::arguments::Argument), [`lanes`](super::insn::arguments::Argument), [`block`](super::insn::arguments::Argument), [`remapped_block`](instructions::remapped_block), [`heap`](super::insn::arguments::Argument), [`remapped_heap`](instructions::remapped_heap), [`ordering`](super::insn::arguments::Argument), [`labels`](super::insn::arguments::Argument), [`catches`](super::insn::arguments::Argument), [`remapped_catch`](instructions::remapped_catch), [`types`](super::insn::arguments::Argument), [`remapped_val`](instructions::remapped_val), [`handles`](super::insn::arguments::Argument), [`remapped_handle`](instructions::remapped_handle), [`flag`](super::insn::arguments::Argument).
+    type remapped_argument;
+    /// The index spaces of the numbers after an immediate.
+    ///
+    /// ```text
+    /// abbrev pub spaces_after : Argument → Spaces → Spaces
+    /// spaces_after (unsigned n) s = (s.1, None)
+    /// spaces_after (signed32 v) s = s
+    /// spaces_after (signed64 v) s = s
+    /// spaces_after (float32 v) s = s
+    /// spaces_after (float64 v) s = s
+    /// spaces_after (vector v) s = s
+    /// spaces_after (memory a) s = s
+    /// spaces_after (lane n) s = s
+    /// spaces_after (lanes ns) s = s
+    /// spaces_after (block ty) s = s
+    /// spaces_after (heap ty) s = s
+    /// spaces_after (ordering o) s = s
+    /// spaces_after (labels ns) s = s
+    /// spaces_after (catches cs) s = s
+    /// spaces_after (types ts) s = s
+    /// spaces_after (handles hs) s = s
+    /// spaces_after (flag n) s = s
+    /// ```
+    ///
+    /// Definitions: [`Argument`](super::insn::arguments::Argument), [`Spaces`](spaces::Spaces), [`unsigned`](super::insn::arguments::Argument), [`signed32`](super::insn::arguments::Argument), [`signed64`](super::insn::arguments::Argument), [`float32`](super::insn::arguments::Argument), [`float64`](super::insn::arguments::Argument), [`vector`](super::insn::arguments::Argument), [`memory`](super::insn::arguments::Argument), [`lane`](super::insn::arguments::Argument), [`lanes`](super::insn::arguments::Argument), [`block`](super::insn::arguments::Argument), [`heap`](super::insn::arguments::Argument), [`ordering`](super::insn::arguments::Argument), [`labels`](super::insn::arguments::Argument), [`catches`](super::insn::arguments::Argument), [`types`](super::insn::arguments::Argument), [`handles`](super::insn::arguments::Argument), [`flag`](super::insn::arguments::Argument).
+    type spaces_after;
+    /// The immediates of an opcode whose numbers are in these index spaces.
+    ///
+    /// ```text
+    /// abbrev pub remapped_arguments : Mapping → Spaces → List Argument → List Argument
+    /// remapped_arguments m s [] = []
+    /// remapped_arguments m s (x ∷ xs) = remapped_argument m s x
+    ///     ∷ remapped_arguments m (spaces_after x s) xs
+    /// ```
+    ///
+    /// Definitions: [`Mapping`](mapping::Mapping), [`Spaces`](spaces::Spaces), [`Argument`](super::insn::arguments::Argument), [`remapped_argument`](instructions::remapped_argument), [`spaces_after`](instructions::spaces_after).
+    type remapped_arguments;
+    /// An instruction.
+    ///
+    /// ```text
+    /// abbrev pub remapped_instruction : Mapping → Plain → Plain
+    /// remapped_instruction m i = record
+    ///     { op = i.op; arguments = remapped_arguments m (spaces_of i.op) i.arguments }
+    /// ```
+    ///
+    /// Definitions: [`Mapping`](mapping::Mapping), [`Plain`](super::insn::plain::Plain), [`remapped_arguments`](instructions::remapped_arguments), [`spaces_of`](spaces::spaces_of).
+    type remapped_instruction;
+    /// A body: the types of its locals, and its instructions.
+    ///
+    /// ```text
+    /// abbrev pub remapped_body : Mapping → Body → Body
+    /// remapped_body m b = record
+    ///     { runs = map (λ run. (run.0, remapped_val m run.1)) b.runs;
+    ///     code = map (remapped_instruction m) b.code }
+    /// ```
+    ///
+    /// Definitions: [`Mapping`](mapping::Mapping), [`Body`](super::code::bodies::Body), [`remapped_val`](instructions::remapped_val), [`remapped_instruction`](instructions::remapped_instruction).
+    type remapped_body;
+}
+
+/// What a map of indices makes of the items of the standard's sections.
+///
+/// - Types of entities: [`remapped_table_type`](items::remapped_table_type), [`remapped_global_type`](items::remapped_global_type), [`remapped_tag`](items::remapped_tag), [`remapped_entity`](items::remapped_entity).
+/// - Items: [`remapped_imported`](items::remapped_imported), [`remapped_import`](items::remapped_import), [`space_of_export`](items::space_of_export), [`remapped_export`](items::remapped_export), [`remapped_table`](items::remapped_table), [`remapped_global`](items::remapped_global), [`remapped_table_index`](items::remapped_table_index), [`remapped_mode`](items::remapped_mode), [`remapped_elements`](items::remapped_elements), [`remapped_element`](items::remapped_element), [`remapped_data`](items::remapped_data).
+///
+/// [How to read definitions](super). The file is [`Items.antt`](https://github.com/dolzhytik/dolzhytik/blob/main/crates/wasm_remap/specs/Items.antt).
+pub trait items {
+    /// A constant expression.
+    ///
+    /// ```text
+    /// abbrev pub remapped_expression : Mapping → List Plain → List Plain
+    /// remapped_expression m = map (remapped_instruction m)
+    /// ```
+    ///
+    /// Definitions: [`Mapping`](mapping::Mapping), [`Plain`](super::insn::plain::Plain), [`remapped_instruction`](instructions::remapped_instruction).
+    type remapped_expression;
+    /// A table type.
+    ///
+    /// ```text
+    /// abbrev pub remapped_table_type : Mapping → TableType → TableType
+    /// remapped_table_type m t = record
+    ///     { element_type = remapped_ref m t.element_type; table64 = t.table64;
+    ///     minimum = t.minimum; maximum = t.maximum; shared = t.shared }
+    /// ```
+    ///
+    /// Definitions: [`Mapping`](mapping::Mapping), [`remapped_ref`](instructions::remapped_ref).
+    type remapped_table_type;
+    /// A global type.
+    ///
+    /// ```text
+    /// abbrev pub remapped_global_type : Mapping → GlobalType → GlobalType
+    /// remapped_global_type m g = record
+    ///     { val_type = remapped_val m g.val_type; mutable = g.mutable; shared = g.shared }
+    /// ```
+    ///
+    /// Definitions: [`Mapping`](mapping::Mapping), [`remapped_val`](instructions::remapped_val).
+    type remapped_global_type;
+    /// A tag type.
+    ///
+    /// ```text
+    /// abbrev pub remapped_tag : Mapping → TagType → TagType
+    /// remapped_tag m t = record
+    ///     { kind = t.kind; func_type_idx = m spaces.Types t.func_type_idx }
+    /// ```
+    ///
+    /// Definitions: [`Mapping`](mapping::Mapping).
+    type remapped_tag;
+    /// The type of an imported entity.
+    ///
+    /// ```text
+    /// abbrev pub remapped_entity : Mapping → EntityType → EntityType
+    /// remapped_entity m (Function n) = Function (m spaces.Types n)
+    /// remapped_entity m (Table t) = Table (remapped_table_type m t)
+    /// remapped_entity m (Memory t) = Memory t
+    /// remapped_entity m (Global g) = Global (remapped_global_type m g)
+    /// remapped_entity m (Tag t) = Tag (remapped_tag m t)
+    /// remapped_entity m (FunctionExact n) = FunctionExact (m spaces.Types n)
+    /// ```
+    ///
+    /// Definitions: [`Mapping`](mapping::Mapping), [`remapped_table_type`](items::remapped_table_type), [`remapped_global_type`](items::remapped_global_type), [`remapped_tag`](items::remapped_tag).
+    type remapped_entity;
+    /// What a module imports from another.
+    ///
+    /// ```text
+    /// abbrev pub remapped_imported : Mapping → Imported → Imported
+    /// remapped_imported m (single name entity) = single name (remapped_entity m entity)
+    /// remapped_imported m (named items) = named
+    ///     (map (λ item. (item.0, remapped_entity m item.1)) items)
+    /// remapped_imported m (alike entity names) = alike (remapped_entity m entity) names
+    /// ```
+    ///
+    /// Definitions: [`Mapping`](mapping::Mapping), [`Imported`](super::sections::imports::Imported), [`single`](super::sections::imports::Imported), [`remapped_entity`](items::remapped_entity), [`named`](super::sections::imports::Imported), [`alike`](super::sections::imports::Imported).
+    type remapped_imported;
+    /// An entry of an import section.
+    ///
+    /// ```text
+    /// abbrev pub remapped_import : Mapping → ImportItem → ImportItem
+    /// remapped_import m i = record
+    ///     { module_name = i.module_name; imported = remapped_imported m i.imported }
+    /// ```
+    ///
+    /// Definitions: [`Mapping`](mapping::Mapping), [`ImportItem`](super::sections::imports::ImportItem), [`remapped_imported`](items::remapped_imported).
+    type remapped_import;
+    /// The index space of an export.
+    ///
+    /// ```text
+    /// abbrev pub space_of_export : ExportKind → IndexSpace
+    /// space_of_export exports.Func = spaces.Functions
+    /// space_of_export exports.Table = spaces.Tables
+    /// space_of_export exports.Memory = spaces.Memories
+    /// space_of_export exports.Global = spaces.Globals
+    /// space_of_export exports.Tag = spaces.Tags
+    /// ```
+    type space_of_export;
+    /// An export.
+    ///
+    /// ```text
+    /// abbrev pub remapped_export : Mapping → ExportItem → ExportItem
+    /// remapped_export m e = record
+    ///     { name = e.name; kind = e.kind; index = m (space_of_export e.kind) e.index }
+    /// ```
+    ///
+    /// Definitions: [`Mapping`](mapping::Mapping), [`ExportItem`](super::sections::exports::ExportItem), [`space_of_export`](items::space_of_export).
+    type remapped_export;
+    /// A table, with the expression of its initial value.
+    ///
+    /// ```text
+    /// abbrev pub remapped_table : Mapping → TableItem → TableItem
+    /// remapped_table m t = record
+    ///     { table_type = remapped_table_type m t.table_type;
+    ///     init = option_map (remapped_expression m) t.init }
+    /// ```
+    ///
+    /// Definitions: [`Mapping`](mapping::Mapping), [`TableItem`](super::sections::tables::TableItem), [`remapped_table_type`](items::remapped_table_type), [`remapped_expression`](items::remapped_expression).
+    type remapped_table;
+    /// A global.
+    ///
+    /// ```text
+    /// abbrev pub remapped_global : Mapping → GlobalItem → GlobalItem
+    /// remapped_global m g = record
+    ///     { global_type = remapped_global_type m g.global_type;
+    ///     init = remapped_expression m g.init }
+    /// ```
+    ///
+    /// Definitions: [`Mapping`](mapping::Mapping), [`GlobalItem`](super::sections::globals::GlobalItem), [`remapped_global_type`](items::remapped_global_type), [`remapped_expression`](items::remapped_expression).
+    type remapped_global;
+    /// The table of an active element segment. If none is given, it is table 0.
+    ///
+    /// ```text
+    /// abbrev pub remapped_table_index : Mapping → Option ℕ → Option ℕ
+    /// remapped_table_index m (Some n) = Some (m spaces.Tables n)
+    /// remapped_table_index m None = cond (m spaces.Tables 0 == 0) None
+    ///     (Some (m spaces.Tables 0))
+    /// ```
+    ///
+    /// Definitions: [`Mapping`](mapping::Mapping).
+    type remapped_table_index;
+    /// The mode of an element segment.
+    ///
+    /// ```text
+    /// abbrev pub remapped_mode : Mapping → SegmentMode (List Plain) → SegmentMode (List Plain)
+    /// remapped_mode m passive = passive
+    /// remapped_mode m declared = declared
+    /// remapped_mode m (active table offset) = active (remapped_table_index m table)
+    ///     (remapped_expression m offset)
+    /// ```
+    ///
+    /// Definitions: [`Mapping`](mapping::Mapping), [`SegmentMode`](super::sections::elements::SegmentMode), [`Plain`](super::insn::plain::Plain), [`passive`](super::sections::elements::SegmentMode), [`declared`](super::sections::elements::SegmentMode), [`active`](super::sections::elements::SegmentMode), [`remapped_table_index`](items::remapped_table_index), [`remapped_expression`](items::remapped_expression).
+    type remapped_mode;
+    /// The elements of a segment.
+    ///
+    /// ```text
+    /// abbrev pub remapped_elements
+    ///     : Mapping → ElementList (List Plain) → ElementList (List Plain)
+    /// remapped_elements m (functions fs) = functions (map (m spaces.Functions) fs)
+    /// remapped_elements m (expressions ty es) = expressions (remapped_ref m ty)
+    ///     (map (remapped_expression m) es)
+    /// ```
+    ///
+    /// Definitions: [`Mapping`](mapping::Mapping), [`ElementList`](super::sections::elements::ElementList), [`Plain`](super::insn::plain::Plain), [`functions`](super::sections::elements::ElementList), [`expressions`](super::sections::elements::ElementList), [`remapped_ref`](instructions::remapped_ref), [`remapped_expression`](items::remapped_expression).
+    type remapped_elements;
+    /// An element segment.
+    ///
+    /// ```text
+    /// abbrev pub remapped_element
+    ///     : Mapping → ElementItem (List Plain) → ElementItem (List Plain)
+    /// remapped_element m e = record
+    ///     { segment_mode = remapped_mode m e.segment_mode;
+    ///     elements = remapped_elements m e.elements }
+    /// ```
+    ///
+    /// Definitions: [`Mapping`](mapping::Mapping), [`ElementItem`](super::sections::elements::ElementItem), [`Plain`](super::insn::plain::Plain), [`remapped_mode`](items::remapped_mode), [`remapped_elements`](items::remapped_elements).
+    type remapped_element;
+    /// A data segment.
+    ///
+    /// ```text
+    /// abbrev pub remapped_data : Mapping → DataItem → DataItem
+    /// remapped_data m (active_data memory offset bytes) = active_data
+    ///     (m spaces.Memories memory) (remapped_expression m offset) bytes
+    /// remapped_data m (passive_data bytes) = passive_data bytes
+    /// ```
+    ///
+    /// Definitions: [`Mapping`](mapping::Mapping), [`DataItem`](super::sections::data_segments::DataItem), [`active_data`](super::sections::data_segments::DataItem), [`remapped_expression`](items::remapped_expression), [`passive_data`](super::sections::data_segments::DataItem).
+    type remapped_data;
+}
+
+/// Maps of indices, and where the errors of a map come from.
+///
+/// [How to read definitions](super). The file is [`Mapping.antt`](https://github.com/dolzhytik/dolzhytik/blob/main/crates/wasm_remap/specs/Mapping.antt).
+pub trait mapping {
+    /// For each index space, the new index of each old one.
+    ///
+    /// ```text
+    /// abbrev pub Mapping : Type 0
+    /// Mapping = IndexSpace → ℕ → ℕ
+    /// ```
+    type Mapping;
+    /// A number, which is an index if it has an index space.
+    ///
+    /// ```text
+    /// abbrev pub mapped_in : Mapping → Option IndexSpace → ℕ → ℕ
+    /// mapped_in m None n = n
+    /// mapped_in m (Some space) n = m space n
+    /// ```
+    ///
+    /// Definitions: [`Mapping`](mapping::Mapping).
+    type mapped_in;
+    /// A pair whose first number is mapped.
+    ///
+    /// ```text
+    /// abbrev pub mapped_first : {X : Type 0} → Mapping → Option IndexSpace → ℕ × X → ℕ × X
+    /// mapped_first m space p = (mapped_in m space p.0, p.1)
+    /// ```
+    ///
+    /// Definitions: [`Mapping`](mapping::Mapping), [`mapped_in`](mapping::mapped_in).
+    type mapped_first;
+    /// The map rejected an index with this error, or there was no memory.
+    ///
+    /// ```text
+    /// abbrev pub ComesFrom : {E : Type 0} → (IndexSpace → ℕ → E → Type 0) → RemapError E
+    ///     → Type 0
+    /// ComesFrom rejects (Read fault) = ⊥
+    /// ComesFrom rejects (Refused refused) = refused ≡ refusals.Memory
+    /// ComesFrom rejects (Offsets offset) = ⊥
+    /// ComesFrom rejects (Index e) = (space : IndexSpace) × (n : ℕ) × rejects space n e
+    /// ```
+    type ComesFrom;
+}
+
+/// What a map of indices makes of the content of a section, and the promises of the calls that map.
+///
+/// - Modules: [`AreRemapped`](sections::AreRemapped), [`RemapsModule`](sections::RemapsModule).
+///
+/// [How to read definitions](super). The file is [`Sections.antt`](https://github.com/dolzhytik/dolzhytik/blob/main/crates/wasm_remap/specs/Sections.antt).
+pub trait sections {
+    /// The content with each index mapped. A core dump has indices of the module that it is a dump of, which stay.
+    ///
+    /// ```text
+    /// abbrev pub remapped : Mapping → Contents → Contents
+    /// remapped m (Bodies xs) = Bodies (map (remapped_body m) xs)
+    /// remapped m (Segments xs) = Segments (map (remapped_data m) xs)
+    /// remapped m (DataCount n) = DataCount n
+    /// remapped m (Elements xs) = Elements (map (remapped_element m) xs)
+    /// remapped m (Exports xs) = Exports (map (remapped_export m) xs)
+    /// remapped m (Functions xs) = Functions (map (m spaces.Types) xs)
+    /// remapped m (Globals xs) = Globals (map (remapped_global m) xs)
+    /// remapped m (Imports xs) = Imports (map (remapped_import m) xs)
+    /// remapped m (Memories xs) = Memories xs
+    /// remapped m (Start n) = Start (m spaces.Functions n)
+    /// remapped m (Tables xs) = Tables (map (remapped_table m) xs)
+    /// remapped m (Tags xs) = Tags (map (remapped_tag m) xs)
+    /// remapped m (Names xs) = Names (map (remapped_name m) xs)
+    /// remapped m (Linking xs) = Linking (map (remapped_link m) xs)
+    /// remapped m (Producers xs) = Producers xs
+    /// remapped m (Hints xs) = Hints (map (remapped_hints m) xs)
+    /// remapped m (Core n) = Core n
+    /// remapped m (CoreModules xs) = CoreModules xs
+    /// remapped m (CoreInstances xs) = CoreInstances xs
+    /// remapped m (CoreStack x) = CoreStack x
+    /// remapped m (Custom x) = Custom x
+    /// remapped m (Raw x) = Raw x
+    /// remapped m (Types xs) = Types (map (remapped_type m) xs)
+    /// remapped m (TargetFeatures xs) = TargetFeatures xs
+    /// remapped m (SourceMappingUrl x) = SourceMappingUrl x
+    /// remapped m (ExternalDebugInfo x) = ExternalDebugInfo x
+    /// remapped m (BuildId x) = BuildId x
+    /// remapped m (Dylink xs) = Dylink xs
+    /// remapped m (Relocations x) = Relocations
+    ///     (x.0, (x.1.0, map (remapped_relocation m) x.1.1))
+    /// ```
+    ///
+    /// Definitions: [`Mapping`](mapping::Mapping), [`Contents`](super::reader::kinds::Contents), [`Bodies`](super::reader::kinds::Contents), [`remapped_body`](instructions::remapped_body), [`Segments`](super::reader::kinds::Contents), [`remapped_data`](items::remapped_data), [`DataCount`](super::reader::kinds::Contents), [`Elements`](super::reader::kinds::Contents), [`remapped_element`](items::remapped_element), [`Exports`](super::reader::kinds::Contents), [`remapped_export`](items::remapped_export), [`Functions`](super::reader::kinds::Contents), [`Globals`](super::reader::kinds::Contents), [`remapped_global`](items::remapped_global), [`Imports`](super::reader::kinds::Contents), [`remapped_import`](items::remapped_import), [`Memories`](super::reader::kinds::Contents), [`Start`](super::reader::kinds::Contents), [`Tables`](super::reader::kinds::Contents), [`remapped_table`](items::remapped_table), [`Tags`](super::reader::kinds::Contents), [`remapped_tag`](items::remapped_tag), [`Names`](super::reader::kinds::Contents), [`remapped_name`](customs::remapped_name), [`Linking`](super::reader::kinds::Contents), [`remapped_link`](customs::remapped_link), [`Producers`](super::reader::kinds::Contents), [`Hints`](super::reader::kinds::Contents), [`remapped_hints`](customs::remapped_hints), [`Core`](super::reader::kinds::Contents), [`CoreModules`](super::reader::kinds::Contents), [`CoreInstances`](super::reader::kinds::Contents), [`CoreStack`](super::reader::kinds::Contents), [`Custom`](super::reader::kinds::Contents), [`Raw`](super::reader::kinds::Contents), [`Types`](super::reader::kinds::Contents), [`remapped_type`](types::remapped_type), [`TargetFeatures`](super::reader::kinds::Contents), [`SourceMappingUrl`](super::reader::kinds::Contents), [`ExternalDebugInfo`](super::reader::kinds::Contents), [`BuildId`](super::reader::kinds::Contents), [`Dylink`](super::reader::kinds::Contents), [`Relocations`](super::reader::kinds::Contents), [`remapped_relocation`](customs::remapped_relocation).
+    type remapped;
+    /// The section decodes to items, and the buffer gains the minimal encoding of these items with each index mapped.
+    ///
+    /// ```text
+    /// pub record RemapsSection (m : Mapping) (s : Section) (old new : List ℕ) : Type 0 where
+    ///   pub items : Contents
+    ///   pub decoded : content (section_kind_of s) standard s.payload items
+    ///   pub appended : AppendsContentIn admitted (remapped m items) old new
+    /// ```
+    ///
+    /// Definitions: [`Mapping`](mapping::Mapping), [`Section`](super::reader::outlines::Section), [`Contents`](super::reader::kinds::Contents), [`content`](super::reader::kinds::content), [`section_kind_of`](super::reader::outlines::section_kind_of), [`standard`](super::base::numbers::Mode), [`AppendsContentIn`](super::reader::sections::AppendsContentIn), [`admitted`](super::base::numbers::Grammar), [`remapped`](sections::remapped).
+    type RemapsSection;
+    /// The sections of the new module for those of the old one, each an id and a payload: the payload has the items with each index mapped. Sections that hold offsets are left out.
+    ///
+    /// ```text
+    /// abbrev pub AreRemapped : Mapping → List Section → List (ℕ × List ℕ) → Type 0
+    /// AreRemapped m [] news = news ≡ []
+    /// AreRemapped m (s ∷ olds) news =
+    ///     ((contains_offsets s.name ≡ true) × AreRemapped m olds news)
+    ///     ⊎ ((payload : List ℕ) (others : List (ℕ × List ℕ))
+    ///         × (contains_offsets s.name ≡ false) × (news ≡ (s.id, payload) ∷ others)
+    ///         × RemapsSection m s [] payload × AreRemapped m olds others)
+    /// ```
+    ///
+    /// Definitions: [`Mapping`](mapping::Mapping), [`Section`](super::reader::outlines::Section), [`contains_offsets`](super::reader::shortening::contains_offsets), [`RemapsSection`](sections::RemapsSection).
+    type AreRemapped;
+    /// The bytes are a module, and the new bytes are a module of its sections with each index mapped. With `Refuse`, no section holds offsets.
+    ///
+    /// ```text
+    /// pub record RemapsModule (m : Mapping) (offsets : Offsets) (bytes new : List ℕ)
+    ///     : Type 0 where
+    ///   pub olds : List Section
+    ///   pub has : HasSections bytes olds
+    ///   pub news : List (ℕ × List ℕ)
+    ///   pub are : AreRemapped m olds news
+    ///   pub refused : offsets ≡ Refuse
+    ///       → AllByRecursion (λ s. contains_offsets s.name ≡ false) olds
+    ///   pub decodes : DecodesWhole wasm_module new news
+    /// ```
+    ///
+    /// Definitions: [`Mapping`](mapping::Mapping), [`Section`](super::reader::outlines::Section), [`HasSections`](super::reader::outlines::HasSections), [`AreRemapped`](sections::AreRemapped), [`contains_offsets`](super::reader::shortening::contains_offsets), [`DecodesWhole`](super::base::decoding::DecodesWhole), [`wasm_module`](super::base::formats::wasm_module).
+    type RemapsModule;
+}
+
+/// The index spaces of the numbers among the immediates of each opcode.
+///
+/// [How to read definitions](super). The file is [`Spaces.antt`](https://github.com/dolzhytik/dolzhytik/blob/main/crates/wasm_remap/specs/Spaces.antt).
+pub trait spaces {
+    /// The index spaces of the first and the second number of an opcode. A number that is a label, a local, a field or a length has none.
+    ///
+    /// ```text
+    /// abbrev pub Spaces : Type 0
+    /// Spaces = Option IndexSpace × Option IndexSpace
+    /// ```
+    type Spaces;
+    /// The opcodes with the numbers `from` to `to`, whose numbers are in the same index spaces.
+    ///
+    /// ```text
+    /// abbrev pub run : ℕ → ℕ → Option IndexSpace → Option IndexSpace → Run
+    /// run from to first second = record { 0 = from; 1 = to; 2 = first; 3 = second }
+    /// ```
+    type run;
+    /// One-byte opcodes.
+    ///
+    /// ```text
+    /// abbrev pub one_byte : List Run
+    /// one_byte =
+    ///     run 0x07 0x08 (Some Tags) None ∷
+    ///     run 0x10 0x10 (Some Functions) None ∷
+    ///     run 0x11 0x11 (Some Types) (Some Tables) ∷
+    ///     run 0x12 0x12 (Some Functions) None ∷
+    ///     run 0x13 0x13 (Some Types) (Some Tables) ∷
+    ///     run 0x14 0x15 (Some Types) None ∷
+    ///     run 0x23 0x24 (Some Globals) None ∷
+    ///     run 0x25 0x26 (Some Tables) None ∷
+    ///     run 0x3F 0x40 (Some Memories) None ∷
+    ///     run 0xD2 0xD2 (Some Functions) None ∷
+    ///     run 0xE0 0xE0 (Some Types) None ∷
+    ///     run 0xE1 0xE1 (Some Types) (Some Types) ∷
+    ///     run 0xE2 0xE2 (Some Tags) None ∷
+    ///     run 0xE3 0xE3 (Some Types) None ∷
+    ///     run 0xE4 0xE4 (Some Types) (Some Tags) ∷
+    ///     run 0xE5 0xE5 (Some Types) None ∷
+    ///     run 0xE6 0xE6 (Some Types) (Some Tags) ∷
+    ///     []
+    /// ```
+    ///
+    /// Definitions: [`run`](spaces::run).
+    type one_byte;
+    /// Opcodes after the prefix FB.
+    ///
+    /// ```text
+    /// abbrev pub after_fb : List Run
+    /// after_fb =
+    ///     run 0 8 (Some Types) None ∷
+    ///     run 9 9 (Some Types) (Some Data) ∷
+    ///     run 10 10 (Some Types) (Some Elements) ∷
+    ///     run 11 14 (Some Types) None ∷
+    ///     run 16 16 (Some Types) None ∷
+    ///     run 17 17 (Some Types) (Some Types) ∷
+    ///     run 18 18 (Some Types) (Some Data) ∷
+    ///     run 19 19 (Some Types) (Some Elements) ∷
+    ///     run 32 34 (Some Types) None ∷
+    ///     []
+    /// ```
+    ///
+    /// Definitions: [`run`](spaces::run).
+    type after_fb;
+    /// Opcodes after the prefix FC.
+    ///
+    /// ```text
+    /// abbrev pub after_fc : List Run
+    /// after_fc =
+    ///     run 8 8 (Some Data) (Some Memories) ∷
+    ///     run 9 9 (Some Data) None ∷
+    ///     run 10 10 (Some Memories) (Some Memories) ∷
+    ///     run 11 11 (Some Memories) None ∷
+    ///     run 12 12 (Some Elements) (Some Tables) ∷
+    ///     run 13 13 (Some Elements) None ∷
+    ///     run 14 14 (Some Tables) (Some Tables) ∷
+    ///     run 15 17 (Some Tables) None ∷
+    ///     run 18 18 (Some Memories) None ∷
+    ///     []
+    /// ```
+    ///
+    /// Definitions: [`run`](spaces::run).
+    type after_fc;
+    /// Opcodes after the prefix FE.
+    ///
+    /// ```text
+    /// abbrev pub after_fe : List Run
+    /// after_fe =
+    ///     run 0x4F 0x57 (Some Globals) None ∷
+    ///     run 0x58 0x5B (Some Tables) None ∷
+    ///     run 0x5C 0x71 (Some Types) None ∷
+    ///     []
+    /// ```
+    ///
+    /// Definitions: [`run`](spaces::run).
+    type after_fe;
+    /// Whether the run has this number.
+    ///
+    /// ```text
+    /// abbrev pub has_number : ℕ → Run → Bool
+    /// has_number n r = nat_le r.0 n && nat_le n r.1
+    /// ```
+    type has_number;
+    /// The index spaces of a run, and none without a run.
+    ///
+    /// ```text
+    /// abbrev pub spaces_at : Option Run → Spaces
+    /// spaces_at None = (None, None)
+    /// spaces_at (Some r) = (r.2, r.3)
+    /// ```
+    ///
+    /// Definitions: [`Spaces`](spaces::Spaces).
+    type spaces_at;
+    /// The index spaces of the opcode with this number, among the runs of its prefix.
+    ///
+    /// ```text
+    /// abbrev pub spaces_in : List Run → ℕ → Spaces
+    /// spaces_in runs n = spaces_at (find (has_number n) runs)
+    /// ```
+    ///
+    /// Definitions: [`Spaces`](spaces::Spaces), [`spaces_at`](spaces::spaces_at), [`has_number`](spaces::has_number).
+    type spaces_in;
+    /// The index spaces of the first and the second number among the immediates of an opcode.
+    ///
+    /// ```text
+    /// abbrev pub spaces_of : Op → Spaces
+    /// spaces_of (Byte b) = spaces_in one_byte b
+    /// spaces_of (Prefixed p n) = cond (p == 0xFB) (spaces_in after_fb n)
+    ///     (cond (p == 0xFC) (spaces_in after_fc n)
+    ///     (cond (p == 0xFE) (spaces_in after_fe n) (None, None)))
+    /// ```
+    ///
+    /// Definitions: [`Spaces`](spaces::Spaces), [`spaces_in`](spaces::spaces_in), [`one_byte`](spaces::one_byte), [`after_fb`](spaces::after_fb), [`after_fc`](spaces::after_fc), [`after_fe`](spaces::after_fe).
+    type spaces_of;
+}
+
+/// What a map of indices makes of the entries of a type section.
+///
+/// [How to read definitions](super). The file is [`Types.antt`](https://github.com/dolzhytik/dolzhytik/blob/main/crates/wasm_remap/specs/Types.antt).
+pub trait types {
+    /// A storage type.
+    ///
+    /// ```text
+    /// abbrev pub remapped_storage : Mapping → StorageType → StorageType
+    /// remapped_storage m I8 = I8
+    /// remapped_storage m I16 = I16
+    /// remapped_storage m (Val ty) = Val (remapped_val m ty)
+    /// ```
+    ///
+    /// Definitions: [`Mapping`](mapping::Mapping), [`remapped_val`](instructions::remapped_val).
+    type remapped_storage;
+    /// A field type.
+    ///
+    /// ```text
+    /// abbrev pub remapped_field : Mapping → FieldType → FieldType
+    /// remapped_field m f = record
+    ///     { element_type = remapped_storage m f.element_type; mutable = f.mutable }
+    /// ```
+    ///
+    /// Definitions: [`Mapping`](mapping::Mapping), [`remapped_storage`](types::remapped_storage).
+    type remapped_field;
+    /// The shape of a composite type.
+    ///
+    /// ```text
+    /// abbrev pub remapped_shape : Mapping → Shape → Shape
+    /// remapped_shape m (func params results) = func (map (remapped_val m) params)
+    ///     (map (remapped_val m) results)
+    /// remapped_shape m (array field) = array (remapped_field m field)
+    /// remapped_shape m (structure fields) = structure (map (remapped_field m) fields)
+    /// remapped_shape m (cont n) = cont (m spaces.Types n)
+    /// ```
+    ///
+    /// Definitions: [`Mapping`](mapping::Mapping), [`Shape`](super::types::rec_types::Shape), [`func`](super::types::rec_types::Shape), [`remapped_val`](instructions::remapped_val), [`array`](super::types::rec_types::Shape), [`remapped_field`](types::remapped_field), [`structure`](super::types::rec_types::Shape), [`cont`](super::types::rec_types::Shape).
+    type remapped_shape;
+    /// A composite type.
+    ///
+    /// ```text
+    /// abbrev pub remapped_composite : Mapping → Composite → Composite
+    /// remapped_composite m c = record
+    ///     { shared = c.shared; describes = option_map (m spaces.Types) c.describes;
+    ///     descriptor = option_map (m spaces.Types) c.descriptor;
+    ///     shape = remapped_shape m c.shape }
+    /// ```
+    ///
+    /// Definitions: [`Mapping`](mapping::Mapping), [`Composite`](super::types::rec_types::Composite), [`remapped_shape`](types::remapped_shape).
+    type remapped_composite;
+    /// A subtype.
+    ///
+    /// ```text
+    /// abbrev pub remapped_sub : Mapping → Sub → Sub
+    /// remapped_sub m s = record
+    ///     { is_final = s.is_final; supertypes = map (m spaces.Types) s.supertypes;
+    ///     composite = remapped_composite m s.composite }
+    /// ```
+    ///
+    /// Definitions: [`Mapping`](mapping::Mapping), [`Sub`](super::types::rec_types::Sub), [`remapped_composite`](types::remapped_composite).
+    type remapped_sub;
+    /// An entry: a type alone, or a recursion group.
+    ///
+    /// ```text
+    /// abbrev pub remapped_type : Mapping → TypeItem → TypeItem
+    /// remapped_type m (single s) = single (remapped_sub m s)
+    /// remapped_type m (group ss) = group (map (remapped_sub m) ss)
+    /// ```
+    ///
+    /// Definitions: [`Mapping`](mapping::Mapping), [`TypeItem`](super::types::rec_types::TypeItem), [`single`](super::types::rec_types::TypeItem), [`remapped_sub`](types::remapped_sub), [`group`](super::types::rec_types::TypeItem).
+    type remapped_type;
+}

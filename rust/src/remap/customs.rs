@@ -1,0 +1,187 @@
+// Written by tools/to-rust from crates/wasm_remap/src/customs.rt: change that.
+// Items of custom sections whose indices are mapped.
+
+use crate::vec::Vec;
+use crate::remap::indexed::{Indexed, Remap, RemapError, mapped, mapped_number, remap_each, remap_firsts};
+use crate::remap::spaces::IndexSpace;
+use crate::alloc::Allocator;
+use crate::custom::{BranchHint, Comdat, ComdatSymbol, LinkItem, NameItem, PlainRelocation, Relocation, Symbol};
+
+/// Returns the index space of a name map, or of the outer indices of an indirect one, by its id.
+fn space_of_names(id: u8) -> Option<IndexSpace> {
+    match id {
+        1..=3 => Some(IndexSpace::Functions),
+        4 | 10 | 12 => Some(IndexSpace::Types),
+        5 => Some(IndexSpace::Tables),
+        6 => Some(IndexSpace::Memories),
+        7 => Some(IndexSpace::Globals),
+        8 => Some(IndexSpace::Elements),
+        9 => Some(IndexSpace::Data),
+        11 | 13 => Some(IndexSpace::Tags),
+        _ => None,
+    }
+}
+
+/// # Defined
+///
+/// ```text
+/// Value = { NameModel }
+/// view = { name_item_view }
+/// remapped = { remapped_name }
+/// ```
+///
+/// Definitions: [`NameModel`](crate::definitions::custom::names::NameItem), [`name_item_view`](crate::definitions::custom::names::name_item_view), [`remapped_name`](crate::definitions::remap::customs::remapped_name). [How to read clauses](crate::definitions).
+impl<A: Allocator + Copy> Indexed<A> for NameItem<'_, A> {
+    fn remap<M: Remap>(&mut self, _alloc: A, indices: &M) -> Result<(), RemapError<M::Error>> {
+        match self {
+            NameItem::Module(_) | NameItem::Other { .. } => Ok(()),
+            NameItem::Map { id, names } => remap_firsts(names, space_of_names(*id), indices),
+            NameItem::Indirect { id, maps } => remap_firsts(maps, space_of_names(*id), indices),
+        }
+    }
+}
+
+/// # Defined
+///
+/// ```text
+/// Value = { Hints }
+/// view = { hints_view }
+/// remapped = { remapped_hints }
+/// ```
+///
+/// Definitions: [`Hints`](crate::definitions::custom::hints::Hints), [`hints_view`](crate::definitions::custom::hints::hints_view), [`remapped_hints`](crate::definitions::remap::customs::remapped_hints). [How to read clauses](crate::definitions).
+impl<A: Allocator + Copy> Indexed<A> for (u32, Vec<BranchHint, A>) {
+    fn remap<M: Remap>(&mut self, _alloc: A, indices: &M) -> Result<(), RemapError<M::Error>> {
+        self.0 = mapped(indices, IndexSpace::Functions, self.0)?;
+        Ok(())
+    }
+}
+
+/// # Defined
+///
+/// ```text
+/// Value = { SymbolModel }
+/// view = { symbol_view }
+/// remapped = { remapped_symbol }
+/// ```
+///
+/// Definitions: [`SymbolModel`](crate::definitions::custom::symbols::Symbol), [`symbol_view`](crate::definitions::custom::symbols::symbol_view), [`remapped_symbol`](crate::definitions::remap::customs::remapped_symbol). [How to read clauses](crate::definitions).
+impl<A: Allocator + Copy> Indexed<A> for Symbol<'_> {
+    fn remap<M: Remap>(&mut self, _alloc: A, indices: &M) -> Result<(), RemapError<M::Error>> {
+        match self {
+            Symbol::Function { index, .. } => {
+                *index = mapped(indices, IndexSpace::Functions, *index)?;
+            }
+            Symbol::Global { index, .. } => {
+                *index = mapped(indices, IndexSpace::Globals, *index)?;
+            }
+            Symbol::Table { index, .. } => {
+                *index = mapped(indices, IndexSpace::Tables, *index)?;
+            }
+            Symbol::Tag { index, .. } => {
+                *index = mapped(indices, IndexSpace::Tags, *index)?;
+            }
+            Symbol::DataSymbol { definition, .. } => {
+                if let Some(definition) = definition {
+                    definition.index = mapped(indices, IndexSpace::Data, definition.index)?;
+                }
+            }
+            Symbol::Section { .. } => {}
+        }
+        Ok(())
+    }
+}
+
+/// Returns the index space of the members of a COMDAT group of this kind.
+fn space_of_members(kind: u8) -> Option<IndexSpace> {
+    match kind {
+        0 => Some(IndexSpace::Data),
+        1 => Some(IndexSpace::Functions),
+        2 => Some(IndexSpace::Globals),
+        3 => Some(IndexSpace::Tags),
+        4 => Some(IndexSpace::Tables),
+        _ => None,
+    }
+}
+
+/// # Defined
+///
+/// ```text
+/// Value = { ComdatSymbol }
+/// view = { λ s. s }
+/// remapped = { remapped_member }
+/// ```
+///
+/// Definitions: [`remapped_member`](crate::definitions::remap::customs::remapped_member). [How to read clauses](crate::definitions).
+impl<A: Allocator + Copy> Indexed<A> for ComdatSymbol {
+    fn remap<M: Remap>(&mut self, _alloc: A, indices: &M) -> Result<(), RemapError<M::Error>> {
+        self.index = mapped_number(indices, space_of_members(self.kind), self.index)?;
+        Ok(())
+    }
+}
+
+/// # Defined
+///
+/// ```text
+/// Value = { ComdatModel }
+/// view = { comdat_view }
+/// remapped = { remapped_comdat }
+/// ```
+///
+/// Definitions: [`ComdatModel`](crate::definitions::custom::comdats::Comdat), [`comdat_view`](crate::definitions::custom::comdats::comdat_view), [`remapped_comdat`](crate::definitions::remap::customs::remapped_comdat). [How to read clauses](crate::definitions).
+impl<A: Allocator + Copy> Indexed<A> for Comdat<'_, A> {
+    fn remap<M: Remap>(&mut self, alloc: A, indices: &M) -> Result<(), RemapError<M::Error>> {
+        remap_each(&mut self.symbols, alloc, indices)
+    }
+}
+
+/// # Defined
+///
+/// ```text
+/// Value = { LinkModel }
+/// view = { link_view }
+/// remapped = { remapped_link }
+/// ```
+///
+/// Definitions: [`LinkModel`](crate::definitions::custom::linking::LinkItem), [`link_view`](crate::definitions::custom::linking::link_view), [`remapped_link`](crate::definitions::remap::customs::remapped_link). [How to read clauses](crate::definitions).
+impl<A: Allocator + Copy> Indexed<A> for LinkItem<'_, A> {
+    fn remap<M: Remap>(&mut self, alloc: A, indices: &M) -> Result<(), RemapError<M::Error>> {
+        match self {
+            LinkItem::Comdats(groups) => remap_each(groups, alloc, indices),
+            LinkItem::Symbols(symbols) => remap_each(symbols, alloc, indices),
+            LinkItem::Segments(_)
+            | LinkItem::InitFunctions(_)
+            | LinkItem::Arch(_)
+            | LinkItem::Other { .. } => Ok(()),
+        }
+    }
+}
+
+/// Returns the index space of the index of a relocation. All but one have the index of a symbol.
+fn space_of_relocation(kind: PlainRelocation) -> Option<IndexSpace> {
+    match kind {
+        PlainRelocation::TypeIndexLeb => Some(IndexSpace::Types),
+        _ => None,
+    }
+}
+
+/// # Defined
+///
+/// ```text
+/// Value = { Relocation }
+/// view = { λ r. r }
+/// remapped = { remapped_relocation }
+/// ```
+///
+/// Definitions: [`remapped_relocation`](crate::definitions::remap::customs::remapped_relocation). [How to read clauses](crate::definitions).
+impl<A: Allocator + Copy> Indexed<A> for Relocation {
+    fn remap<M: Remap>(&mut self, _alloc: A, indices: &M) -> Result<(), RemapError<M::Error>> {
+        match self {
+            Relocation::Plain { kind, index, .. } => {
+                *index = mapped_number(indices, space_of_relocation(*kind), *index)?;
+                Ok(())
+            }
+            Relocation::Addend32 { .. } | Relocation::Addend64 { .. } => Ok(()),
+        }
+    }
+}

@@ -1,0 +1,100 @@
+// Written by tools/to-rust from crates/wasm_remap/src/items.rt: change that.
+// The items of sections whose indices are mapped.
+
+use crate::vec::Sink;
+use crate::remap::indexed::{Remap, RemapError, mapped, remap_each, remap_numbers};
+use crate::remap::spaces::IndexSpace;
+use crate::alloc::Allocator;
+use crate::base::Standard;
+use crate::reader::{Items, Section, encode_items_in};
+
+/// Maps each index of the items of a section. After an error, some of them are mapped.
+///
+/// # Errors
+///
+/// Returns the error of the map if it rejects an index, and `Memory` if an allocation fails.
+///
+/// # Proved
+///
+/// After an error, `err`: The map rejected an index with this error, or there was no memory.
+///
+/// ```text
+/// ensures ok { OnOk result
+///     (contents_of items.new ≡ remapped (M.mapped indices.now) (contents_of items.old)) }
+/// ensures err { IfErr result (λ e. ComesFrom (M.rejects indices.now) e) }
+/// ```
+///
+/// Definitions: [`contents_of`](crate::definitions::reader::kinds::contents_of), [`remapped`](crate::definitions::remap::sections::remapped), [`ComesFrom`](crate::definitions::remap::mapping::ComesFrom). [How to read clauses](crate::definitions).
+pub fn remap_items<A: Allocator + Copy, M: Remap>(
+    items: &mut Items<'_, A>,
+    alloc: A,
+    indices: &M,
+) -> Result<(), RemapError<M::Error>> {
+    match items {
+        Items::Bodies(items) => remap_each(items, alloc, indices),
+        Items::Segments(items) => remap_each(items, alloc, indices),
+        Items::Elements(items) => remap_each(items, alloc, indices),
+        Items::Exports(items) => remap_each(items, alloc, indices),
+        Items::Functions(items) => remap_numbers(items, IndexSpace::Types, indices),
+        Items::Globals(items) => remap_each(items, alloc, indices),
+        Items::Imports(items) => remap_each(items, alloc, indices),
+        Items::Start(index) => {
+            *index = mapped(indices, IndexSpace::Functions, *index)?;
+            Ok(())
+        }
+        Items::Tables(items) => remap_each(items, alloc, indices),
+        Items::Tags(items) => remap_each(items, alloc, indices),
+        Items::Names(items) => remap_each(items, alloc, indices),
+        Items::Linking(items) => remap_each(items, alloc, indices),
+        Items::Hints(items) => remap_each(items, alloc, indices),
+        Items::Types(items) => remap_each(items, alloc, indices),
+        Items::Relocations { relocations, .. } => remap_each(relocations, alloc, indices),
+        Items::DataCount(_)
+        | Items::Memories(_)
+        | Items::Producers(_)
+        | Items::Core(_)
+        | Items::CoreModules(_)
+        | Items::CoreInstances(_)
+        | Items::CoreStack { .. }
+        | Items::Custom { .. }
+        | Items::Raw(_)
+        | Items::TargetFeatures(_)
+        | Items::SourceMappingUrl(_)
+        | Items::ExternalDebugInfo(_)
+        | Items::BuildId(_)
+        | Items::Dylink(_) => Ok(()),
+    }
+}
+
+/// Decodes the items of a section, maps each index, and appends the minimal encoding of the items
+/// as a payload. On an error, the sink is unchanged.
+///
+/// # Errors
+///
+/// Returns `Read` if the section does not decode, `Index` with the error of the map if it rejects an
+/// index, and `Refused` if an encoding is too long or an allocation fails.
+///
+/// # Proved
+///
+/// - After `Ok`, `ok`: The section decodes to items, and the buffer gains the minimal encoding of these items with each index mapped.
+/// - After an error, `err`: the bytes of the sink are unchanged.
+///
+/// ```text
+/// ensures ok { OnOk result
+///     (RemapsSection (M.mapped indices.now) section.now.section sink.old.items
+///         sink.new.items) }
+/// ensures err { OnErr result (sink.new.items ≡ sink.old.items) }
+/// ```
+///
+/// Definitions: [`RemapsSection`](crate::definitions::remap::sections::RemapsSection). [How to read clauses](crate::definitions).
+pub fn remap_section<A: Allocator + Copy, M: Remap, B: Sink>(
+    section: &Section<'_, A>,
+    alloc: A,
+    indices: &M,
+    sink: &mut B,
+) -> Result<(), RemapError<M::Error>> {
+    let mut items = section.items()?;
+    remap_items(&mut items, alloc, indices)?;
+    encode_items_in::<Standard, _, _, _>(alloc, &items, sink)?;
+    Ok(())
+}

@@ -1,0 +1,18 @@
+// Written by tools/to-rust from crates/wasm_remap/src/lib.rt: change that.
+//! The indices of a WebAssembly module, mapped: every place that refers to a function, a type, a
+//! table, a memory, a global, a tag, an element segment or a data segment.
+
+mod customs;
+mod indexed;
+mod instructions;
+mod items;
+mod modules;
+mod recursive;
+mod sections;
+mod spaces;
+mod types;
+
+pub use indexed::{Remap, RemapError};
+pub use items::{remap_items, remap_section};
+pub use modules::remap_module;
+pub use spaces::{IndexSpace, spaces_of};
