@@ -1,7 +1,7 @@
 -- This file proves of kinds of sections that builders encode each content of the standard's grammar,
 -- but for long code sections.
 use Rattle.wasm_base.proofs.Words.{◌≡◌, ℕ, ◌^◌, ◌<◌, ◌≤◌, List, [], ◌∷◌, ◌++◌, length, Bool, true, false, refl, sym, ap, subst, ◌∙◌, arith, length-append}
-use Rattle.wasm_base.specs.Formats.{Format, byte, u32, fixed, mapped, such, name, pair, members, vec, size_prefixed, impossible}
+use Rattle.wasm_base.specs.Formats.{Format, byte, u32, fixed, mapped, tagged, such, name, pair, members, vec, size_prefixed, impossible}
 use Rattle.wasm_base.specs.Numbers.{Grammar, Mode, builders, admitted, minimal, padded, standard_minimal, standard, unsigned_encoding, padded_of}
 use Rattle.wasm_base.specs.Minimal.{Grammars, Includes, builders_alone, both_grammars}
 use Rattle.wasm_base.proofs.Words.{u32_encodes}
@@ -11,7 +11,7 @@ use Rattle.wasm_immediates.specs.ImmediateFormats.{HasIndex}
 use Rattle.wasm_sections.specs.{ElementFlag, flag_code, has_kind, segment_mode, in_table, in_no_table, list_of, functions, elements_as, segment_of, element, entity_tags, entity, group_tags, group, single, named, alike_of, named_entity}
 use Rattle.wasm_sections.specs.{after_module, import_of, import_format, memory_of, memory_type, global_of, global_type, global_from, global_item, limits_of, limits, table_of, table_type, without_init, with_init, before_init, table_item}
 use Rattle.wasm_sections.specs.{tag_of, tag_type, in_first, in_memory, data_tags, data_in, data_item}
-use Rattle.wasm_types.specs.RecTypes.{storage_tags, packed_type, storage_type, field_of, field_type, func_of, shape_tags, after_shape, with_index, after_descriptor, after_describes, composite_of, after_composite, composite_type, sub_of}
+use Rattle.wasm_types.specs.RecTypes.{storage_tags, packed_type, storage_type, field_of, field_type, func_of, shape_tags, after_shape, given_index, no_index, with_index, after_descriptor, after_describes, composite_of, after_composite, composite_type, sub_of}
 use Rattle.wasm_types.specs.RecTypes.{alone_of, supertypes_and, HasFinalPrefix, sub_tags, after_alone, prefixed_sub, sub_type, group_tags as rec_tags, group_type, type_item}
 use Rattle.wasm_reader.specs.{Contents, content, grammars_of, kind_in, Extends, HasContentIn, HasShortBodies}
 use Rattle.wasm_reader.specs.declared.kinds.SectionKind.{SectionKind}
@@ -87,13 +87,13 @@ shape_built b = choice_built shape_tags (λ c. impossible) (
 ) (λ c. impossible_built) b
 
 indexed_built : {X : Type 0} (tag : ℕ) (F : ℕ → Format X) → ((b : ℕ) → AreBuilt (F b)) → (b : ℕ) → AreBuilt (with_index tag F b)
-indexed_built tag F k b = choice_built _ _ (mapped_built _ (pair_built u32_built (tagged_built byte_built k)), tt) (λ c. mapped_built _ (k c)) b
+indexed_built tag F k b = choice_built ((tag, mapped given_index (pair u32 (tagged byte F))) ∷ []) (λ c. mapped no_index (F c)) (mapped_built given_index (pair_built u32_built (tagged_built byte_built k)), tt) (λ c. mapped_built no_index (k c)) b
 
 describes_built : (b : ℕ) → AreBuilt (after_describes b)
 describes_built = indexed_built 0x4C after_descriptor (indexed_built 0x4D after_shape shape_built)
 
 composite_after_built : (b : ℕ) → AreBuilt (after_composite b)
-composite_after_built b = choice_built _ _ (mapped_built (composite_of true) (tagged_built byte_built describes_built), tt) (λ c. mapped_built (composite_of false) (describes_built c)) b
+composite_after_built b = choice_built ((0x65, mapped (composite_of true) (tagged byte after_describes)) ∷ []) (λ c. mapped (composite_of false) (after_describes c)) (mapped_built (composite_of true) (tagged_built byte_built describes_built), tt) (λ c. mapped_built (composite_of false) (describes_built c)) b
 
 supertypes_built : AreBuilt supertypes_and
 supertypes_built = pair_built (vec_built u32_built) (tagged_built byte_built composite_after_built)

@@ -1,6 +1,7 @@
 -- This file defines the index spaces of the numbers among the immediates of each opcode.
 use Rattle.std.specs.Prelude.{ℕ, ◌==◌, ◌&&◌, nat_le, List, [], ◌∷◌, Option, Some, None, Bool, cond}
 use Rattle.std.specs.List.{find}
+use Rattle.std.specs.Option.{option_map}
 use Rattle.wasm_insn.specs.declared.op.Op.{Op}
 use Rattle.wasm_insn.specs.declared.op.Op.TheVariants.{Byte, Prefixed}
 use Rattle.wasm_remap.specs.declared.spaces.IndexSpace.{IndexSpace}
@@ -86,16 +87,20 @@ after_fe =
 abbrev pub has_number : ℕ → Run → Bool
 has_number n r = nat_le r.0 n && nat_le n r.1
 
--- The index spaces of a run, and none without a run.
-abbrev pub spaces_at : Option Run → Spaces
-spaces_at None = (None, None)
-spaces_at (Some r) = (r.2, r.3)
-
 -- The index spaces of the opcode with this number, among the runs of its prefix.
-abbrev pub spaces_in : List Run → ℕ → Spaces
-spaces_in runs n = spaces_at (find (has_number n) runs)
+abbrev pub found_in : List Run → ℕ → Option Spaces
+found_in runs n = option_map (λ r. (r.2, r.3)) (find (has_number n) runs)
+
+-- The same by the prefix.
+abbrev pub found_of : Op → Option Spaces
+found_of (Byte b) = found_in one_byte b
+found_of (Prefixed p n) = cond (p == 0xFB) (found_in after_fb n) (cond (p == 0xFC) (found_in after_fc n) (cond (p == 0xFE) (found_in after_fe n) None))
+
+-- The index spaces that were found, and none if the opcode has no run.
+abbrev pub or_none : Option Spaces → Spaces
+or_none None = (None, None)
+or_none (Some spaces) = spaces
 
 -- The index spaces of the first and the second number among the immediates of an opcode.
 abbrev pub spaces_of : Op → Spaces
-spaces_of (Byte b) = spaces_in one_byte b
-spaces_of (Prefixed p n) = cond (p == 0xFB) (spaces_in after_fb n) (cond (p == 0xFC) (spaces_in after_fc n) (cond (p == 0xFE) (spaces_in after_fe n) (None, None)))
+spaces_of op = or_none (found_of op)

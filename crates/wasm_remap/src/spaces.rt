@@ -1,6 +1,6 @@
 // Index spaces, and those of the numbers among the immediates of each opcode.
 ghost use Rattle.std.specs.Prelude.{◌≡◌};
-ghost use Rattle.wasm_remap.specs.Spaces.{spaces_in, spaces_of as spaces_of_op};
+ghost use Rattle.wasm_remap.specs.Spaces.{found_in, spaces_of as spaces_of_op};
 
 use wasm_insn::Op;
 
@@ -91,16 +91,12 @@ static AFTER_FE: [Run; 3] = [
 ];
 
 /// Returns the index spaces of the numbers of this opcode, by the runs of its prefix.
-fn find_spaces(runs: &[Run], number: u32) -> (Option<IndexSpace>, Option<IndexSpace>)
-    ensures { result ≡ spaces_in runs.now number }
+fn find_spaces(runs: &[Run], number: u32) -> Option<(Option<IndexSpace>, Option<IndexSpace>)>
+    ensures { result ≡ found_in runs.now number }
 {
-    let found = runs
-        .iter()
-        .find(|run| run.0 <= number && number <= run.1);
-    match found {
-        Some(run) => (run.2, run.3),
-        None => (None, None),
-    }
+    runs.iter()
+        .find(|run| run.0 <= number && number <= run.1)
+        .map(|run| (run.2, run.3))
 }
 
 /// Returns the index spaces of the first and the second number among the immediates of an opcode,
@@ -112,11 +108,15 @@ fn find_spaces(runs: &[Run], number: u32) -> (Option<IndexSpace>, Option<IndexSp
 pub fn spaces_of(op: Op) -> (Option<IndexSpace>, Option<IndexSpace>)
     ensures { result ≡ spaces_of_op op }
 {
-    match op {
+    let found = match op {
         Op::Byte(byte) => find_spaces(&ONE_BYTE, u32::from(byte)),
         Op::Prefixed(0xFB, number) => find_spaces(&AFTER_FB, number),
         Op::Prefixed(0xFC, number) => find_spaces(&AFTER_FC, number),
         Op::Prefixed(0xFE, number) => find_spaces(&AFTER_FE, number),
-        Op::Prefixed(_, _) => (None, None),
+        Op::Prefixed(_, _) => None,
+    };
+    match found {
+        Some(spaces) => spaces,
+        None => (None, None),
     }
 }

@@ -1,0 +1,5 @@
+use Rattle.wasm_remap.proofs.ArgumentLaws.{HasMapped}
+use Rattle.wasm_remap.proofs.instructions.remap_arguments.Given as goal
+
+abbrev pub invariant-loop-argument : goal.invariant-loop-argument
+invariant-loop-argument g l = HasMapped (g.M.Remap.mapped l.indices) l.fn.spaces l.fn.arguments l.arguments l.argument-index l.spaces
