@@ -138,8 +138,8 @@ one_of_built {X} {F} {G} k l = record { form = form }
     form s x (inl h) = let a = k.form s x h in (a.0, inl a.1, a.2)
     form s x (inr h) = let a = l.form s x h in (a.0, inr a.1, a.2)
 
-pub optional_built : {X : Type 0} (flag : Bool) {F : Format X} → AreBuilt F → AreBuilt (optional flag F)
-optional_built flag {F} k = when_built flag (mapped_built Some k) (fixed_built [] None)
+pub optional_built : {X : Type 0} (test : Bool) {F : Format X} → AreBuilt F → AreBuilt (optional test F)
+optional_built test {F} k = when_built test (mapped_built Some k) (fixed_built [] None)
 
 pub members_built : {X : Type 0} {F : Format X} → AreBuilt F → AreBuilt (members F)
 members_built {X} {F} k = record { form = form }

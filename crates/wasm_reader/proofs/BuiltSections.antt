@@ -1,6 +1,6 @@
 -- This file proves of kinds of sections that builders encode each content of the standard's grammar,
 -- but for long code sections.
-use Rattle.wasm_base.proofs.Words.{◌≡◌, ℕ, ◌^◌, ◌<◌, ◌≤◌, List, [], ◌∷◌, ◌++◌, length, Bool, true, false, refl, sym, ap, subst, ◌∙◌, arith, length-append}
+use Rattle.wasm_base.proofs.Words.{◌≡◌, ℕ, ◌+◌, ◌^◌, ◌<◌, ◌≤◌, List, [], ◌∷◌, ◌++◌, length, Bool, true, false, refl, sym, ap, subst, ◌∙◌, arith, length-append}
 use Rattle.wasm_base.specs.Formats.{Format, byte, u32, fixed, mapped, tagged, such, name, pair, members, vec, size_prefixed, impossible}
 use Rattle.wasm_base.specs.Numbers.{Grammar, Mode, builders, admitted, minimal, padded, standard_minimal, standard, unsigned_encoding, padded_of}
 use Rattle.wasm_base.specs.Minimal.{Grammars, Includes, builders_alone, both_grammars}
@@ -8,9 +8,13 @@ use Rattle.wasm_base.proofs.Words.{u32_encodes}
 use Rattle.wasm_code.specs.Bodies.{Body, body}
 use Rattle.wasm_code.specs.Expressions.{expression}
 use Rattle.wasm_immediates.specs.ImmediateFormats.{HasIndex}
-use Rattle.wasm_sections.specs.{ElementFlag, flag_code, has_kind, segment_mode, in_table, in_no_table, list_of, functions, elements_as, segment_of, element, entity_tags, entity, group_tags, group, single, named, alike_of, named_entity}
-use Rattle.wasm_sections.specs.{after_module, import_of, import_format, memory_of, memory_type, global_of, global_type, global_from, global_item, limits_of, limits, table_of, table_type, without_init, with_init, before_init, table_item}
-use Rattle.wasm_sections.specs.{tag_of, tag_type, in_first, in_memory, data_tags, data_in, data_item}
+use Rattle.wasm_sections.specs.DataSegments.{in_first, in_memory, data_tags, data_in, data_item}
+use Rattle.wasm_sections.specs.Elements.{ElementFlag, flag_code, has_kind, segment_mode, in_table, in_no_table, list_of, functions, elements_as, segment_of, element}
+use Rattle.wasm_sections.specs.Globals.{global_of, global_type, global_from, global_item}
+use Rattle.wasm_sections.specs.Imports.{entity_tags, entity, group_tags, group, single, named, alike_of, named_entity, after_module, import_of, import_format}
+use Rattle.wasm_sections.specs.Memories.{memory_of, memory_type}
+use Rattle.wasm_sections.specs.Tables.{limits_of, limits, table_of, table_type, without_init, with_init, before_init, table_item}
+use Rattle.wasm_sections.specs.Tags.{tag_of, tag_type}
 use Rattle.wasm_types.specs.RecTypes.{storage_tags, packed_type, storage_type, field_of, field_type, func_of, shape_tags, after_shape, given_index, no_index, with_index, after_descriptor, after_describes, composite_of, after_composite, composite_type, sub_of}
 use Rattle.wasm_types.specs.RecTypes.{alone_of, supertypes_and, HasFinalPrefix, sub_tags, after_alone, prefixed_sub, sub_type, group_tags as rec_tags, group_type, type_item}
 use Rattle.wasm_reader.specs.{Contents, content, grammars_of, kind_in, Extends, HasContentIn, HasShortBodies}
@@ -132,6 +136,9 @@ no_longer : (kind : SectionKind) (s t : List ℕ) → length t ≤ length s → 
 no_longer kinds.Bodies s t l short = omega (arith, l, short)
 no_longer kind s t l short = tt
 
+not_alone : both_grammars ≡ builders_alone → ⊥
+not_alone e = cc e
+
 -- The bytes of a section of a kind that is written in the builders' grammar alone.
 content_built : (kind : SectionKind) (s : List ℕ) (x : Contents) → grammars_of kind ≡ builders_alone → HasShortBodies admitted kind s → content kind standard_minimal s x → (t : List ℕ) × content kind minimal t x
 content_built kinds.Bodies s x e short h = let a = code_built s h.0 short h.2 in (a.0, (h.0, h.1, a.1))
@@ -141,6 +148,28 @@ content_built kinds.Globals s x e short h = let a = (mapped_built _ (vec_built g
 content_built kinds.Imports s x e short h = let a = (mapped_built _ (vec_built import_built)).form s x h in (a.0, a.1)
 content_built kinds.Tables s x e short h = let a = (mapped_built _ (vec_built table_built)).form s x h in (a.0, a.1)
 content_built kinds.Types s x e short h = let a = (mapped_built _ (vec_built type_built)).form s x h in (a.0, a.1)
+content_built kinds.DataCount s x e short h = absurd (not_alone e)
+content_built kinds.Exports s x e short h = absurd (not_alone e)
+content_built kinds.Functions s x e short h = absurd (not_alone e)
+content_built kinds.Memories s x e short h = absurd (not_alone e)
+content_built kinds.Start s x e short h = absurd (not_alone e)
+content_built kinds.Tags s x e short h = absurd (not_alone e)
+content_built kinds.Names s x e short h = absurd (not_alone e)
+content_built kinds.Linking s x e short h = absurd (not_alone e)
+content_built kinds.Producers s x e short h = absurd (not_alone e)
+content_built kinds.Hints s x e short h = absurd (not_alone e)
+content_built kinds.Core s x e short h = absurd (not_alone e)
+content_built kinds.CoreModules s x e short h = absurd (not_alone e)
+content_built kinds.CoreInstances s x e short h = absurd (not_alone e)
+content_built kinds.CoreStack s x e short h = absurd (not_alone e)
+content_built kinds.Custom s x e short h = absurd (not_alone e)
+content_built kinds.Raw s x e short h = absurd (not_alone e)
+content_built kinds.TargetFeatures s x e short h = absurd (not_alone e)
+content_built kinds.SourceMappingUrl s x e short h = absurd (not_alone e)
+content_built kinds.ExternalDebugInfo s x e short h = absurd (not_alone e)
+content_built kinds.BuildId s x e short h = absurd (not_alone e)
+content_built kinds.Dylink s x e short h = absurd (not_alone e)
+content_built kinds.Relocations s x e short h = absurd (not_alone e)
 
 -- ---- contents that builders encode
 

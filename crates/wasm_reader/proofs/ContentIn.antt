@@ -2,7 +2,9 @@
 -- encoding of the content in that grammar.
 use Rattle.wasm_base.proofs.Words.{◌≡◌, ℕ, List, [], ◌++◌, ◌∙◌, ap, sym, subst, padded_of, minimal_of, Grammar, AppendsMinimal, RejectsWhole, Format, UnambiguousWhole}
 use Rattle.wasm_base.specs.Numbers.{builders, admitted, minimal, padded, standard_minimal, standard}
-use Rattle.wasm_base.specs.Minimal.{MinimizesWhole}
+use Rattle.wasm_base.specs.Minimal.{HasEncoding, MinimizesWhole}
+use Rattle.std.proofs.Common.{Result, Ok, Err, IsErrAnd}
+use Rattle.wasm_base.specs.declared.refused.Refused.{Refused}
 use Rattle.wasm_reader.specs.declared.kinds.SectionKind.{SectionKind}
 use Rattle.wasm_reader.specs.{Contents, content, grammars_of, kind_in, Extends, HasContentIn, HasShortBodies, AppendsContentIn}
 use Rattle.wasm_reader.proofs.BuiltSections.{is_writable}
@@ -46,6 +48,15 @@ content_minimized w x kind bytes old new i m = minimized w x i.written old new (
 
 pub content_not_rejected : (w : Grammar) (x : Contents) (kind : SectionKind) (bytes : List ℕ) → IsWritten x kind bytes → RejectsWhole (content kind) (padded_of w) bytes → HasContentIn w x → ⊥
 content_not_rejected w x kind bytes i r h = r.none x (subst (λ k. content k (padded_of w) bytes x) (sym i.is_kind) (subst (λ s. content (kind_in x) (padded_of w) s x) (sym i.are) (written_decodes w x i.written (from_empty x kind bytes i) h)))
+
+-- Builders encode the content.
+pub content_encodable : (w : Grammar) (x : Contents) → HasContentIn w x → HasEncoding (grammars_of (kind_in x)) (content (kind_in x)) x
+content_encodable w x h = let v = is_writable w x h in record { grammar = v.grammar; included = v.included; bytes = v.bytes; decoded = v.decoded }
+
+-- The error that a call propagates is that of its callee.
+pub refused_same : {T : Type 0} (r : Result T Refused) (x y : Refused) → IsErrAnd r (λ z. z ≡ x) → r ≡ Err y → x ≡ y
+refused_same (Ok v) x y h e = elim h [ ]
+refused_same (Err z) x y h e = sym h ∙ cc e
 
 -- ---- for callers
 

@@ -14,6 +14,8 @@ pub mod IteratingLaws
 pub mod MinimalAgain
 pub mod MinimalModules
 pub mod WalkSections
+pub mod BuiltForms
+pub mod BuiltSections
 pub mod ContentIn
 pub mod MinimalSections
 pub mod OpcodesOfShapes

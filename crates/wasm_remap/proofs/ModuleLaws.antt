@@ -2,7 +2,9 @@
 use Rattle.wasm_base.proofs.Words.{◌≡◌, ℕ, List, [], ◌∷◌, ◌++◌, Bool, true, false, refl, sym, ap, subst, ◌∙◌, append-nil, append_assoc, flat_map, header, wasm_module, DecodesWhole, DecodesOneMore}
 use Rattle.std.specs.List.{AllByRecursion}
 use Rattle.std.proofs.lemmas.Grind.{flat_map-append}
-use Rattle.wasm_reader.specs.{Section, IsSection, bytes_of, HasSections, contains_offsets, GivesSection, ahead}
+use Rattle.wasm_reader.specs.Iterating.{GivesSection, ahead}
+use Rattle.wasm_reader.specs.Outlines.{Section, IsSection, bytes_of, HasSections}
+use Rattle.wasm_reader.specs.Shortening.{contains_offsets}
 use Rattle.wasm_reader.specs.Iterating.{Iterating, Located}
 use Rattle.wasm_reader.specs.declared.whole.Offsets.{Offsets}
 use Rattle.wasm_reader.specs.declared.whole.Offsets.TheVariants.{Refuse, LeaveOut}

@@ -1,5 +1,5 @@
 -- This file defines maps of indices, and where the errors of a map come from.
-use Rattle.std.specs.Prelude.{◌≡◌, ℕ, Option, Some, None}
+use Rattle.std.specs.Prelude.{◌≡◌, ℕ, ◌<◌, ◌^◌, Option, Some, None}
 use Rattle.wasm_base.specs.declared.refused.Refused.TheVariants as refusals
 use Rattle.wasm_remap.specs.declared.indexed.RemapError.{RemapError}
 use Rattle.wasm_remap.specs.declared.indexed.RemapError.TheVariants.{Read, Refused, Index, Offsets}
@@ -8,6 +8,10 @@ use Rattle.wasm_remap.specs.declared.spaces.IndexSpace.{IndexSpace}
 -- For each index space, the new index of each old one.
 abbrev pub Mapping : Type 0
 Mapping = IndexSpace → ℕ → ℕ
+
+-- The new indices are below 2^32.
+abbrev pub IsSmall : Mapping → Type 0
+IsSmall m = (space : IndexSpace) (n : ℕ) → n < 2 ^ 32 → m space n < 2 ^ 32
 
 -- A number, which is an index if it has an index space.
 abbrev pub mapped_in : Mapping → Option IndexSpace → ℕ → ℕ

@@ -1,9 +1,11 @@
 // Items of custom sections whose indices are mapped.
-ghost use Rattle.std.specs.Prelude.{◌≡◌, ℕ, List, IfOk, IfErr, Option};
+ghost use Rattle.std.specs.Prelude.{◌≡◌, ℕ, List, IfOk, IfErr, OnOk, Option, map};
 ghost use Rattle.wasm_custom.specs.Words.{Comdat as ComdatModel, Hints, LinkItem as LinkModel, NameItem as NameModel, Symbol as SymbolModel, comdat_view, hints_view, link_view, name_item_view};
+ghost use Rattle.wasm_custom.specs.Names.{id_of, inside_view, names_view};
 ghost use Rattle.wasm_custom.specs.Symbols.{symbol_view};
 ghost use Rattle.wasm_custom.specs.declared.comdats.ComdatSymbol.{ComdatSymbol};
 ghost use Rattle.wasm_custom.specs.declared.relocations.Relocation.{Relocation};
+ghost use Rattle.wasm_remap.specs.Mapping.{ComesFrom, mapped_first};
 ghost use Rattle.wasm_remap.specs.Customs.{comdat_spaces, name_spaces, remapped_comdat, remapped_hints, remapped_link, remapped_member, remapped_name, remapped_relocation, remapped_symbol, space_among, space_of_relocation as relocation_space};
 
 use crate::indexed::{Indexed, Remap, RemapError, mapped, mapped_number, remap_each, remap_firsts};
@@ -30,6 +32,44 @@ fn space_of_names(id: u8) -> Option<IndexSpace>
     }
 }
 
+/// Returns the index space of the indices of a subsection, or of the outer ones.
+fn space_of_subsection<A: Allocator>(item: &NameItem<'_, A>) -> Option<IndexSpace>
+    ensures { result ≡ space_among name_spaces (id_of (name_item_view item.now)) }
+{
+    match item {
+        NameItem::Module(_) => None,
+        NameItem::Map { id, .. } | NameItem::Indirect { id, .. } | NameItem::Other { id, .. } => {
+            space_of_names(*id)
+        }
+    }
+}
+
+/// Maps the indices of a name map.
+#[tactic(auto, using(crate::proofs::FirstLaws::names_mapped))]
+fn remap_names<M: Remap>(
+    names: &mut [(u32, &str)],
+    space: Option<IndexSpace>,
+    indices: &M,
+) -> Result<(), RemapError<M::Error>>
+    ensures ok { OnOk result (names_view names.new ≡ map (mapped_first (M.mapped indices.now) space) (names_view names.old)) }
+    ensures err { IfErr result (λ e. ComesFrom (M.rejects indices.now) e) }
+{
+    remap_firsts(names, space, indices)
+}
+
+/// Maps the outer indices of an indirect name map.
+#[tactic(auto, using(crate::proofs::FirstLaws::maps_mapped))]
+fn remap_maps<A: Allocator, M: Remap>(
+    maps: &mut [(u32, Vec<(u32, &str), A>)],
+    space: Option<IndexSpace>,
+    indices: &M,
+) -> Result<(), RemapError<M::Error>>
+    ensures ok { OnOk result (map inside_view maps.new ≡ map (mapped_first (M.mapped indices.now) space) (map inside_view maps.old)) }
+    ensures err { IfErr result (λ e. ComesFrom (M.rejects indices.now) e) }
+{
+    remap_firsts(maps, space, indices)
+}
+
 impl<A: Allocator + Copy> Indexed<A> for NameItem<'_, A> {
     ghost Value = { NameModel };
 
@@ -38,10 +78,11 @@ impl<A: Allocator + Copy> Indexed<A> for NameItem<'_, A> {
     ghost remapped = { remapped_name };
 
     fn remap<M: Remap>(&mut self, _alloc: A, indices: &M) -> Result<(), RemapError<M::Error>> {
+        let space = space_of_subsection(self);
         match self {
             NameItem::Module(_) | NameItem::Other { .. } => Ok(()),
-            NameItem::Map { id, names } => remap_firsts(names, space_of_names(*id), indices),
-            NameItem::Indirect { id, maps } => remap_firsts(maps, space_of_names(*id), indices),
+            NameItem::Map { names, .. } => remap_names(names, space, indices),
+            NameItem::Indirect { maps, .. } => remap_maps(maps, space, indices),
         }
     }
 }
