@@ -1,8 +1,8 @@
 -- This file proves of formats that builders encode each value of the standard's grammar, in at most
 -- twice as many bytes.
 use Rattle.wasm_base.proofs.Words.{◌≡◌, ℕ, ◌*◌, ◌≤◌, ◌<◌, List, [], ◌∷◌, ◌++◌, length, Bool, true, false, Option, Some, None, eqb, inl, inr, refl, sym, ap, subst, arith, length-append, eqb-true, ◌∙◌}
-use Rattle.wasm_base.specs.Formats.{Format, u32, u64, s32, s64, s33, byte, raw_bytes, any_bytes, little_endian, fixed, impossible, such, when, mapped, Then, pair, tagged, choice, prefixed, members, vec}
-use Rattle.wasm_base.specs.Formats.{size_prefixed, ended, optional, one_of, coded, numbered, name, vector_format}
+use Rattle.wasm_base.specs.Formats.{Format, u32, u64, s32, s64, s33, byte, raw_bytes, little_endian, fixed, impossible, such, when, mapped, Then, pair, tagged, choice, prefixed, members, vec}
+use Rattle.wasm_base.specs.Formats.{ended, optional, one_of, coded, numbered, name, vector_format}
 use Rattle.wasm_base.specs.Numbers.{builders, minimal, standard_minimal}
 use Rattle.wasm_base.specs.Types.{abstract_code, unshared, shared, heap_tags, heap_type, nullable_to, to, HasNoByte, HasNoCode, nullable_abstract, tight_tags, ref_encoding, ref_type, val_tags, val_type}
 use Rattle.wasm_base.specs.declared.types.HeapType.{HeapType}

@@ -1,26 +1,25 @@
 -- This file proves of kinds of sections that builders encode each content of the standard's grammar,
 -- but for long code sections.
 use Rattle.wasm_base.proofs.Words.{◌≡◌, ℕ, ◌+◌, ◌^◌, ◌<◌, ◌≤◌, List, [], ◌∷◌, ◌++◌, length, Bool, true, false, refl, sym, ap, subst, ◌∙◌, arith, length-append}
-use Rattle.wasm_base.specs.Formats.{Format, byte, u32, fixed, mapped, tagged, such, name, pair, members, vec, size_prefixed, impossible}
-use Rattle.wasm_base.specs.Numbers.{Grammar, Mode, builders, admitted, minimal, padded, standard_minimal, standard, unsigned_encoding, padded_of}
+use Rattle.wasm_base.specs.Formats.{Format, byte, u32, mapped, tagged, pair, members, vec, size_prefixed, impossible}
+use Rattle.wasm_base.specs.Numbers.{Grammar, builders, admitted, minimal, padded, standard_minimal, standard, unsigned_encoding, padded_of}
 use Rattle.wasm_base.specs.Minimal.{Grammars, Includes, builders_alone, both_grammars}
 use Rattle.wasm_base.proofs.Words.{u32_encodes}
 use Rattle.wasm_code.specs.Bodies.{Body, body}
-use Rattle.wasm_code.specs.Expressions.{expression}
 use Rattle.wasm_immediates.specs.ImmediateFormats.{HasIndex}
 use Rattle.wasm_sections.specs.DataSegments.{in_first, in_memory, data_tags, data_in, data_item}
 use Rattle.wasm_sections.specs.Elements.{ElementFlag, flag_code, has_kind, segment_mode, in_table, in_no_table, list_of, functions, elements_as, segment_of, element}
 use Rattle.wasm_sections.specs.Globals.{global_of, global_type, global_from, global_item}
-use Rattle.wasm_sections.specs.Imports.{entity_tags, entity, group_tags, group, single, named, alike_of, named_entity, after_module, import_of, import_format}
+use Rattle.wasm_sections.specs.Imports.{entity_tags, entity, group_tags, group, single, named, alike_of, import_of, import_format}
 use Rattle.wasm_sections.specs.Memories.{memory_of, memory_type}
 use Rattle.wasm_sections.specs.Tables.{limits_of, limits, table_of, table_type, without_init, with_init, before_init, table_item}
 use Rattle.wasm_sections.specs.Tags.{tag_of, tag_type}
-use Rattle.wasm_types.specs.RecTypes.{storage_tags, packed_type, storage_type, field_of, field_type, func_of, shape_tags, after_shape, given_index, no_index, with_index, after_descriptor, after_describes, composite_of, after_composite, composite_type, sub_of}
-use Rattle.wasm_types.specs.RecTypes.{alone_of, supertypes_and, HasFinalPrefix, sub_tags, after_alone, prefixed_sub, sub_type, group_tags as rec_tags, group_type, type_item}
+use Rattle.wasm_types.specs.RecTypes.{storage_tags, field_of, field_type, func_of, shape_tags, after_shape, given_index, no_index, with_index, after_descriptor, after_describes, composite_of, after_composite, sub_of}
+use Rattle.wasm_types.specs.RecTypes.{alone_of, supertypes_and, HasFinalPrefix, sub_tags, after_alone, prefixed_sub, sub_type, group_tags as rec_tags, type_item}
 use Rattle.wasm_reader.specs.{Contents, content, grammars_of, kind_in, Extends, HasContentIn, HasShortBodies}
 use Rattle.wasm_reader.specs.declared.kinds.SectionKind.{SectionKind}
 use Rattle.wasm_reader.specs.declared.kinds.SectionKind.TheVariants as kinds
-use Rattle.wasm_reader.proofs.BuiltForms.{AreBuilt, BuiltForm, u32_same, u32_built, u64_built, s33_built, byte_built, name_built, fixed_built, coded_built, numbered_built, such_built, when_built, mapped_built, pair_built, tagged_built}
+use Rattle.wasm_reader.proofs.BuiltForms.{AreBuilt, u32_same, u32_built, u64_built, s33_built, byte_built, name_built, fixed_built, coded_built, numbered_built, such_built, when_built, mapped_built, pair_built, tagged_built}
 use Rattle.wasm_reader.proofs.BuiltForms.{prefixed_built, choice_built, selected_built, choices_built, one_of_built, optional_built, vec_built, impossible_built, ref_built, val_built, expression_built, body_built}
 use Rattle.wasm_reader.proofs.KindLaws.{content_whole}
 
