@@ -2,3 +2,4 @@
 pub mod Common
 pub mod IteratedLaws
 pub mod ObjectLaws
+pub mod RemappedLaws

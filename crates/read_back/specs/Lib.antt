@@ -7,6 +7,7 @@ pub mod Objects
 pub mod FirstValues
 pub mod Handed
 pub mod Iterated
+pub mod Remapped
 pub mod ReadPadded
 pub mod Relocated
 pub mod Stored

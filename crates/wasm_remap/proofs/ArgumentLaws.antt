@@ -1,5 +1,5 @@
 -- This file proves the steps of the loop that maps the immediates of an instruction.
-use Rattle.std.proofs.Common.{◌≡◌, ℕ, List, map, take, drop, ◌+◌, ◌<◌, ◌++◌, ◌∷◌, [], length, slice_set, slice_index_or, arith, ap, ap₂, sym, subst, ◌∙◌}
+use Rattle.std.proofs.Common.{◌≡◌, ℕ, List, map, take, drop, ◌+◌, ◌<◌, ◌++◌, ◌∷◌, [], length, slice_set, slice_index_or, arith, ap, ap₂, sym, ◌∙◌}
 use Rattle.std.proofs.lemmas.List.{take_more_set, drop_more, drop-set-lt, map-append, append_assoc}
 use Rattle.wasm_insn.specs.Views.{argument_view}
 use Rattle.wasm_insn.specs.declared.arguments.Arg.{Arg}
@@ -25,7 +25,7 @@ argument_step m all old now k s after x d lt h v e =
     let first : map argument_view (take (k + 1) (slice_set now k x)) ≡ done ++ argument_view x ∷ [] = ap (map argument_view) (take_more_set now k x lt) ∙ map-append argument_view (take k now) (x ∷ []) in
     let ahead : remapped_arguments m all (map argument_view old) ≡ done ++ remapped_arguments m s (map argument_view (y ∷ rest)) = h.mapped ∙ ap (λ z. done ++ remapped_arguments m s (map argument_view z)) (drop_more now k d lt) in
     let split : done ++ remapped_arguments m s (map argument_view (y ∷ rest)) ≡ (done ++ argument_view x ∷ []) ++ remapped_arguments m after (map argument_view rest) =
-        ap₂ (λ z w. done ++ z ∷ remapped_arguments m w (map argument_view rest)) (sym v) (sym e) ∙ sym (append_assoc done (argument_view x ∷ []) (remapped_arguments m after (map argument_view rest))) in
+    ap₂ (λ z w. done ++ z ∷ remapped_arguments m w (map argument_view rest)) (sym v) (sym e) ∙ sym (append_assoc done (argument_view x ∷ []) (remapped_arguments m after (map argument_view rest))) in
     record {
       others = set ∙ tails now old k d lt h.others;
       mapped = ahead ∙ split ∙ ap₂ (λ z w. z ++ remapped_arguments m after (map argument_view w)) (sym first) (sym set);

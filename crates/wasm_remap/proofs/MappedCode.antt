@@ -1,15 +1,14 @@
 -- This file proves that types, instructions and bodies have an encoding after a map of their indices.
-use Rattle.wasm_base.proofs.Words.{◌≡◌, ℕ, zero, suc, ◌+◌, ◌*◌, ◌^◌, ◌≤◌, ◌<◌, lit<, Bool, true, false, List, [], ◌∷◌, ◌++◌, length, map, Option, Some, None, refl, sym, ap, subst, ◌∙◌, arith, length-append, optional_encoding, u64_encodes}
-use Rattle.wasm_base.specs.Formats.{Format, u32, fixed, impossible, mapped, pair, vec, members, optional}
-use Rattle.wasm_base.specs.Numbers.{minimal, standard_minimal, unsigned_encoding, builders}
-use Rattle.wasm_base.specs.Types.{abstract_code, abstract_type, unshared, shared, heap_tags, heap_type, nullable_to, to, HasNoCode, nullable_abstract, tight_tags, tight_ref, ref_type, val_tags, val_type}
+use Rattle.wasm_base.proofs.Words.{◌≡◌, ℕ, zero, suc, ◌^◌, ◌≤◌, ◌<◌, lit<, Bool, true, false, List, [], ◌∷◌, ◌++◌, length, map, Option, Some, None, refl, ap, subst, arith, length-append, optional_encoding}
+use Rattle.wasm_base.specs.Formats.{u32}
+use Rattle.wasm_base.specs.Numbers.{minimal, standard_minimal, unsigned_encoding}
+use Rattle.wasm_base.specs.Types.{unshared, shared, heap_tags, heap_type, nullable_to, to, HasNoCode, nullable_abstract, tight_tags, tight_ref, ref_type, val_tags, val_type}
 use Rattle.wasm_base.specs.declared.types.HeapType.{HeapType}
 use Rattle.wasm_base.specs.declared.types.HeapType.TheVariants.{Abstract, Concrete, Exact}
-use Rattle.wasm_base.specs.declared.types.RefType.{RefType}
 use Rattle.wasm_base.specs.declared.types.ValType.TheVariants.{Ref}
 use Rattle.wasm_base.proofs.NumberEncodings.{length-groups_encoding-le}
 use Rattle.wasm_immediates.specs.Immediates.{has_memory, has_ordering, index_of, is_array, mem_flags, where_set, mem_arg_encoding, mem_ordering_code}
-use Rattle.wasm_immediates.specs.ImmediateFormats.{IsNormalMemory, IsWellFormedMemory, IsWellFormedTarget, normal_memory, block_type, mem_arg, one_of_pair, one_ref_of_pair, catch_tags, catch, on_label_of_pair, handle_tags, handle}
+use Rattle.wasm_immediates.specs.ImmediateFormats.{IsWellFormedMemory, IsWellFormedTarget, normal_memory, block_type, mem_arg, one_of_pair, one_ref_of_pair, catch_tags, catch, on_label_of_pair, handle_tags, handle}
 use Rattle.wasm_immediates.specs.declared.block_type.BlockType.TheVariants as blocks
 use Rattle.wasm_immediates.specs.declared.control.Catch.TheVariants.{All, AllRef}
 use Rattle.wasm_immediates.specs.declared.control.Handle.TheVariants.{OnSwitch}
@@ -34,7 +33,7 @@ use Rattle.wasm_remap.specs.Mapping.{Mapping, IsSmall, mapped_in}
 use Rattle.wasm_remap.specs.Spaces.{Spaces, spaces_of}
 use Rattle.wasm_remap.specs.declared.spaces.IndexSpace.{IndexSpace}
 use Rattle.wasm_remap.specs.declared.spaces.IndexSpace.TheVariants as spaces
-use Rattle.wasm_remap.proofs.MappedForms.{Maps, MappedForm, kept, fixed_maps, impossible_maps, such_maps, ended_maps, mapped_maps, pair_maps, then_maps, selected_maps, one_of_maps, members_maps, vec_maps, u32_maps, s33_maps, number_length, some_groups}
+use Rattle.wasm_remap.proofs.MappedForms.{Maps, kept, fixed_maps, impossible_maps, such_maps, ended_maps, mapped_maps, pair_maps, then_maps, selected_maps, one_of_maps, members_maps, vec_maps, u32_maps, s33_maps, number_length, some_groups}
 use Rattle.std.specs.Int.Bits.{bit_or}
 use Rattle.std.proofs.lemmas.Nat.{or_lt}
 
@@ -80,8 +79,8 @@ module _ (m : Mapping) (small : IsSmall m) where
 
   heap_maps : Maps (remapped_heap m) heap_type
   heap_maps = one_of_maps (mapped_maps unshared (λ ty. ty) (λ ty. refl) kept) (one_of_maps
-    (selected_maps heap_tags (mapped_maps shared (λ ty. ty) (λ ty. refl) kept, (mapped_maps Exact (m spaces.Types) (λ n. refl) (index_maps spaces.Types), tt)))
-    (mapped_maps Concrete (m spaces.Types) (λ n. refl) (s33_maps (m spaces.Types) (small spaces.Types))))
+      (selected_maps heap_tags (mapped_maps shared (λ ty. ty) (λ ty. refl) kept, (mapped_maps Exact (m spaces.Types) (λ n. refl) (index_maps spaces.Types), tt)))
+      (mapped_maps Concrete (m spaces.Types) (λ n. refl) (s33_maps (m spaces.Types) (small spaces.Types))))
 
   no_code : (h : HeapType) → HasNoCode h → HasNoCode (remapped_heap m h)
   no_code (Abstract false ty) n = elim n [ ]
@@ -91,7 +90,7 @@ module _ (m : Mapping) (small : IsSmall m) where
 
   tight_maps : Maps (remapped_ref m) tight_ref
   tight_maps = one_of_maps (mapped_maps nullable_abstract (λ ty. ty) (λ ty. refl) kept)
-    (selected_maps tight_tags (mapped_maps nullable_to (remapped_heap m) (λ h. refl) (such_maps HasNoCode no_code heap_maps), (mapped_maps to (remapped_heap m) (λ h. refl) heap_maps, tt)))
+      (selected_maps tight_tags (mapped_maps nullable_to (remapped_heap m) (λ h. refl) (such_maps HasNoCode no_code heap_maps), (mapped_maps to (remapped_heap m) (λ h. refl) heap_maps, tt)))
 
   pub ref_maps : Maps (remapped_ref m) ref_type
   ref_maps = record { form = λ s r l h. tight_maps.form s r l h }

@@ -1,14 +1,13 @@
 -- This file proves that the items of custom sections have an encoding after a map of their indices.
-use Rattle.wasm_base.proofs.Words.{ℕ, List, [], ◌∷◌, map, Option, Some, None, true, false, refl}
+use Rattle.wasm_base.proofs.Words.{ℕ, map, Option, Some, refl}
 use Rattle.std.specs.Option.{option_map}
-use Rattle.wasm_base.specs.Formats.{Format, u32, byte, mapped, pair, vec, name, size_prefixed}
+use Rattle.wasm_base.specs.Formats.{Format, u32, pair}
 use Rattle.wasm_custom.specs.Comdats.{comdat_symbol_of, comdat_symbol, comdat_of, comdat}
-use Rattle.wasm_custom.specs.Entries.{entries}
-use Rattle.wasm_custom.specs.Hints.{hints, hints_payload}
+use Rattle.wasm_custom.specs.Hints.{hints_payload}
 use Rattle.wasm_custom.specs.Linking.{Segments, InitFunctions, Comdats, Symbols, Target, OtherLink, full_link_tags, other_link, full_link, link, linking_payload}
-use Rattle.wasm_custom.specs.Names.{Module, Map, Indirect, Other, NameKind, of_module, of_map, of_indirect, of_other, naming, name_kind_of, after_id, subsection, name_payload}
-use Rattle.wasm_custom.specs.Relocations.{plain_of, addend32_of, addend64_of, after_kind, relocation, relocations_payload}
-use Rattle.wasm_custom.specs.Symbols.{definition_of, definition, indexed_of, data_of, indexed_symbol, data_symbol, of_section, section_symbol, full_symbol_tags, full_symbol, has_name, has_definition}
+use Rattle.wasm_custom.specs.Names.{Module, Map, Indirect, Other, NameKind, of_module, of_map, of_indirect, of_other, name_kind_of, after_id, name_payload}
+use Rattle.wasm_custom.specs.Relocations.{plain_of, addend32_of, addend64_of, after_kind, relocations_payload}
+use Rattle.wasm_custom.specs.Symbols.{definition_of, definition, indexed_of, data_of, indexed_symbol, data_symbol, of_section, section_symbol, full_symbol_tags, full_symbol, has_definition}
 use Rattle.wasm_custom.specs.declared.relocations.RelocationKind.{RelocationKind}
 use Rattle.wasm_custom.specs.declared.relocations.RelocationKind.TheVariants as kinds
 use Rattle.wasm_custom.specs.declared.symbols.SymbolKind.{SymbolKind}
@@ -18,7 +17,7 @@ use Rattle.wasm_remap.specs.Mapping.{Mapping, IsSmall, mapped_first, mapped_in}
 use Rattle.wasm_remap.specs.declared.spaces.IndexSpace.{IndexSpace}
 use Rattle.wasm_remap.specs.declared.spaces.IndexSpace.TheVariants as spaces
 use Rattle.wasm_remap.proofs.MappedCode.{index_maps, number_maps}
-use Rattle.wasm_remap.proofs.MappedForms.{Maps, kept, when_maps, mapped_maps, pair_maps, then_maps, tagged_maps, choice_maps, selected_maps, optional_maps, members_maps, vec_maps, size_prefixed_maps}
+use Rattle.wasm_remap.proofs.MappedForms.{Maps, kept, mapped_maps, pair_maps, then_maps, tagged_maps, choice_maps, selected_maps, optional_maps, members_maps, vec_maps, size_prefixed_maps}
 
 module _ (m : Mapping) (small : IsSmall m) where
   -- ---- names

@@ -1,15 +1,13 @@
 -- This file proves of formats that a value has an encoding after a map of its indices, of at most 32
 -- times as many bytes.
-use Rattle.wasm_base.proofs.Words.{◌≡◌, ℕ, ◌+◌, ◌*◌, ◌^◌, ◌≤◌, ◌<◌, List, [], ◌∷◌, ◌++◌, length, map, Bool, true, false, Option, Some, None, eqb, inl, inr, refl, sym, ap, subst, ◌∙◌, arith, length-append, lit<, index_is, pos}
+use Rattle.wasm_base.proofs.Words.{◌≡◌, ℕ, ◌+◌, ◌*◌, ◌^◌, ◌≤◌, ◌<◌, List, [], ◌∷◌, ◌++◌, length, map, Bool, true, false, Some, None, eqb, inl, inr, refl, sym, ap, subst, ◌∙◌, arith, length-append, lit<, index_is, pos}
 use Rattle.std.specs.Option.{option_map}
 use Rattle.std.proofs.lemmas.List.{length-map}
-use Rattle.wasm_base.specs.Formats.{Format, u32, s33, byte, fixed, impossible, such, when, mapped, Then, pair, tagged, choice, prefixed, members, vec, size_prefixed, SizePrefixed, ended, optional, one_of, is_given}
-use Rattle.wasm_base.specs.Numbers.{standard_minimal, minimal, unsigned_encoding, signed_encoding, AreGroups}
-use Rattle.wasm_base.proofs.EncodingLaws.{u32_encodes, s33_encodes, tagged_encodes}
+use Rattle.wasm_base.specs.Formats.{Format, u32, s33, fixed, impossible, such, when, mapped, Then, pair, tagged, choice, prefixed, members, vec, size_prefixed, ended, optional, one_of}
+use Rattle.wasm_base.specs.Numbers.{standard_minimal, unsigned_encoding, signed_encoding, AreGroups}
+use Rattle.wasm_base.proofs.EncodingLaws.{u32_encodes, s33_encodes}
 use Rattle.wasm_base.proofs.NumberEncodings.{length-groups_encoding-le}
 use Rattle.wasm_base.proofs.GrammarLaws.{u32_both, s33_both}
-use Rattle.wasm_remap.specs.Mapping.{Mapping, mapped_in}
-use Rattle.wasm_remap.specs.declared.spaces.IndexSpace.{IndexSpace}
 
 -- The bytes are the minimal encoding of the value in the standard's grammar, and at most 32 times as
 -- many as `n`.
@@ -168,7 +166,9 @@ size_prefixed_maps {f = f} {F = F} k = record {
       let size : length s ≡ length h.front + length h.content = ap length h.joined ∙ length-append h.front h.content in
       let a = k.form h.content x (omega (arith, l, size)) h.encodes in
       let small : length a.0 < 2 ^ 32 = omega (arith, a.2, l, size) in
-      let front = unsigned_encoding (length a.0) in
-      (front ++ a.0, record { front = front; content = a.0; joined = refl; size = u32_both.same front (length a.0) (u32_encodes (length a.0) small); encodes = a.1 },
-      omega (arith, length-append front a.0, number_length (length a.0) small, some_groups h.front h.size.groups, a.2, size));
+      let front = unsigned_encoding (length a.0) in (
+        front ++ a.0,
+        record { front = front; content = a.0; joined = refl; size = u32_both.same front (length a.0) (u32_encodes (length a.0) small); encodes = a.1 },
+        omega (arith, length-append front a.0, number_length (length a.0) small, some_groups h.front h.size.groups, a.2, size),
+      );
 }

@@ -1,11 +1,11 @@
 -- This file proves that the entries of a type section have an encoding after a map of their indices.
-use Rattle.wasm_base.proofs.Words.{◌≡◌, ℕ, ◌+◌, ◌<◌, List, [], ◌∷◌, length, map, Option, Some, true, false, refl, sym, subst}
+use Rattle.wasm_base.proofs.Words.{ℕ, ◌<◌, List, [], ◌∷◌, map, true, false, refl, sym, subst}
 use Rattle.std.specs.Option.{option_map}
 use Rattle.std.proofs.lemmas.List.{length-map}
-use Rattle.wasm_base.specs.Formats.{Format, u32, byte, mapped, tagged, impossible, pair, vec}
+use Rattle.wasm_base.specs.Formats.{Format, u32, byte, mapped, tagged, impossible, pair}
 use Rattle.wasm_base.specs.Numbers.{builders}
-use Rattle.wasm_types.specs.RecTypes.{storage_tags, packed_type, storage_type, field_of, field_type, func_of, array, structure, cont, shape_tags, after_shape, given_index, no_index, with_index, after_descriptor, after_describes, composite_of}
-use Rattle.wasm_types.specs.RecTypes.{after_composite, composite_type, sub_of, alone_of, supertypes_and, HasFinalPrefix, sub_tags, after_alone, prefixed_sub, sub_type, group_tags, single, group, type_item, Shape, Composite}
+use Rattle.wasm_types.specs.RecTypes.{storage_tags, storage_type, field_of, field_type, func_of, array, structure, cont, shape_tags, after_shape, given_index, no_index, with_index, after_descriptor, after_describes, composite_of}
+use Rattle.wasm_types.specs.RecTypes.{after_composite, sub_of, alone_of, supertypes_and, HasFinalPrefix, sub_tags, after_alone, prefixed_sub, sub_type, group_tags, single, group, type_item, Composite}
 use Rattle.wasm_types.specs.declared.types.StorageType.TheVariants.{Val}
 use Rattle.wasm_remap.specs.Instructions.{remapped_val}
 use Rattle.wasm_remap.specs.Mapping.{Mapping, IsSmall}
@@ -42,7 +42,7 @@ module _ (m : Mapping) (small : IsSmall m) where
 
   composite_maps : (b : ℕ) → Maps (remapped_composite m) (after_composite b)
   composite_maps b = choice_maps ((0x65, mapped (composite_of true) (tagged byte after_describes)) ∷ []) (λ c. mapped (composite_of false) (after_describes c)) (mapped_maps (composite_of true) _ (λ p. refl) (tagged_maps describes_maps), tt)
-    (λ c. mapped_maps (composite_of false) _ (λ p. refl) (describes_maps c)) b
+      (λ c. mapped_maps (composite_of false) _ (λ p. refl) (describes_maps c)) b
 
   supertypes_maps : Maps (λ p. (map (m spaces.Types) p.0, remapped_composite m p.1)) supertypes_and
   supertypes_maps = pair_maps (vec_maps (index_maps m small spaces.Types)) (λ ns. tagged_maps composite_maps)

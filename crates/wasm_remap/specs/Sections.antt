@@ -1,6 +1,6 @@
 -- This file defines what a map of indices makes of the content of a section, and the promises of the
 -- calls that map.
-use Rattle.std.specs.Prelude.{◌≡◌, ◌⊎◌, ℕ, List, [], ◌∷◌, true, false, map}
+use Rattle.std.specs.Prelude.{◌≡◌, ◌⊎◌, ℕ, ◌<◌, ◌^◌, List, [], ◌∷◌, length, true, false, map}
 use Rattle.std.specs.List.{AllByRecursion}
 use Rattle.wasm_base.specs.Words.{admitted, standard, wasm_module, DecodesWhole}
 use Rattle.wasm_reader.specs.Outlines.{HasSections}
@@ -9,12 +9,12 @@ use Rattle.wasm_reader.specs.declared.whole.Offsets.{Offsets}
 use Rattle.wasm_reader.specs.declared.whole.Offsets.TheVariants.{Refuse}
 use Rattle.wasm_reader.specs.Kinds.{Contents, content, Bodies, Segments, DataCount, Elements, Exports, Functions, Globals, Imports, Memories, Start, Tables, Tags, Names, Linking, Producers, Hints, Core, CoreModules, CoreInstances}
 use Rattle.wasm_reader.specs.Kinds.{CoreStack, Custom, Raw, Types, TargetFeatures, SourceMappingUrl, ExternalDebugInfo, BuildId, Dylink, Relocations}
-use Rattle.wasm_reader.specs.Sections.{AppendsContentIn}
+use Rattle.wasm_reader.specs.Sections.{AppendsContentIn, HasContentIn}
 use Rattle.wasm_reader.specs.Words.{Section, section_kind_of}
 use Rattle.wasm_remap.specs.Customs.{remapped_hints, remapped_link, remapped_name, remapped_relocation}
 use Rattle.wasm_remap.specs.Instructions.{remapped_body}
 use Rattle.wasm_remap.specs.Items.{remapped_data, remapped_element, remapped_export, remapped_global, remapped_import, remapped_table, remapped_tag}
-use Rattle.wasm_remap.specs.Mapping.{Mapping}
+use Rattle.wasm_remap.specs.Mapping.{Mapping, IsSmall}
 use Rattle.wasm_remap.specs.Types.{remapped_type}
 use Rattle.wasm_remap.specs.declared.spaces.IndexSpace.TheVariants as spaces
 
@@ -52,11 +52,13 @@ remapped m (Dylink xs) = Dylink xs
 remapped m (Relocations x) = Relocations (x.0, (x.1.0, map (remapped_relocation m) x.1.1))
 
 -- The section decodes to items, and the buffer gains the minimal encoding of these items with each
--- index mapped.
+-- index mapped, if they have one. They have if the new indices are below 2^32, and the section has
+-- fewer than 2^26 bytes, so that no size prefix is too long.
 pub record RemapsSection (m : Mapping) (s : Section) (old new : List ℕ) : Type 0 where
   pub items : Contents
   pub decoded : content (section_kind_of s) standard s.payload items
   pub appended : AppendsContentIn admitted (remapped m items) old new
+  pub has : IsSmall m → length s.payload < 2 ^ 26 → HasContentIn admitted (remapped m items)
 
 -- ---- modules
 

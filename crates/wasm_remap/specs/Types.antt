@@ -1,5 +1,5 @@
 -- This file defines what a map of indices makes of the entries of a type section.
-use Rattle.std.specs.Prelude.{List, map}
+use Rattle.std.specs.Prelude.{map}
 use Rattle.std.specs.Option.{option_map}
 use Rattle.wasm_types.specs.RecTypes.{Shape, func, array, structure, cont, Composite, Sub, TypeItem, single, group}
 use Rattle.wasm_types.specs.declared.types.FieldType.{FieldType}

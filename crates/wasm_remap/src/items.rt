@@ -62,10 +62,17 @@ pub fn remap_items<A: Allocator + Copy, M: Remap>(
 /// Decodes the items of a section, maps each index, and appends the minimal encoding of the items
 /// as a payload. On an error, the sink is unchanged.
 ///
+/// ```text
+/// let mut payload = Vec::new(alloc);
+/// remap_section(&section, alloc, &indices, &mut payload)?;
+/// module.section(&RawSection { id: section.id(), bytes: &payload })?;
+/// ```
+///
 /// # Errors
 ///
 /// Returns `Read` if the section does not decode, `Index` with the error of the map if it rejects an
 /// index, and `Refused` if an encoding is too long or an allocation fails.
+#[tactic(auto, using(crate::proofs::MappedSections::section_remapped))]
 pub fn remap_section<A: Allocator + Copy, M: Remap, B: Allocator>(
     section: &Section<'_, A>,
     alloc: A,

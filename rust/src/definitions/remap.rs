@@ -537,6 +537,15 @@ pub trait mapping {
     /// Mapping = IndexSpace → ℕ → ℕ
     /// ```
     type Mapping;
+    /// The new indices are below 2^32.
+    ///
+    /// ```text
+    /// abbrev pub IsSmall : Mapping → Type 0
+    /// IsSmall m = (space : IndexSpace) (n : ℕ) → n < 2 ^ 32 → m space n < 2 ^ 32
+    /// ```
+    ///
+    /// Definitions: [`Mapping`](mapping::Mapping).
+    type IsSmall;
     /// A number, which is an index if it has an index space.
     ///
     /// ```text
@@ -613,16 +622,18 @@ pub trait sections {
     ///
     /// Definitions: [`Mapping`](mapping::Mapping), [`Contents`](super::reader::kinds::Contents), [`Bodies`](super::reader::kinds::Contents), [`remapped_body`](instructions::remapped_body), [`Segments`](super::reader::kinds::Contents), [`remapped_data`](items::remapped_data), [`DataCount`](super::reader::kinds::Contents), [`Elements`](super::reader::kinds::Contents), [`remapped_element`](items::remapped_element), [`Exports`](super::reader::kinds::Contents), [`remapped_export`](items::remapped_export), [`Functions`](super::reader::kinds::Contents), [`Globals`](super::reader::kinds::Contents), [`remapped_global`](items::remapped_global), [`Imports`](super::reader::kinds::Contents), [`remapped_import`](items::remapped_import), [`Memories`](super::reader::kinds::Contents), [`Start`](super::reader::kinds::Contents), [`Tables`](super::reader::kinds::Contents), [`remapped_table`](items::remapped_table), [`Tags`](super::reader::kinds::Contents), [`remapped_tag`](items::remapped_tag), [`Names`](super::reader::kinds::Contents), [`remapped_name`](customs::remapped_name), [`Linking`](super::reader::kinds::Contents), [`remapped_link`](customs::remapped_link), [`Producers`](super::reader::kinds::Contents), [`Hints`](super::reader::kinds::Contents), [`remapped_hints`](customs::remapped_hints), [`Core`](super::reader::kinds::Contents), [`CoreModules`](super::reader::kinds::Contents), [`CoreInstances`](super::reader::kinds::Contents), [`CoreStack`](super::reader::kinds::Contents), [`Custom`](super::reader::kinds::Contents), [`Raw`](super::reader::kinds::Contents), [`Types`](super::reader::kinds::Contents), [`remapped_type`](types::remapped_type), [`TargetFeatures`](super::reader::kinds::Contents), [`SourceMappingUrl`](super::reader::kinds::Contents), [`ExternalDebugInfo`](super::reader::kinds::Contents), [`BuildId`](super::reader::kinds::Contents), [`Dylink`](super::reader::kinds::Contents), [`Relocations`](super::reader::kinds::Contents), [`remapped_relocation`](customs::remapped_relocation).
     type remapped;
-    /// The section decodes to items, and the buffer gains the minimal encoding of these items with each index mapped.
+    /// The section decodes to items, and the buffer gains the minimal encoding of these items with each index mapped, if they have one. They have if the new indices are below 2^32, and the section has fewer than 2^26 bytes, so that no size prefix is too long.
     ///
     /// ```text
     /// pub record RemapsSection (m : Mapping) (s : Section) (old new : List ℕ) : Type 0 where
     ///   pub items : Contents
     ///   pub decoded : content (section_kind_of s) standard s.payload items
     ///   pub appended : AppendsContentIn admitted (remapped m items) old new
+    ///   pub has : IsSmall m → length s.payload < 2 ^ 26
+    ///       → HasContentIn admitted (remapped m items)
     /// ```
     ///
-    /// Definitions: [`Mapping`](mapping::Mapping), [`Section`](super::reader::outlines::Section), [`Contents`](super::reader::kinds::Contents), [`content`](super::reader::kinds::content), [`section_kind_of`](super::reader::outlines::section_kind_of), [`standard`](super::base::numbers::Mode), [`AppendsContentIn`](super::reader::sections::AppendsContentIn), [`admitted`](super::base::numbers::Grammar), [`remapped`](sections::remapped).
+    /// Definitions: [`Mapping`](mapping::Mapping), [`Section`](super::reader::outlines::Section), [`Contents`](super::reader::kinds::Contents), [`content`](super::reader::kinds::content), [`section_kind_of`](super::reader::outlines::section_kind_of), [`standard`](super::base::numbers::Mode), [`AppendsContentIn`](super::reader::sections::AppendsContentIn), [`admitted`](super::base::numbers::Grammar), [`remapped`](sections::remapped), [`IsSmall`](mapping::IsSmall), [`HasContentIn`](super::reader::sections::HasContentIn).
     type RemapsSection;
     /// The sections of the new module for those of the old one, each an id and a payload: the payload has the items with each index mapped. Sections that hold offsets are left out.
     ///
@@ -759,36 +770,45 @@ pub trait spaces {
     /// has_number n r = nat_le r.0 n && nat_le n r.1
     /// ```
     type has_number;
-    /// The index spaces of a run, and none without a run.
-    ///
-    /// ```text
-    /// abbrev pub spaces_at : Option Run → Spaces
-    /// spaces_at None = (None, None)
-    /// spaces_at (Some r) = (r.2, r.3)
-    /// ```
-    ///
-    /// Definitions: [`Spaces`](spaces::Spaces).
-    type spaces_at;
     /// The index spaces of the opcode with this number, among the runs of its prefix.
     ///
     /// ```text
-    /// abbrev pub spaces_in : List Run → ℕ → Spaces
-    /// spaces_in runs n = spaces_at (find (has_number n) runs)
+    /// abbrev pub found_in : List Run → ℕ → Option Spaces
+    /// found_in runs n = option_map (λ r. (r.2, r.3)) (find (has_number n) runs)
     /// ```
     ///
-    /// Definitions: [`Spaces`](spaces::Spaces), [`spaces_at`](spaces::spaces_at), [`has_number`](spaces::has_number).
-    type spaces_in;
+    /// Definitions: [`Spaces`](spaces::Spaces), [`has_number`](spaces::has_number).
+    type found_in;
+    /// The same by the prefix.
+    ///
+    /// ```text
+    /// abbrev pub found_of : Op → Option Spaces
+    /// found_of (Byte b) = found_in one_byte b
+    /// found_of (Prefixed p n) = cond (p == 0xFB) (found_in after_fb n)
+    ///     (cond (p == 0xFC) (found_in after_fc n)
+    ///     (cond (p == 0xFE) (found_in after_fe n) None))
+    /// ```
+    ///
+    /// Definitions: [`Spaces`](spaces::Spaces), [`found_in`](spaces::found_in), [`one_byte`](spaces::one_byte), [`after_fb`](spaces::after_fb), [`after_fc`](spaces::after_fc), [`after_fe`](spaces::after_fe).
+    type found_of;
+    /// The index spaces that were found, and none if the opcode has no run.
+    ///
+    /// ```text
+    /// abbrev pub or_none : Option Spaces → Spaces
+    /// or_none None = (None, None)
+    /// or_none (Some spaces) = spaces
+    /// ```
+    ///
+    /// Definitions: [`Spaces`](spaces::Spaces).
+    type or_none;
     /// The index spaces of the first and the second number among the immediates of an opcode.
     ///
     /// ```text
     /// abbrev pub spaces_of : Op → Spaces
-    /// spaces_of (Byte b) = spaces_in one_byte b
-    /// spaces_of (Prefixed p n) = cond (p == 0xFB) (spaces_in after_fb n)
-    ///     (cond (p == 0xFC) (spaces_in after_fc n)
-    ///     (cond (p == 0xFE) (spaces_in after_fe n) (None, None)))
+    /// spaces_of op = or_none (found_of op)
     /// ```
     ///
-    /// Definitions: [`Spaces`](spaces::Spaces), [`spaces_in`](spaces::spaces_in), [`one_byte`](spaces::one_byte), [`after_fb`](spaces::after_fb), [`after_fc`](spaces::after_fc), [`after_fe`](spaces::after_fe).
+    /// Definitions: [`Spaces`](spaces::Spaces), [`or_none`](spaces::or_none), [`found_of`](spaces::found_of).
     type spaces_of;
 }
 

@@ -8,6 +8,7 @@ pub use crate::code::reading::*;
 pub use crate::sections::reading::*;
 pub use crate::custom::reading::*;
 
+/// Indices, mapped: each place of a module that refers to a function, a type, a table and so on.
 pub mod remap {
     pub use crate::remap::*;
 }

@@ -22,6 +22,34 @@ fn space_of_names(id: u8) -> Option<IndexSpace> {
     }
 }
 
+/// Returns the index space of the indices of a subsection, or of the outer ones.
+fn space_of_subsection<A: Allocator>(item: &NameItem<'_, A>) -> Option<IndexSpace> {
+    match item {
+        NameItem::Module(_) => None,
+        NameItem::Map { id, .. } | NameItem::Indirect { id, .. } | NameItem::Other { id, .. } => {
+            space_of_names(*id)
+        }
+    }
+}
+
+/// Maps the indices of a name map.
+fn remap_names<M: Remap>(
+    names: &mut [(u32, &str)],
+    space: Option<IndexSpace>,
+    indices: &M,
+) -> Result<(), RemapError<M::Error>> {
+    remap_firsts(names, space, indices)
+}
+
+/// Maps the outer indices of an indirect name map.
+fn remap_maps<A: Allocator, M: Remap>(
+    maps: &mut [(u32, Vec<(u32, &str), A>)],
+    space: Option<IndexSpace>,
+    indices: &M,
+) -> Result<(), RemapError<M::Error>> {
+    remap_firsts(maps, space, indices)
+}
+
 /// # Defined
 ///
 /// ```text
@@ -33,10 +61,11 @@ fn space_of_names(id: u8) -> Option<IndexSpace> {
 /// Definitions: [`NameModel`](crate::definitions::custom::names::NameItem), [`name_item_view`](crate::definitions::custom::names::name_item_view), [`remapped_name`](crate::definitions::remap::customs::remapped_name). [How to read clauses](crate::definitions).
 impl<A: Allocator + Copy> Indexed<A> for NameItem<'_, A> {
     fn remap<M: Remap>(&mut self, _alloc: A, indices: &M) -> Result<(), RemapError<M::Error>> {
+        let space = space_of_subsection(self);
         match self {
             NameItem::Module(_) | NameItem::Other { .. } => Ok(()),
-            NameItem::Map { id, names } => remap_firsts(names, space_of_names(*id), indices),
-            NameItem::Indirect { id, maps } => remap_firsts(maps, space_of_names(*id), indices),
+            NameItem::Map { names, .. } => remap_names(names, space, indices),
+            NameItem::Indirect { maps, .. } => remap_maps(maps, space, indices),
         }
     }
 }

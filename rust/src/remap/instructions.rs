@@ -67,9 +67,8 @@ impl<A: Allocator + Copy> Indexed<A> for MemArg {
 impl<A: Allocator + Copy> Indexed<A> for Catch {
     fn remap<M: Remap>(&mut self, _alloc: A, indices: &M) -> Result<(), RemapError<M::Error>> {
         match self {
-            Catch::One { tag, .. } | Catch::OneRef { tag, .. } => {
-                *tag = mapped(indices, IndexSpace::Tags, *tag)?;
-            }
+            Catch::One { tag, .. } => *tag = mapped(indices, IndexSpace::Tags, *tag)?,
+            Catch::OneRef { tag, .. } => *tag = mapped(indices, IndexSpace::Tags, *tag)?,
             Catch::All { .. } | Catch::AllRef { .. } => {}
         }
         Ok(())
@@ -88,9 +87,8 @@ impl<A: Allocator + Copy> Indexed<A> for Catch {
 impl<A: Allocator + Copy> Indexed<A> for Handle {
     fn remap<M: Remap>(&mut self, _alloc: A, indices: &M) -> Result<(), RemapError<M::Error>> {
         match self {
-            Handle::OnLabel { tag, .. } | Handle::OnSwitch { tag } => {
-                *tag = mapped(indices, IndexSpace::Tags, *tag)?;
-            }
+            Handle::OnLabel { tag, .. } => *tag = mapped(indices, IndexSpace::Tags, *tag)?,
+            Handle::OnSwitch { tag } => *tag = mapped(indices, IndexSpace::Tags, *tag)?,
         }
         Ok(())
     }

@@ -69,6 +69,12 @@ pub fn remap_items<A: Allocator + Copy, M: Remap>(
 /// Decodes the items of a section, maps each index, and appends the minimal encoding of the items
 /// as a payload. On an error, the sink is unchanged.
 ///
+/// ```text
+/// let mut payload = Vec::new(alloc);
+/// remap_section(&section, alloc, &indices, &mut payload)?;
+/// module.section(&RawSection { id: section.id(), bytes: &payload })?;
+/// ```
+///
 /// # Errors
 ///
 /// Returns `Read` if the section does not decode, `Index` with the error of the map if it rejects an
@@ -76,7 +82,7 @@ pub fn remap_items<A: Allocator + Copy, M: Remap>(
 ///
 /// # Proved
 ///
-/// - After `Ok`, `ok`: The section decodes to items, and the buffer gains the minimal encoding of these items with each index mapped.
+/// - After `Ok`, `ok`: The section decodes to items, and the buffer gains the minimal encoding of these items with each index mapped, if they have one. They have if the new indices are below 2^32, and the section has fewer than 2^26 bytes, so that no size prefix is too long.
 /// - After an error, `err`: the bytes of the sink are unchanged.
 ///
 /// ```text

@@ -83,14 +83,10 @@ static AFTER_FE: [Run; 3] = [
 ];
 
 /// Returns the index spaces of the numbers of this opcode, by the runs of its prefix.
-fn find_spaces(runs: &[Run], number: u32) -> (Option<IndexSpace>, Option<IndexSpace>) {
-    let found = runs
-        .iter()
-        .find(|run| run.0 <= number && number <= run.1);
-    match found {
-        Some(run) => (run.2, run.3),
-        None => (None, None),
-    }
+fn find_spaces(runs: &[Run], number: u32) -> Option<(Option<IndexSpace>, Option<IndexSpace>)> {
+    runs.iter()
+        .find(|run| run.0 <= number && number <= run.1)
+        .map(|run| (run.2, run.3))
 }
 
 /// Returns the index spaces of the first and the second number among the immediates of an opcode,
@@ -108,11 +104,15 @@ fn find_spaces(runs: &[Run], number: u32) -> (Option<IndexSpace>, Option<IndexSp
 ///
 /// Definitions: [`spaces_of_op`](crate::definitions::remap::spaces::spaces_of). [How to read clauses](crate::definitions).
 pub fn spaces_of(op: Op) -> (Option<IndexSpace>, Option<IndexSpace>) {
-    match op {
+    let found = match op {
         Op::Byte(byte) => find_spaces(&ONE_BYTE, u32::from(byte)),
         Op::Prefixed(0xFB, number) => find_spaces(&AFTER_FB, number),
         Op::Prefixed(0xFC, number) => find_spaces(&AFTER_FC, number),
         Op::Prefixed(0xFE, number) => find_spaces(&AFTER_FE, number),
-        Op::Prefixed(_, _) => (None, None),
+        Op::Prefixed(_, _) => None,
+    };
+    match found {
+        Some(spaces) => spaces,
+        None => (None, None),
     }
 }

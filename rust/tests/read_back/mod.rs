@@ -16,6 +16,7 @@ pub mod objects;
 pub mod once;
 pub mod padded;
 pub mod relocations;
+pub mod remapped;
 pub mod sections;
 pub mod stored;
 

@@ -10,6 +10,7 @@ use crate::read_back::handed::{code_of, encode_listed_exports};
 use crate::read_back::sections::{kind_of_items, shortest_payload};
 use crate::read_back::{shortened_function, write_function, write_names, written_function, written_names};
 use dolzhytik::fallible::Global;
+use crate::host::Abort;
 use crate::test_support::{MOST, Refusing};
 use dolzhytik::fallible::Encode;
 use dolzhytik::fallible::Function;

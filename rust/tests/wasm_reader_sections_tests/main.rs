@@ -63,6 +63,9 @@ mod numbers;
 mod refusals;
 #[cfg(test)]
 #[rustfmt::skip]
+mod remapped;
+#[cfg(test)]
+#[rustfmt::skip]
 mod rows;
 #[cfg(test)]
 #[rustfmt::skip]

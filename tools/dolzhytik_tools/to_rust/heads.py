@@ -111,7 +111,7 @@ def exported_readers(crate: Crate, relative: str | pathlib.Path) -> str:
     """Returns what the root of `reader` exports of the libraries below it."""
     if crate.name != 'wasm_reader' or str(relative) != 'lib.rt':
         return ''
-    inner = ''.join(f'pub mod {LIBRARIES[name]} {{\n    pub use crate::{LIBRARIES[name]}::*;\n}}\n' for name in INNER)
+    inner = ''.join(f'/// {says}\npub mod {LIBRARIES[name]} {{\n    pub use crate::{LIBRARIES[name]}::*;\n}}\n' for name, says in INNER.items())
     return ''.join(f'pub use {reading(name)}::*;\n' for name in READERS) + f'\n{inner}\n'
 
 

@@ -1,7 +1,6 @@
-use Rattle.std.proofs.Common.{rules, arith, ◌<◌, length}
+use Rattle.std.proofs.Common.{rules, ◌<◌, length}
 use Rattle.wasm_remap.proofs.EachLaws.{each_step}
 use Rattle.wasm_remap.proofs.indexed.remap_each.Goals as goal
-
 
 pub loop-item-preserved : goal.loop-item-preserved
 loop-item-preserved g c =

@@ -1,4 +1,4 @@
-use Rattle.std.proofs.Common.{◌≡◌, ℕ, List, map, take, drop}
+use Rattle.std.proofs.Common.{◌≡◌, map, take, drop}
 use Rattle.wasm_remap.proofs.indexed.remap_each.Given as goal
 
 abbrev pub invariant-loop-item : goal.invariant-loop-item
