@@ -1,6 +1,6 @@
 //! Makes random encodings of the grammar, with some numbers padded, and changes them.
 
-use crate::grammar::{Follow, Grammar, table};
+use crate::grammar::{Follow, Grammar, Row, Space, table};
 use crate::plain::{put_signed, put_unsigned};
 
 pub struct Random(u64);
@@ -125,7 +125,13 @@ impl Follow for Maker<'_> {
     }
 
     fn tag(&mut self, tags: &[u8]) -> Option<u8> {
-        let tag = self.random.one_of(tags);
+        // Of all bytes the first have a meaning, and are made more often.
+        let most = if tags.len() == 256 && !self.random.one_in(4) {
+            16
+        } else {
+            tags.len()
+        };
+        let tag = self.random.one_of(&tags[..most]);
         self.encoding.push(tag);
         Some(tag)
     }
@@ -181,13 +187,23 @@ impl Follow for Maker<'_> {
         Some(n)
     }
 
-    fn index(&mut self) -> Option<()> {
+    fn type_index(&mut self) -> Option<()> {
         let n = self.some(32);
         let begun = self.encoding.len();
         put_signed(&mut self.encoding, n as i64);
         self.pad(begun, 5, 0x00);
         Some(())
     }
+
+    fn index(&mut self, _space: Space) -> Option<()> {
+        self.number(32, |_| true).map(|_| ())
+    }
+
+    fn implied(&mut self, _space: Space, _bit: u8) -> Option<bool> {
+        Some(false)
+    }
+
+    fn add(&mut self, _byte: u8) {}
 
     fn name(&mut self) -> Option<()> {
         let name = self.random.one_of(&NAMES);
@@ -205,7 +221,7 @@ impl Follow for Maker<'_> {
         self.named(&name)
     }
 
-    fn opcode(&mut self, with_end: bool) -> Option<&'static str> {
+    fn opcode(&mut self, with_end: bool) -> Option<&'static Row> {
         let rows = table();
         // Ops with immediates that have many forms are made more often.
         let mut row = &rows[self.random.below(rows.len())];
@@ -222,7 +238,7 @@ impl Follow for Maker<'_> {
             }
             None => self.encoding.push(row.number as u8),
         }
-        Some(row.shape)
+        Some(row)
     }
 
     fn vector(&mut self, member: fn(&mut Self) -> Option<()>) -> Option<()> {
@@ -299,6 +315,13 @@ fn change(random: &mut Random, encoding: &mut Vec<u8>) {
         5 => encoding[place] = encoding[place].wrapping_sub(1),
         _ => encoding[place] = byte,
     }
+}
+
+/// A section of the kind in the grammar, with at most this many members, instructions and items.
+pub fn made(random: &mut Random, left: usize, kind: &str, grammar: Grammar) -> Vec<u8> {
+    let mut maker = Maker::new(random, left, grammar);
+    let _ = crate::grammar::section(&mut maker, kind);
+    maker.encoding
 }
 
 /// A section of the kind in the grammar, sometimes changed or with bytes after it, and sometimes

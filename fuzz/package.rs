@@ -6,6 +6,7 @@ mod items;
 mod maker;
 mod modules;
 mod plain;
+mod remap;
 mod values;
 mod whole;
 
@@ -14,6 +15,7 @@ use std::process::ExitCode;
 
 const USAGE: &str = "usage: package modules SEED INPUTS
        package values SEED INPUTS
+       package remap SEED INPUTS
        package files FILE..
        package damaged FILE..";
 
@@ -26,6 +28,7 @@ fn run(words: &[String]) -> Option<bool> {
             let run = match command.as_str() {
                 "modules" => modules::run,
                 "values" => values::run,
+                "remap" => remap::run,
                 _ => return None,
             };
             Some(run(seed.parse().ok()?, inputs.parse().ok()?))
