@@ -7,6 +7,7 @@ mod maker;
 mod modules;
 mod plain;
 mod remap;
+mod shifted;
 mod values;
 mod whole;
 
@@ -17,13 +18,15 @@ const USAGE: &str = "usage: package modules SEED INPUTS
        package values SEED INPUTS
        package remap SEED INPUTS
        package files FILE..
-       package damaged FILE..";
+       package damaged FILE..
+       package shifted FOLDER FILE..";
 
 /// Whether all is as it should be, or `None` if the words are not of a command.
 fn run(words: &[String]) -> Option<bool> {
     match words {
         [command, paths @ ..] if command == "files" => Some(files::run(paths)),
         [command, paths @ ..] if command == "damaged" => Some(files::damaged(paths)),
+        [command, folder, paths @ ..] if command == "shifted" => Some(shifted::run(folder, paths)),
         [command, seed, inputs] => {
             let run = match command.as_str() {
                 "modules" => modules::run,

@@ -15,13 +15,14 @@ use dolzhytik::reader::{
     shorten_module,
 };
 use std::cell::Cell;
+use std::fmt;
 use std::ops::RangeInclusive;
 use std::time::Instant;
 
 // ---- maps
 
 /// All index spaces, in the order of their numbers.
-const SPACES: [Space; 8] = [
+pub const SPACES: [Space; 8] = [
     Space::Functions,
     Space::Types,
     Space::Tables,
@@ -34,7 +35,7 @@ const SPACES: [Space; 8] = [
 
 /// A map of the indices of one space.
 #[derive(Clone, Debug)]
-enum Rule {
+pub enum Rule {
     Same,
     /// Adds a number, modulo 2^32.
     Shift(u32),
@@ -96,21 +97,21 @@ fn permutation(random: &mut Random) -> Vec<u32> {
 
 /// A map of all index spaces.
 #[derive(Debug)]
-struct Map {
-    rules: [Rule; SPACES.len()],
+pub struct Map {
+    pub rules: [Rule; SPACES.len()],
     /// How often the library asked for an index of each space.
     asked: [Cell<u64>; SPACES.len()],
 }
 
 impl Map {
-    fn new(rules: [Rule; SPACES.len()]) -> Map {
+    pub fn new(rules: [Rule; SPACES.len()]) -> Map {
         Map {
             rules,
             asked: Default::default(),
         }
     }
 
-    fn same() -> Map {
+    pub fn same() -> Map {
         Map::new([(); SPACES.len()].map(|()| Rule::Same))
     }
 
@@ -237,9 +238,13 @@ fn is_same_error(given: &RemapError<(Space, u32)>, expected: &Answer, counts: &m
 }
 
 /// Whether the library's result for a module is the expected one.
-fn agree(bytes: &[u8], map: &Map, offsets: Offsets, counts: &mut Counts) -> bool {
+pub fn agree(bytes: &[u8], map: &Map, offsets: Offsets, counts: &mut Counts) -> bool {
     let expected = remapped_module(bytes, map, offsets == Offsets::LeaveOut);
-    match (remap_module(bytes, Global, map, offsets), &expected) {
+    let given = remap_module(bytes, Global, map, offsets);
+    for (sum, asked) in counts.asked.iter_mut().zip(&map.asked) {
+        *sum += asked.take();
+    }
+    match (given, &expected) {
         (Ok(given), Answer::Remapped(expected)) => {
             counts.remapped += 1;
             given[..] == expected[..]
@@ -307,7 +312,7 @@ fn are_same_sections(bytes: &[u8], map: &Map, counts: &mut Counts) -> bool {
 }
 
 /// Whether the identity gives the minimal module, unless a section does not decode.
-fn is_shortened(bytes: &[u8]) -> bool {
+pub fn is_shortened(bytes: &[u8]) -> bool {
     let mut sink = fallible::Vec::new(Global);
     let shortened = shorten_module(Global, bytes, Offsets::LeaveOut, &mut sink);
     match (
@@ -383,7 +388,7 @@ fn module(random: &mut Random) -> Vec<u8> {
 
 /// How many results there were of each form.
 #[derive(Default)]
-struct Counts {
+pub struct Counts {
     remapped: u64,
     unread: u64,
     rejected: u64,
@@ -393,6 +398,27 @@ struct Counts {
     /// Single sections that were mapped.
     sections: u64,
     asked: [u64; SPACES.len()],
+}
+
+impl fmt::Display for Counts {
+    fn fmt(&self, f: &mut fmt::Formatter<'_>) -> fmt::Result {
+        let Counts {
+            remapped,
+            unread,
+            rejected,
+            later,
+            offsets,
+            sections,
+            asked,
+        } = self;
+        writeln!(
+            f,
+            "calls for a module: {remapped} mapped; {unread} do not decode, {rejected} have an index that is rejected ({later} reported a later one), {offsets} hold offsets"
+        )?;
+        writeln!(f, "{sections} single sections mapped")?;
+        let spaces: Vec<_> = SPACES.iter().zip(asked).collect();
+        write!(f, "indices of modules, by space: {spaces:?}")
+    }
 }
 
 fn show(bytes: &[u8]) -> String {
@@ -417,27 +443,8 @@ pub fn run(seed: u64, count: u64) -> bool {
             differences += 1;
             println!("module {} {:?}", show(&module), map.rules);
         }
-        for (sum, asked) in counts.asked.iter_mut().zip(&map.asked) {
-            *sum += asked.get();
-        }
     }
-    let Counts {
-        remapped,
-        unread,
-        rejected,
-        later,
-        offsets,
-        sections,
-        asked,
-    } = counts;
-    println!(
-        "of both calls for a module: {remapped} mapped; {unread} do not decode, {rejected} have an index that is rejected ({later} reported a later one), {offsets} hold offsets"
-    );
-    println!("{sections} single sections mapped");
-    println!(
-        "indices by space: {:?}",
-        SPACES.iter().zip(asked).collect::<Vec<_>>()
-    );
+    println!("{counts}");
     println!(
         "seed {seed}: {count} modules of {bytes} bytes, {differences} differences, {} s",
         begun.elapsed().as_secs()
