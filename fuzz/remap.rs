@@ -15,6 +15,7 @@ use dolzhytik::reader::{
     shorten_module,
 };
 use std::cell::Cell;
+use std::collections::HashSet;
 use std::fmt;
 use std::ops::RangeInclusive;
 use std::time::Instant;
@@ -334,14 +335,26 @@ fn are_same_spaces() -> bool {
         [number(first), number(second)]
     };
     let mut is_same = true;
+    let mut compare = |op, expected| {
+        if known(op) != expected {
+            println!("spaces of {op:?}: {:?}, not {expected:?}", known(op));
+            is_same = false;
+        }
+    };
+    let mut ops = HashSet::new();
     for row in table() {
         let op = match row.prefix {
             Some(prefix) => Op::Prefixed(prefix, row.number),
             None => Op::Byte(row.number as u8),
         };
-        if known(op) != spaces(row) {
-            println!("spaces of {op:?}: {:?}, not {:?}", known(op), spaces(row));
-            is_same = false;
+        ops.insert(op);
+        compare(op, spaces(row));
+    }
+    let prefixed =
+        (0..=255).flat_map(|byte| (0..300).map(move |number| Op::Prefixed(byte, number)));
+    for op in (0..=255).map(Op::Byte).chain(prefixed) {
+        if !ops.contains(&op) {
+            compare(op, [None, None]);
         }
     }
     is_same

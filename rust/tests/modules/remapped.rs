@@ -7,9 +7,9 @@ use dolzhytik::reader::remap::{
 use dolzhytik::reader::{Items, Offsets, ReadFault, Sections, shorten_module};
 
 /// A map by a function, which returns `None` for an index that it rejects.
-struct By<F>(F);
+pub struct By<F>(pub F);
 
-type Rejected = (IndexSpace, u32);
+pub type Rejected = (IndexSpace, u32);
 
 impl<F: Fn(IndexSpace, u32) -> Option<u32>> Remap for By<F> {
     type Error = Rejected;
@@ -20,7 +20,7 @@ impl<F: Fn(IndexSpace, u32) -> Option<u32>> Remap for By<F> {
 }
 
 /// Adds another number in each space, so that the first digit of a new index tells its space.
-fn shifted(space: IndexSpace, index: u32) -> Option<u32> {
+pub fn shifted(space: IndexSpace, index: u32) -> Option<u32> {
     let by = match space {
         IndexSpace::Data => 0x08,
         IndexSpace::Functions => 0x10,
@@ -85,7 +85,7 @@ fn check_section(section: &str, expected: &str) {
 
 // ---- every section
 
-const EVERY: [&str; 12] = [
+pub const EVERY: [&str; 12] = [
     // A function of a reference to type 1, and a structure with the supertype 0.
     "01 0e 02 60 01 6301 00  50 01 00 5f 01 6400 00",
     // A function, a tag, a global, a table.
@@ -105,7 +105,7 @@ const EVERY: [&str; 12] = [
     "0b 09 02 00 4100 0b 01aa  01 00",
 ];
 
-const EVERY_SHIFTED: [&str; 12] = [
+pub const EVERY_SHIFTED: [&str; 12] = [
     "01 0e 02 60 01 6321 00  50 01 20 5f 01 6420 00",
     "02 1f 04 016d 0166 00 20  016d 0165 04 00 20  016d 0167 03 6321 00  016d 0174 01 6321 00 00",
     "03 02 01 20",
