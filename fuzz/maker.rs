@@ -40,6 +40,8 @@ pub struct Maker<'r> {
     pub encoding: Vec<u8>,
     /// How many more members, instructions and items may be made.
     left: usize,
+    /// The number of members that a vector has at most, and of items that a list has on average.
+    pub most: usize,
     grammar: Grammar,
 }
 
@@ -61,6 +63,7 @@ impl<'r> Maker<'r> {
             random,
             encoding: Vec::new(),
             left,
+            most: 3,
             grammar,
         }
     }
@@ -242,7 +245,7 @@ impl Follow for Maker<'_> {
     }
 
     fn vector(&mut self, member: fn(&mut Self) -> Option<()>) -> Option<()> {
-        for _ in 0..self.counted(3) {
+        for _ in 0..self.counted(self.most) {
             self.left = self.left.saturating_sub(1);
             member(self)?;
         }
@@ -276,7 +279,7 @@ impl Follow for Maker<'_> {
     fn goes_on(&mut self) -> bool {
         self.left > 0 && {
             self.left -= 1;
-            !self.random.one_in(4)
+            !self.random.one_in(self.most + 1)
         }
     }
 
@@ -315,13 +318,6 @@ fn change(random: &mut Random, encoding: &mut Vec<u8>) {
         5 => encoding[place] = encoding[place].wrapping_sub(1),
         _ => encoding[place] = byte,
     }
-}
-
-/// A section of the kind in the grammar, with at most this many members, instructions and items.
-pub fn made(random: &mut Random, left: usize, kind: &str, grammar: Grammar) -> Vec<u8> {
-    let mut maker = Maker::new(random, left, grammar);
-    let _ = crate::grammar::section(&mut maker, kind);
-    maker.encoding
 }
 
 /// A section of the kind in the grammar, sometimes changed or with bytes after it, and sometimes

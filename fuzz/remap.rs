@@ -1,8 +1,8 @@
 //! Compares `remap_module`, `remap_section`, `remap_items` and `spaces_of` with a plain remapper, on
 //! random modules and random maps. See README.md.
 
-use crate::grammar::{Grammar, KINDS, Space, spaces, table};
-use crate::maker::{Random, input, made};
+use crate::grammar::{self, Grammar, KINDS, Space, spaces, table};
+use crate::maker::{Maker, Random, input};
 use crate::modules::{add_section, framed, id_of, unframed};
 use crate::plain::remapped;
 use crate::whole::{HEADER, Section, section};
@@ -362,6 +362,18 @@ fn are_same_spaces() -> bool {
 
 // ---- random modules
 
+/// A section of the kind in the grammar. One in 32 is long, so that its sizes have two bytes.
+fn made(random: &mut Random, kind: &str, grammar: Grammar) -> Vec<u8> {
+    let is_long = random.one_in(32);
+    let left = 1 + random.below(if is_long { 300 } else { 12 });
+    let mut maker = Maker::new(random, left, grammar);
+    if is_long {
+        maker.most = 60;
+    }
+    let _ = grammar::section(&mut maker, kind);
+    maker.encoding
+}
+
 /// Appends a section. Most are unchanged encodings of their kind.
 fn add(random: &mut Random, module: &mut Vec<u8>) {
     if random.one_in(16) {
@@ -376,8 +388,7 @@ fn add(random: &mut Random, module: &mut Vec<u8>) {
     let encoding = if random.one_in(16) {
         input(random, kind, grammar)
     } else {
-        let left = 1 + random.below(12);
-        made(random, left, kind, grammar)
+        made(random, kind, grammar)
     };
     module.push(id_of(random, kind));
     module.extend(framed(random, unframed(&encoding)));
