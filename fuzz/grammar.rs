@@ -1,6 +1,7 @@
 //! The grammar of all kinds of sections, written from docs/FORMAT.md once for its two users: the
 //! plain reader, which returns the minimal encoding of decoded items, and the maker of random
-//! encodings.
+//! encodings. It says which numbers are indices, and of which space: that is written from the
+//! standard, the proposals and the tool conventions, apart from the library.
 
 use std::sync::OnceLock;
 
@@ -11,6 +12,19 @@ pub enum Grammar {
     Builders,
     /// All that the standard and the tool conventions have.
     Standard,
+}
+
+/// An index space of a module.
+#[derive(Clone, Copy, PartialEq, Eq, Hash, Debug)]
+pub enum Space {
+    Functions,
+    Types,
+    Tables,
+    Memories,
+    Globals,
+    Tags,
+    Elements,
+    Data,
 }
 
 /// Follows the grammar, byte by byte. `None` means that the bytes encode nothing of it.
@@ -46,8 +60,18 @@ pub trait Follow: Sized {
 
     fn signed(&mut self, bits: u32) -> Option<i64>;
 
-    /// An index, as a signed number of 33 bits that isn't negative.
-    fn index(&mut self) -> Option<()>;
+    /// The index of a type, as a signed number of 33 bits that isn't negative.
+    fn type_index(&mut self) -> Option<()>;
+
+    /// An index of the space, as a number of 32 bits.
+    fn index(&mut self, space: Space) -> Option<()>;
+
+    /// Index 0 of the space, which has no bytes. If another index is to be written for it, this sets
+    /// the bit in the last byte, writes the index, and returns `true`.
+    fn implied(&mut self, space: Space, bit: u8) -> Option<bool>;
+
+    /// Writes a byte that belongs to such an index.
+    fn add(&mut self, byte: u8);
 
     fn name(&mut self) -> Option<()>;
 
@@ -57,7 +81,7 @@ pub trait Follow: Sized {
     fn name_after(&mut self, prefix: &str) -> Option<()>;
 
     /// The opcode of an instruction, which is not `End` if no `End` may be here.
-    fn opcode(&mut self, with_end: bool) -> Option<&'static str>;
+    fn opcode(&mut self, with_end: bool) -> Option<&'static Row>;
 
     fn vector(&mut self, member: fn(&mut Self) -> Option<()>) -> Option<()>;
 
@@ -116,6 +140,67 @@ fn row(line: &'static str) -> Row {
     }
 }
 
+/// The spaces of the first and the second number after an opcode. `None` is a label, a local, a
+/// field or a length.
+pub fn spaces(row: &Row) -> [Option<Space>; 2] {
+    use Space::{Data, Elements, Functions, Globals, Memories, Tables, Tags, Types};
+    match (row.prefix, row.number) {
+        // catch, throw, suspend
+        (None, 0x07 | 0x08 | 0xE2) => [Some(Tags), None],
+        // call, return_call, ref.func
+        (None, 0x10 | 0x12 | 0xD2) => [Some(Functions), None],
+        // call_indirect, return_call_indirect
+        (None, 0x11 | 0x13) => [Some(Types), Some(Tables)],
+        // call_ref, return_call_ref, cont.new, resume, resume_throw_ref
+        (None, 0x14 | 0x15 | 0xE0 | 0xE3 | 0xE5) => [Some(Types), None],
+        // global.get, global.set
+        (None, 0x23 | 0x24) => [Some(Globals), None],
+        // table.get, table.set
+        (None, 0x25 | 0x26) => [Some(Tables), None],
+        // memory.size, memory.grow
+        (None, 0x3F | 0x40) => [Some(Memories), None],
+        // cont.bind
+        (None, 0xE1) => [Some(Types), Some(Types)],
+        // resume_throw, switch
+        (None, 0xE4 | 0xE6) => [Some(Types), Some(Tags)],
+        // struct.new to array.new_fixed: the second number is a field or a length
+        (Some(0xFB), 0..=8) => [Some(Types), None],
+        // array.new_data, array.init_data
+        (Some(0xFB), 9 | 18) => [Some(Types), Some(Data)],
+        // array.new_elem, array.init_elem
+        (Some(0xFB), 10 | 19) => [Some(Types), Some(Elements)],
+        // array.get to array.set, array.fill
+        (Some(0xFB), 11..=14 | 16) => [Some(Types), None],
+        // array.copy
+        (Some(0xFB), 17) => [Some(Types), Some(Types)],
+        // struct.new_desc, struct.new_default_desc, ref.get_desc
+        (Some(0xFB), 32..=34) => [Some(Types), None],
+        // memory.init
+        (Some(0xFC), 8) => [Some(Data), Some(Memories)],
+        // data.drop
+        (Some(0xFC), 9) => [Some(Data), None],
+        // memory.copy
+        (Some(0xFC), 10) => [Some(Memories), Some(Memories)],
+        // memory.fill, memory.discard
+        (Some(0xFC), 11 | 18) => [Some(Memories), None],
+        // table.init
+        (Some(0xFC), 12) => [Some(Elements), Some(Tables)],
+        // elem.drop
+        (Some(0xFC), 13) => [Some(Elements), None],
+        // table.copy
+        (Some(0xFC), 14) => [Some(Tables), Some(Tables)],
+        // table.grow, table.size, table.fill
+        (Some(0xFC), 15..=17) => [Some(Tables), None],
+        // global.atomic.*
+        (Some(0xFE), 79..=87) => [Some(Globals), None],
+        // table.atomic.*
+        (Some(0xFE), 88..=91) => [Some(Tables), None],
+        // struct.atomic.*, whose second number is a field, and array.atomic.*
+        (Some(0xFE), 92..=113) => [Some(Types), None],
+        _ => [None, None],
+    }
+}
+
 // ---- types
 
 fn any(_n: u64) -> bool {
@@ -139,10 +224,10 @@ fn heap_but<G: Follow>(g: &mut G, left_out: &[u8]) -> Option<()> {
         .chain([0x62, 0x65])
         .collect();
     match g.tag_or_else(&tags, 2)? {
-        Some(0x62) => u32_any(g),
+        Some(0x62) => g.index(Space::Types),
         Some(0x65) => g.tag(&ABSTRACT).map(|_| ()),
         Some(_) => Some(()),
-        None => g.index(),
+        None => g.type_index(),
     }
 }
 
@@ -216,7 +301,7 @@ fn block<G: Follow>(g: &mut G) -> Option<()> {
         let tags = [&[0x40], &NUMBERS[..], short(g.grammar()), &REFERENCES].concat();
         match g.tag_or_else(&tags, 3)? {
             Some(tag) => reference_after(g, tag),
-            None => g.index(),
+            None => g.type_index(),
         }
     };
     g.rewritten(any_block, minimal_type(g.written()))
@@ -234,11 +319,10 @@ fn is_not_zero(n: u64) -> bool {
 
 /// The index of a memory that is explicit. Builders leave out that of memory 0.
 fn explicit_memory<G: Follow>(g: &mut G) -> Option<()> {
-    let is_in = match g.grammar() {
-        Grammar::Builders => is_not_zero,
-        Grammar::Standard => any,
-    };
-    g.number(32, is_in).map(|_| ())
+    match g.grammar() {
+        Grammar::Builders => g.number(32, is_not_zero).map(|_| ()),
+        Grammar::Standard => g.index(Space::Memories),
+    }
 }
 
 /// A memory argument without the index of memory 0.
@@ -254,9 +338,10 @@ fn memory_argument<G: Follow>(g: &mut G) -> Option<()> {
         let flags = g.number(32, is_memory_flags)?;
         if flags & 0x40 != 0 {
             explicit_memory(g)?;
-        }
-        if flags & 0x20 != 0 {
-            u32_any(g)?;
+        } else if flags & 0x20 != 0 {
+            g.index(Space::Types)?;
+        } else {
+            g.implied(Space::Memories, 0x40)?;
         }
         if flags & 0x10 != 0 {
             g.tag(&[0x00, 0x01, 0x11])?;
@@ -268,33 +353,42 @@ fn memory_argument<G: Follow>(g: &mut G) -> Option<()> {
 
 fn catch<G: Follow>(g: &mut G) -> Option<()> {
     if g.tag(&[0, 1, 2, 3])? < 2 {
-        u32_any(g)?;
+        g.index(Space::Tags)?;
     }
     u32_any(g)
 }
 
 fn handle<G: Follow>(g: &mut G) -> Option<()> {
     let tag = g.tag(&[0, 1])?;
-    u32_any(g)?;
+    g.index(Space::Tags)?;
     if tag == 0 { u32_any(g) } else { Some(()) }
 }
 
-fn immediates<G: Follow>(g: &mut G, shape: &str) -> Option<()> {
-    match shape {
+/// A number that is an index if it has a space.
+fn number_of<G: Follow>(g: &mut G, space: Option<Space>) -> Option<()> {
+    match space {
+        Some(space) => g.index(space),
+        None => u32_any(g),
+    }
+}
+
+fn immediates<G: Follow>(g: &mut G, row: &Row) -> Option<()> {
+    let [first, second] = spaces(row);
+    match row.shape {
         "-" => Some(()),
-        "u" => u32_any(g),
-        "uu" => u32_any(g).and_then(|()| u32_any(g)),
+        "u" => number_of(g, first),
+        "uu" => number_of(g, first).and_then(|()| number_of(g, second)),
         "m" => memory_argument(g),
         "ml" => memory_argument(g).and_then(|()| g.raw(1)),
         "l" => g.raw(1),
         "b" => block(g),
         "h" => heap(g),
         "o" => g.tag(&[0, 1]).map(|_| ()),
-        "ou" => g.tag(&[0, 1]).and_then(|_| u32_any(g)),
+        "ou" => g.tag(&[0, 1]).and_then(|_| number_of(g, first)),
         "ouu" => {
             g.tag(&[0, 1])?;
-            u32_any(g)?;
-            u32_any(g)
+            number_of(g, first)?;
+            number_of(g, second)
         }
         "c32" => g.signed(32).map(|_| ()),
         "c64" => g.signed(64).map(|_| ()),
@@ -310,19 +404,19 @@ fn immediates<G: Follow>(g: &mut G, shape: &str) -> Option<()> {
             heap(g)?;
             heap(g)
         }
-        "uH" => u32_any(g).and_then(|()| g.vector(handle)),
+        "uH" => number_of(g, first).and_then(|()| g.vector(handle)),
         "uuH" => {
-            u32_any(g)?;
-            u32_any(g)?;
+            number_of(g, first)?;
+            number_of(g, second)?;
             g.vector(handle)
         }
-        _ => panic!("no such shape: {shape}"),
+        shape => panic!("no such shape: {shape}"),
     }
 }
 
 fn instruction<G: Follow>(g: &mut G, with_end: bool) -> Option<()> {
-    let shape = g.opcode(with_end)?;
-    immediates(g, shape)
+    let row = g.opcode(with_end)?;
+    immediates(g, row)
 }
 
 fn expression<G: Follow>(g: &mut G) -> Option<()> {
@@ -363,6 +457,9 @@ fn segment<G: Follow>(g: &mut G) -> Option<()> {
         if flag == 2 {
             explicit_memory(g)?;
         }
+        if flag == 0 {
+            g.implied(Space::Memories, 2)?;
+        }
         if flag != 1 {
             expression(g)?;
         }
@@ -373,17 +470,23 @@ fn segment<G: Follow>(g: &mut G) -> Option<()> {
 
 fn element<G: Follow>(g: &mut G) -> Option<()> {
     let flag = g.number(32, |n| n < 8)?;
-    if flag & 3 == 2 {
-        u32_any(g)?;
-    }
+    let is_explicit = match flag & 3 {
+        0 => g.implied(Space::Tables, 2)?,
+        2 => g.index(Space::Tables).map(|()| false)?,
+        _ => false,
+    };
     if flag & 1 == 0 {
         expression(g)?;
+    }
+    // The byte of functions, or the type `funcref`.
+    if is_explicit {
+        g.add(if flag == 0 { 0x00 } else { 0x70 });
     }
     if flag & 4 == 0 {
         if flag != 0 {
             g.tag(&[0x00])?;
         }
-        return g.vector(u32_any);
+        return g.vector(|g| g.index(Space::Functions));
     }
     if flag != 4 {
         reference(g)?;
@@ -393,8 +496,13 @@ fn element<G: Follow>(g: &mut G) -> Option<()> {
 
 fn export<G: Follow>(g: &mut G) -> Option<()> {
     g.name()?;
-    g.tag(&[0, 1, 2, 3, 4])?;
-    u32_any(g)
+    match g.tag(&[0, 1, 2, 3, 4])? {
+        0 => g.index(Space::Functions),
+        1 => g.index(Space::Tables),
+        2 => g.index(Space::Memories),
+        3 => g.index(Space::Globals),
+        _ => g.index(Space::Tags),
+    }
 }
 
 fn global_type<G: Follow>(g: &mut G) -> Option<()> {
@@ -438,7 +546,7 @@ fn memory<G: Follow>(g: &mut G) -> Option<()> {
 
 fn tag_type<G: Follow>(g: &mut G) -> Option<()> {
     g.tag(&[0])?;
-    u32_any(g)
+    g.index(Space::Types)
 }
 
 fn entity<G: Follow>(g: &mut G) -> Option<()> {
@@ -447,7 +555,7 @@ fn entity<G: Follow>(g: &mut G) -> Option<()> {
         0x02 => memory(g),
         0x03 => global_type(g),
         0x04 => tag_type(g),
-        _ => u32_any(g),
+        _ => g.index(Space::Types),
     }
 }
 
@@ -483,7 +591,7 @@ fn composite<G: Follow>(g: &mut G) -> Option<()> {
     g.fixed_or_else(&[0x65])?;
     for tag in [0x4C, 0x4D] {
         if g.fixed_or_else(&[tag])? {
-            u32_any(g)?;
+            g.index(Space::Types)?;
         }
     }
     match g.tag(&[0x60, 0x5E, 0x5F, 0x5D])? {
@@ -493,15 +601,15 @@ fn composite<G: Follow>(g: &mut G) -> Option<()> {
         }
         0x5E => field_type(g),
         0x5F => g.vector(field_type),
-        _ => g.index(),
+        _ => g.type_index(),
     }
 }
 
 fn subtype<G: Follow>(g: &mut G) -> Option<()> {
     let supertypes = |g: &mut G| match (g.tag_or_else(&[0x50, 0x4F], 3)?, g.grammar()) {
         (None, _) => Some(()),
-        (Some(0x4F), Grammar::Builders) => g.vector_of_some(u32_any),
-        _ => g.vector(u32_any),
+        (Some(0x4F), Grammar::Builders) => g.vector_of_some(|g| g.index(Space::Types)),
+        _ => g.vector(|g| g.index(Space::Types)),
     };
     g.rewritten(supertypes, |bytes| (bytes == [0x4F, 0x00]).then(Vec::new))?;
     composite(g)
@@ -517,22 +625,42 @@ fn type_item<G: Follow>(g: &mut G) -> Option<()> {
 
 // ---- custom sections
 
-fn naming<G: Follow>(g: &mut G) -> Option<()> {
-    u32_any(g)?;
+fn naming<G: Follow>(g: &mut G, space: Space) -> Option<()> {
+    g.index(space)?;
     g.name()
 }
 
-fn indirect_naming<G: Follow>(g: &mut G) -> Option<()> {
-    u32_any(g)?;
-    g.vector(naming)
+/// An index of the space, and names of numbers in it: of locals, labels, fields or parameters.
+fn indirect_naming<G: Follow>(g: &mut G, space: Space) -> Option<()> {
+    g.index(space)?;
+    g.vector(|g| {
+        u32_any(g)?;
+        g.name()
+    })
+}
+
+/// A vector of names in a subsection of this id.
+fn namings<G: Follow>(g: &mut G, id: u8) -> Option<()> {
+    match id {
+        1 => g.vector(|g| naming(g, Space::Functions)),
+        2 | 3 => g.vector(|g| indirect_naming(g, Space::Functions)),
+        4 => g.vector(|g| naming(g, Space::Types)),
+        5 => g.vector(|g| naming(g, Space::Tables)),
+        6 => g.vector(|g| naming(g, Space::Memories)),
+        7 => g.vector(|g| naming(g, Space::Globals)),
+        8 => g.vector(|g| naming(g, Space::Elements)),
+        9 => g.vector(|g| naming(g, Space::Data)),
+        10 | 12 => g.vector(|g| indirect_naming(g, Space::Types)),
+        11 => g.vector(|g| naming(g, Space::Tags)),
+        _ => g.vector(|g| indirect_naming(g, Space::Tags)),
+    }
 }
 
 fn subsection<G: Follow>(g: &mut G) -> Option<()> {
     let every: Vec<u8> = (0..=255).collect();
     match g.tag(&every)? {
         0 => g.frame(&|g: &mut G| g.name()),
-        1 | 4..=9 | 11 => g.frame(&|g: &mut G| g.vector(naming)),
-        2 | 3 | 10 | 12 | 13 => g.frame(&|g: &mut G| g.vector(indirect_naming)),
+        id @ 1..=13 => g.frame(&|g: &mut G| namings(g, id)),
         _ => g.frame(&|g: &mut G| g.all()),
     }
 }
@@ -548,13 +676,20 @@ fn symbol<G: Follow>(g: &mut G) -> Option<()> {
     if kind == 1 {
         g.name()?;
         if is_defined {
-            u32_any(g)?;
+            g.index(Space::Data)?;
             u32_any(g)?;
             u32_any(g)?;
         }
         return Some(());
     }
-    u32_any(g)?;
+    match kind {
+        0 => g.index(Space::Functions)?,
+        2 => g.index(Space::Globals)?,
+        4 => g.index(Space::Tags)?,
+        5 => g.index(Space::Tables)?,
+        // A section of the module.
+        _ => u32_any(g)?,
+    }
     // A section's symbol has no name.
     if kind != 3 && (is_defined || flags & 0x40 != 0) {
         g.name()
@@ -578,8 +713,16 @@ fn comdat<G: Follow>(g: &mut G) -> Option<()> {
     g.name()?;
     u32_any(g)?;
     g.vector(|g| {
-        g.raw(1)?;
-        u32_any(g)
+        let every: Vec<u8> = (0..=255).collect();
+        match g.tag(&every)? {
+            0 => g.index(Space::Data),
+            1 => g.index(Space::Functions),
+            2 => g.index(Space::Globals),
+            3 => g.index(Space::Tags),
+            4 => g.index(Space::Tables),
+            // 5 is a section of the module.
+            _ => u32_any(g),
+        }
     })
 }
 
@@ -608,7 +751,7 @@ fn field<G: Follow>(g: &mut G) -> Option<()> {
 }
 
 fn hints<G: Follow>(g: &mut G) -> Option<()> {
-    u32_any(g)?;
+    g.index(Space::Functions)?;
     g.vector(|g| {
         u32_any(g)?;
         g.tag(&[1])?;
@@ -683,7 +826,12 @@ fn relocation<G: Follow>(g: &mut G) -> Option<()> {
     let kinds: Vec<u8> = (0..=26).collect();
     let kind = g.tag(&kinds)?;
     u32_any(g)?;
-    u32_any(g)?;
+    if kind == 6 {
+        // `R_WASM_TYPE_INDEX_LEB`. All others have the number of a symbol.
+        g.index(Space::Types)?;
+    } else {
+        u32_any(g)?;
+    }
     match kind {
         3 | 4 | 5 | 8 | 9 | 11 | 21 | 23 => g.signed(32).map(|_| ()),
         14..=17 | 22 | 25 => g.signed(64).map(|_| ()),
@@ -741,10 +889,11 @@ fn content<G: Follow>(g: &mut G, kind: &str) -> Option<()> {
     match kind {
         "Bodies" => g.vector(body),
         "Segments" => g.vector(segment),
-        "DataCount" | "Start" => u32_any(g),
+        "DataCount" => u32_any(g),
+        "Start" => g.index(Space::Functions),
         "Elements" => g.vector(element),
         "Exports" => g.vector(export),
-        "Functions" => g.vector(u32_any),
+        "Functions" => g.vector(|g| g.index(Space::Types)),
         "Globals" => g.vector(global),
         "Imports" => g.vector(import),
         "Memories" => g.vector(memory),

@@ -1,6 +1,6 @@
 //! Makes random encodings of the grammar, with some numbers padded, and changes them.
 
-use crate::grammar::{Follow, Grammar, table};
+use crate::grammar::{Follow, Grammar, Row, Space, table};
 use crate::plain::{put_signed, put_unsigned};
 
 pub struct Random(u64);
@@ -40,6 +40,8 @@ pub struct Maker<'r> {
     pub encoding: Vec<u8>,
     /// How many more members, instructions and items may be made.
     left: usize,
+    /// The number of members that a vector has at most, and of items that a list has on average.
+    pub most: usize,
     grammar: Grammar,
 }
 
@@ -61,6 +63,7 @@ impl<'r> Maker<'r> {
             random,
             encoding: Vec::new(),
             left,
+            most: 3,
             grammar,
         }
     }
@@ -125,7 +128,13 @@ impl Follow for Maker<'_> {
     }
 
     fn tag(&mut self, tags: &[u8]) -> Option<u8> {
-        let tag = self.random.one_of(tags);
+        // Of all bytes the first have a meaning, and are made more often.
+        let most = if tags.len() == 256 && !self.random.one_in(4) {
+            16
+        } else {
+            tags.len()
+        };
+        let tag = self.random.one_of(&tags[..most]);
         self.encoding.push(tag);
         Some(tag)
     }
@@ -181,13 +190,23 @@ impl Follow for Maker<'_> {
         Some(n)
     }
 
-    fn index(&mut self) -> Option<()> {
+    fn type_index(&mut self) -> Option<()> {
         let n = self.some(32);
         let begun = self.encoding.len();
         put_signed(&mut self.encoding, n as i64);
         self.pad(begun, 5, 0x00);
         Some(())
     }
+
+    fn index(&mut self, _space: Space) -> Option<()> {
+        self.number(32, |_| true).map(|_| ())
+    }
+
+    fn implied(&mut self, _space: Space, _bit: u8) -> Option<bool> {
+        Some(false)
+    }
+
+    fn add(&mut self, _byte: u8) {}
 
     fn name(&mut self) -> Option<()> {
         let name = self.random.one_of(&NAMES);
@@ -205,7 +224,7 @@ impl Follow for Maker<'_> {
         self.named(&name)
     }
 
-    fn opcode(&mut self, with_end: bool) -> Option<&'static str> {
+    fn opcode(&mut self, with_end: bool) -> Option<&'static Row> {
         let rows = table();
         // Ops with immediates that have many forms are made more often.
         let mut row = &rows[self.random.below(rows.len())];
@@ -222,11 +241,11 @@ impl Follow for Maker<'_> {
             }
             None => self.encoding.push(row.number as u8),
         }
-        Some(row.shape)
+        Some(row)
     }
 
     fn vector(&mut self, member: fn(&mut Self) -> Option<()>) -> Option<()> {
-        for _ in 0..self.counted(3) {
+        for _ in 0..self.counted(self.most) {
             self.left = self.left.saturating_sub(1);
             member(self)?;
         }
@@ -260,7 +279,7 @@ impl Follow for Maker<'_> {
     fn goes_on(&mut self) -> bool {
         self.left > 0 && {
             self.left -= 1;
-            !self.random.one_in(4)
+            !self.random.one_in(self.most + 1)
         }
     }
 

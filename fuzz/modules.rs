@@ -51,7 +51,7 @@ const OTHERS: [&str; 12] = [
 ];
 
 /// The id of the sections of a kind.
-fn id_of(random: &mut Random, kind: &str) -> u8 {
+pub fn id_of(random: &mut Random, kind: &str) -> u8 {
     match kind {
         "Types" => 1,
         "Imports" => 2,
@@ -72,7 +72,7 @@ fn id_of(random: &mut Random, kind: &str) -> u8 {
 }
 
 /// The bytes after a size prefix, up to that size or the end. Without a size prefix, all bytes.
-fn unframed(bytes: &[u8]) -> &[u8] {
+pub fn unframed(bytes: &[u8]) -> &[u8] {
     let mut along = Plain::new(bytes, Grammar::Builders);
     match along.unsigned(32) {
         Some(size) => &along.rest[..along.rest.len().min(size as usize)],
@@ -123,7 +123,7 @@ fn custom(random: &mut Random) -> Vec<u8> {
 }
 
 /// Prefixes a payload with its size, which is sometimes padded.
-fn framed(random: &mut Random, payload: &[u8]) -> Vec<u8> {
+pub fn framed(random: &mut Random, payload: &[u8]) -> Vec<u8> {
     let mut maker = Maker::new(random, 0, Grammar::Builders);
     maker.unsigned(payload.len() as u64, 32);
     maker.encoding.extend(payload);
@@ -132,7 +132,7 @@ fn framed(random: &mut Random, payload: &[u8]) -> Vec<u8> {
 
 /// Appends a section of a kind, sometimes changed or with another id, and mostly with a correct
 /// size.
-fn add_section(random: &mut Random, module: &mut Vec<u8>) {
+pub fn add_section(random: &mut Random, module: &mut Vec<u8>) {
     if random.one_in(4) {
         let payload = custom(random);
         module.push(0);

@@ -1,14 +1,21 @@
-//! A plain reader: it decodes bytes, and writes the minimal encoding of the same items in a grammar.
+//! A plain reader: it decodes bytes, and writes the minimal encoding of the same items in a grammar,
+//! or of the items with their indices mapped.
 
-use crate::grammar::{Follow, Grammar, table};
+use crate::grammar::{Follow, Grammar, Row, Space, table};
 use std::collections::HashMap;
 use std::sync::OnceLock;
+
+/// A map of indices, which rejects some.
+pub type Indices<'a> = &'a dyn Fn(Space, u32) -> Option<u32>;
 
 pub struct Plain<'a> {
     pub rest: &'a [u8],
     pub encoding: Vec<u8>,
     grammar: Grammar,
     written: Grammar,
+    indices: Indices<'a>,
+    /// The indices that the map rejects.
+    rejected: Vec<(Space, u32)>,
 }
 
 pub fn put_unsigned(encoding: &mut Vec<u8>, mut n: u64) {
@@ -27,16 +34,19 @@ pub fn put_signed(encoding: &mut Vec<u8>, mut n: i64) {
     encoding.push(n as u8 & 0x7F);
 }
 
-/// The shape of each opcode, by its prefix, or 0, and its number.
-fn shapes() -> &'static HashMap<(u8, u32), &'static str> {
-    static SHAPES: OnceLock<HashMap<(u8, u32), &'static str>> = OnceLock::new();
-    SHAPES.get_or_init(|| {
+/// The row of each opcode, by its prefix, or 0, and its number.
+fn rows() -> &'static HashMap<(u8, u32), &'static Row> {
+    static ROWS: OnceLock<HashMap<(u8, u32), &'static Row>> = OnceLock::new();
+    ROWS.get_or_init(|| {
         table()
             .iter()
-            .map(|row| ((row.prefix.unwrap_or(0), row.number), row.shape))
+            .map(|row| ((row.prefix.unwrap_or(0), row.number), row))
             .collect()
     })
 }
+
+/// The map of all indices to themselves.
+const SAME: Indices<'static> = &|_, index| Some(index);
 
 impl<'a> Plain<'a> {
     /// Reads from the first of the bytes on, and writes as builders do.
@@ -46,12 +56,27 @@ impl<'a> Plain<'a> {
 
     /// Reads in one grammar, and writes in another.
     fn between(rest: &'a [u8], grammar: Grammar, written: Grammar) -> Self {
+        Plain::mapping(rest, grammar, written, SAME)
+    }
+
+    /// Reads in one grammar, and writes in another, with the indices mapped.
+    fn mapping(rest: &'a [u8], grammar: Grammar, written: Grammar, indices: Indices<'a>) -> Self {
         Plain {
             rest,
             encoding: Vec::new(),
             grammar,
             written,
+            indices,
+            rejected: Vec::new(),
         }
+    }
+
+    /// The new index of an old one. If the map rejects it, it is noted, and stays.
+    fn mapped(&mut self, space: Space, index: u32) -> u32 {
+        (self.indices)(space, index).unwrap_or_else(|| {
+            self.rejected.push((space, index));
+            index
+        })
     }
 
     pub fn byte(&mut self) -> Option<u8> {
@@ -164,9 +189,32 @@ impl Follow for Plain<'_> {
         Some(n)
     }
 
-    fn index(&mut self) -> Option<()> {
-        let n = self.signed(33)?;
-        (n >= 0).then_some(())
+    fn type_index(&mut self) -> Option<()> {
+        let n = self.in_twos_complement(33)?;
+        let index = self.mapped(Space::Types, u32::try_from(n).ok()?);
+        put_signed(&mut self.encoding, i64::from(index));
+        Some(())
+    }
+
+    fn index(&mut self, space: Space) -> Option<()> {
+        let n = self.unsigned(32)?;
+        let index = self.mapped(space, n as u32);
+        put_unsigned(&mut self.encoding, u64::from(index));
+        Some(())
+    }
+
+    fn implied(&mut self, space: Space, bit: u8) -> Option<bool> {
+        let index = self.mapped(space, 0);
+        if index == 0 {
+            return Some(false);
+        }
+        *self.encoding.last_mut()? |= bit;
+        put_unsigned(&mut self.encoding, u64::from(index));
+        Some(true)
+    }
+
+    fn add(&mut self, byte: u8) {
+        self.encoding.push(byte);
     }
 
     fn name(&mut self) -> Option<()> {
@@ -193,7 +241,7 @@ impl Follow for Plain<'_> {
         name[text..].starts_with(prefix.as_bytes()).then_some(())
     }
 
-    fn opcode(&mut self, with_end: bool) -> Option<&'static str> {
+    fn opcode(&mut self, with_end: bool) -> Option<&'static Row> {
         let byte = self.byte()?;
         self.encoding.push(byte);
         let number = if (0xFB..=0xFE).contains(&byte) {
@@ -209,7 +257,7 @@ impl Follow for Plain<'_> {
         if byte == 0x0B && !with_end {
             return None;
         }
-        shapes().get(&(prefix, number)).copied()
+        rows().get(&(prefix, number)).copied()
     }
 
     fn vector(&mut self, member: fn(&mut Self) -> Option<()>) -> Option<()> {
@@ -237,13 +285,15 @@ impl Follow for Plain<'_> {
 
     fn frame(&mut self, content: &dyn Fn(&mut Self) -> Option<()>) -> Option<()> {
         let size = self.unsigned(32)?;
-        let mut inner = Plain::between(self.take(size as usize)?, self.grammar, self.written);
+        let framed = self.take(size as usize)?;
+        let mut inner = Plain::mapping(framed, self.grammar, self.written, self.indices);
         content(&mut inner)?;
         if !inner.rest.is_empty() {
             return None;
         }
         put_unsigned(&mut self.encoding, inner.encoding.len() as u64);
         self.encoding.append(&mut inner.encoding);
+        self.rejected.append(&mut inner.rejected);
         Some(())
     }
 
@@ -272,4 +322,23 @@ pub fn shortened(
     crate::grammar::section(&mut along, kind)?;
     let taken = bytes.len() - along.rest.len();
     Some((along.encoding, taken))
+}
+
+/// Returns the minimal encoding in the standard's grammar of the section of the kind at the front,
+/// with its indices mapped, and its length in bytes. `Err` has the indices that the map rejects.
+#[allow(clippy::type_complexity)]
+pub fn remapped(
+    bytes: &[u8],
+    kind: &str,
+    indices: Indices<'_>,
+) -> Option<(Result<Vec<u8>, Vec<(Space, u32)>>, usize)> {
+    let mut along = Plain::mapping(bytes, Grammar::Standard, Grammar::Standard, indices);
+    crate::grammar::section(&mut along, kind)?;
+    let taken = bytes.len() - along.rest.len();
+    let result = if along.rejected.is_empty() {
+        Ok(along.encoding)
+    } else {
+        Err(along.rejected)
+    };
+    Some((result, taken))
 }

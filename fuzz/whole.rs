@@ -3,7 +3,7 @@
 use crate::grammar::{Follow, Grammar};
 use crate::plain::{Plain, shortened};
 
-const HEADER: &[u8] = b"\0asm\x01\0\0\0";
+pub const HEADER: &[u8] = b"\0asm\x01\0\0\0";
 
 /// A section, with its bytes.
 #[derive(PartialEq)]
@@ -23,7 +23,8 @@ fn name(payload: &[u8]) -> Option<&str> {
     std::str::from_utf8(along.take(length as usize)?).ok()
 }
 
-fn section(bytes: &[u8], at: usize) -> Option<Section<'_>> {
+/// The section at an offset.
+pub fn section(bytes: &[u8], at: usize) -> Option<Section<'_>> {
     let mut along = Plain::new(&bytes[at..], Grammar::Builders);
     let id = along.byte()?;
     let size = along.unsigned(32)? as usize;

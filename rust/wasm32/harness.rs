@@ -20,7 +20,9 @@ pub mod prelude {
 /// The modules and macros of `std` that the tests name.
 pub mod std {
     pub use alloc_crate::{borrow, boxed, fmt, format, rc, string, vec};
-    pub use core::{assert, assert_eq, cell, cmp, error, hash, iter, mem, ops, panic, slice};
+    pub use core::{
+        assert, assert_eq, cell, cmp, convert, error, hash, iter, mem, ops, panic, slice,
+    };
 }
 
 /// The end of a test: those that return a `Result` fail with its error.

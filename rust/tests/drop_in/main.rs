@@ -28,6 +28,7 @@ mod programs;
 mod random;
 mod random_lists;
 mod recorded;
+mod reencoded;
 mod refusals;
 mod rows;
 mod said_lengths;

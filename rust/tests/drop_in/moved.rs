@@ -103,14 +103,14 @@ fn the_program_makes_its_module() {
 
 /// The page is in the repository, and not in the published package.
 #[test]
-fn the_page_shows_this_program() {
+fn the_page_shows_these_programs() {
     let page = concat!(env!("CARGO_MANIFEST_DIR"), "/../docs/MOVING.md");
     let Ok(page) = std::fs::read_to_string(page) else {
         return;
     };
-    let program = include_str!("moved.rs");
+    let program = concat!(include_str!("moved.rs"), include_str!("reencoded.rs"));
     let blocks: Vec<&str> = page.split("```rust\n").skip(1).collect();
-    assert_eq!(blocks.len(), 2);
+    assert_eq!(blocks.len(), 3);
     for block in blocks {
         let block = block.split("```").next().unwrap();
         assert!(program.contains(block), "{block}");

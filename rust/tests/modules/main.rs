@@ -1,8 +1,9 @@
-//! Tests of `outline` and `shorten_module`: bytes that were worked out from the standard by hand.
+//! Tests of `outline`, `shorten_module` and `remap_module`: bytes that were worked out from the standard by hand.
 mod errors;
 mod numbers;
 mod outlines;
 mod refusals;
+mod remapped;
 mod samples;
 mod sections;
 mod shortened;

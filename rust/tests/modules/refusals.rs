@@ -1,7 +1,9 @@
 //! Calls of which each allocation fails in turn.
+use crate::remapped::{By, EVERY, EVERY_SHIFTED, Rejected, shifted};
 use crate::samples::{PADDED, PADDED_NAME, SHORT, SHORT_NAME, UNREAD, bytes_of, module};
 use crate::sections::first_section;
 use dolzhytik::fallible::{AllocError, Allocator, Refused, Vec};
+use dolzhytik::reader::remap::{RemapError, remap_module, remap_section};
 use dolzhytik::reader::{
     ModuleFault, Offsets, Padded, ReadError, ReadFault, Section, Sections, Standard, encode_items,
     encode_items_in, outline, shorten_module,
@@ -186,6 +188,45 @@ fn every_request_of_items_in_a_grammar() {
             let mut sink = Vec::new(alloc);
             let encoded = encode_items_in::<Padded, _, _, _>(alloc, &items, &mut sink);
             check_encoded(encoded, &sink, builders)
+        });
+    }
+}
+
+/// The value of a call that maps indices, or `None` if an allocation failed.
+fn unless_unmapped<T>(given: Result<T, RemapError<Rejected>>) -> Option<T> {
+    match given {
+        Ok(value) => Some(value),
+        Err(RemapError::Refused(Refused::Memory)) => None,
+        Err(RemapError::Read(error)) => unless_refused(Err(error)),
+        Err(error) => panic!("{error:?}"),
+    }
+}
+
+#[test]
+fn every_request_of_mapped_modules() {
+    let bytes = module(&EVERY);
+    let (granted, remapped) = first_granted(|alloc| {
+        let remapped = remap_module(&bytes, alloc, &By(shifted), Offsets::Refuse);
+        unless_unmapped(remapped).map(|bytes| bytes.to_vec())
+    });
+    assert!(granted > 0);
+    assert_eq!(remapped, module(&EVERY_SHIFTED));
+}
+
+/// The sink is unchanged after an error.
+#[test]
+fn every_request_of_mapped_sections() {
+    for (section, expected) in EVERY.into_iter().zip(EVERY_SHIFTED) {
+        let (bytes, expected) = (module(&[section]), module(&[expected]));
+        first_granted(|alloc| {
+            let mut sink = Vec::new(alloc);
+            let mapped = remap_section(&first(alloc, &bytes), alloc, &By(shifted), &mut sink);
+            if mapped.is_err() {
+                assert!(sink.is_empty());
+            } else {
+                assert_eq!(sink[..], *first_section(&expected).payload());
+            }
+            unless_unmapped(mapped)
         });
     }
 }
