@@ -229,6 +229,9 @@ PLACES = [
     Place('wasm_sections/src/start.rt', '', '#[inline(always)]\n', 'fn encode_number'),
     Place('wasm_sections/src/start.rt', '', '#[inline(always)]\n    ', f'{ENCODE} encode_number(sink, self.function_index)'),
     Place('wasm_sections/src/start.rt', '', '#[inline(always)]\n    ', f'{ENCODE} encode_number(sink, self.count)'),
+    # A size prefix is inline in each encoder: as a function it is a third of a short custom section.
+    Place('wasm_base/src/frames.rt', '', '#[inline(always)]\n', 'pub fn begin_size_prefixed'),
+    Place('wasm_custom/src/custom_section.rt', '', '#[inline]\n', 'pub(crate) fn begin_custom'),
     # A call of the root is then one function.
     Place('wasm_sections/src/data.rt', '', '#[inline]\n    ', 'fn add_bytes'),
     # The root of the package makes empty builders by a constant, prints their bytes, and takes those
