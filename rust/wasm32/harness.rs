@@ -132,7 +132,9 @@ fn say(text: &str) {
 }
 
 /// Returns whether a call panics with a message that contains this string. The stack is not
-/// unwound: values are not dropped.
+/// unwound: values are not dropped. A trap leaves the stack pointer as it is, and the end of this
+/// function restores it: inline, a loop of calls would run out of stack.
+#[inline(never)]
 pub fn panics_with(text: &str, call: impl FnOnce()) -> bool {
     let mut call = Some(call);
     let mut once = || call.take().into_iter().for_each(|call| call());
