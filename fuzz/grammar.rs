@@ -768,8 +768,8 @@ fn core_module<G: Follow>(g: &mut G) -> Option<()> {
 fn core_instance<G: Follow>(g: &mut G) -> Option<()> {
     g.tag(&[0])?;
     u32_any(g)?;
-    g.vector(u32_any)?;
-    g.vector(u32_any)
+    g.vector(|g| g.index(Space::Memories))?;
+    g.vector(|g| g.index(Space::Globals))
 }
 
 fn core_value<G: Follow>(g: &mut G) -> Option<()> {

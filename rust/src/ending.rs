@@ -29,7 +29,7 @@ const MANY: usize = 128;
 const MOVED: usize = 1024;
 
 /// Reserves spare capacity for `more` bytes. The new capacity is at least twice the old one, and
-/// [`MANY`] after [`FEW`].
+/// [`MANY`] after [`FEW`]. A short list is a multiple of [`FEW`] bytes.
 #[cold]
 #[inline(never)]
 pub fn grow(old: &mut Vec<u8>, more: usize) {
@@ -39,9 +39,24 @@ pub fn grow(old: &mut Vec<u8>, more: usize) {
         return old.reserve(more);
     }
     let least = if old.capacity() < FEW { FEW } else { MANY };
-    let mut new = Vec::with_capacity(room.max(least));
+    let mut new = Vec::with_capacity(room.max(least).next_multiple_of(FEW));
     new.extend_from_slice(old);
     *old = new;
+}
+
+/// Appends a byte to a list without spare capacity.
+#[cold]
+#[inline(never)]
+fn push_grown(list: &mut Vec<u8>, byte: u8) {
+    grow(list, 1);
+    list.push(byte);
+}
+
+/// Ends a call that needs spare capacity and has none. The proved calls reserve it first.
+#[cold]
+#[inline(never)]
+fn full() -> ! {
+    panic!("no spare capacity");
 }
 
 /// A borrowed `std` vector as a sink whose calls never fail.
@@ -82,19 +97,26 @@ impl Sink for Growing<'_> {
     #[inline]
     fn push(&mut self, byte: u8) -> Result<(), AllocError> {
         if self.0.len() == self.0.capacity() {
-            grow(self.0, 1);
+            push_grown(self.0, byte);
+        } else {
+            self.0.push(byte);
         }
-        self.0.push(byte);
         Ok(())
     }
 
     #[inline]
     fn push_reserved(&mut self, byte: u8) {
-        self.0.extend_from_slice(&[byte]);
+        if self.0.len() == self.0.capacity() {
+            full();
+        }
+        self.0.push(byte);
     }
 
     #[inline]
     fn push_both_reserved(&mut self, bytes: [u8; 2]) {
+        if self.0.capacity() - self.0.len() < 2 {
+            full();
+        }
         self.0.extend_from_slice(&bytes);
     }
 

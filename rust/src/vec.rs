@@ -413,6 +413,9 @@ impl<A: Allocator> Sink for Vec<u8, A> {
 
     #[inline]
     fn push(&mut self, byte: u8) -> Result<(), AllocError> {
+        if A::ends() {
+            return Growing(&mut self.items).push(byte);
+        }
         if self.items.len() == self.items.capacity() {
             Sink::reserve(self, 1)?;
         }
@@ -422,11 +425,17 @@ impl<A: Allocator> Sink for Vec<u8, A> {
 
     #[inline]
     fn push_reserved(&mut self, byte: u8) {
+        if A::ends() {
+            return Growing(&mut self.items).push_reserved(byte);
+        }
         self.items.extend_from_slice(&[byte]);
     }
 
     #[inline]
     fn push_both_reserved(&mut self, bytes: [u8; 2]) {
+        if A::ends() {
+            return Growing(&mut self.items).push_both_reserved(bytes);
+        }
         self.items.extend_from_slice(&bytes);
     }
 

@@ -2,6 +2,7 @@
 use Rattle.wasm_base.proofs.Words.{ℕ, map, Option, Some, refl}
 use Rattle.std.specs.Option.{option_map}
 use Rattle.wasm_base.specs.Formats.{Format, u32, pair}
+use Rattle.wasm_custom.specs.CoreDumps.{instance_of, instance, instances_payload}
 use Rattle.wasm_custom.specs.Comdats.{comdat_symbol_of, comdat_symbol, comdat_of, comdat}
 use Rattle.wasm_custom.specs.Hints.{hints_payload}
 use Rattle.wasm_custom.specs.Linking.{Segments, InitFunctions, Comdats, Symbols, Target, OtherLink, full_link_tags, other_link, full_link, link, linking_payload}
@@ -12,12 +13,12 @@ use Rattle.wasm_custom.specs.declared.relocations.RelocationKind.{RelocationKind
 use Rattle.wasm_custom.specs.declared.relocations.RelocationKind.TheVariants as kinds
 use Rattle.wasm_custom.specs.declared.symbols.SymbolKind.{SymbolKind}
 use Rattle.wasm_custom.specs.declared.symbols.SymbolKind.TheVariants.{Function, Global, Table, Tag}
-use Rattle.wasm_remap.specs.Customs.{space_among, name_spaces, remapped_name, remapped_hints, space_of_symbol, remapped_definition, remapped_symbol, comdat_spaces, remapped_member, remapped_comdat, remapped_link, space_of_relocation, remapped_relocation}
+use Rattle.wasm_remap.specs.Customs.{space_among, name_spaces, remapped_name, remapped_hints, remapped_instance, space_of_symbol, remapped_definition, remapped_symbol, comdat_spaces, remapped_member, remapped_comdat, remapped_link, space_of_relocation, remapped_relocation}
 use Rattle.wasm_remap.specs.Mapping.{Mapping, IsSmall, mapped_first, mapped_in}
 use Rattle.wasm_remap.specs.declared.spaces.IndexSpace.{IndexSpace}
 use Rattle.wasm_remap.specs.declared.spaces.IndexSpace.TheVariants as spaces
 use Rattle.wasm_remap.proofs.MappedCode.{index_maps, number_maps}
-use Rattle.wasm_remap.proofs.MappedForms.{Maps, kept, mapped_maps, pair_maps, then_maps, tagged_maps, choice_maps, selected_maps, optional_maps, members_maps, vec_maps, size_prefixed_maps}
+use Rattle.wasm_remap.proofs.MappedForms.{Maps, kept, mapped_maps, pair_maps, prefixed_maps, then_maps, tagged_maps, choice_maps, selected_maps, optional_maps, members_maps, vec_maps, size_prefixed_maps}
 
 module _ (m : Mapping) (small : IsSmall m) where
   -- ---- names
@@ -38,6 +39,14 @@ module _ (m : Mapping) (small : IsSmall m) where
 
   pub hints_maps : Maps (map (remapped_hints m)) hints_payload
   hints_maps = tagged_maps (λ u. tagged_maps (λ v. vec_maps (first_maps (Some spaces.Functions))))
+
+  -- ---- core dumps
+
+  instance_maps : Maps (remapped_instance m) instance
+  instance_maps = mapped_maps instance_of (λ p. (p.0, (map (m spaces.Memories) p.1.0, map (m spaces.Globals) p.1.1))) (λ p. refl) (prefixed_maps (0x00 ∷ []) (pair_maps kept (λ n. pair_maps (vec_maps (index_maps m small spaces.Memories)) (λ ns. vec_maps (index_maps m small spaces.Globals)))))
+
+  pub instances_maps : Maps (map (remapped_instance m)) instances_payload
+  instances_maps = tagged_maps (λ u. tagged_maps (λ v. vec_maps instance_maps))
 
   -- ---- linking
 

@@ -10,7 +10,7 @@ use Rattle.wasm_reader.specs.Words.{Section, section_kind_of}
 use Rattle.wasm_reader.specs.declared.kinds.SectionKind.{SectionKind}
 use Rattle.wasm_reader.specs.declared.kinds.SectionKind.TheVariants as kinds
 use Rattle.wasm_reader.proofs.KindLaws.{content_whole, kind_is}
-use Rattle.wasm_remap.specs.Customs.{remapped_hints, remapped_link, remapped_name, remapped_relocation}
+use Rattle.wasm_remap.specs.Customs.{remapped_hints, remapped_instance, remapped_link, remapped_name, remapped_relocation}
 use Rattle.wasm_remap.specs.Instructions.{remapped_body}
 use Rattle.wasm_remap.specs.Items.{remapped_data, remapped_element, remapped_export, remapped_global, remapped_import, remapped_table, remapped_tag}
 use Rattle.wasm_remap.specs.Mapping.{Mapping, IsSmall}
@@ -18,7 +18,7 @@ use Rattle.wasm_remap.specs.Sections.{RemapsSection, remapped}
 use Rattle.wasm_remap.specs.Types.{remapped_type}
 use Rattle.wasm_remap.specs.declared.spaces.IndexSpace.TheVariants as spaces
 use Rattle.wasm_remap.proofs.MappedCode.{body_maps, index_maps}
-use Rattle.wasm_remap.proofs.MappedCustoms.{hints_maps, linking_maps, name_maps, relocations_maps}
+use Rattle.wasm_remap.proofs.MappedCustoms.{hints_maps, instances_maps, linking_maps, name_maps, relocations_maps}
 use Rattle.wasm_remap.proofs.MappedForms.{Maps, kept, mapped_maps, size_prefixed_maps, vec_maps}
 use Rattle.wasm_remap.proofs.MappedItems.{data_maps, element_maps, export_maps, global_maps, import_maps, table_maps, tag_maps}
 use Rattle.wasm_remap.proofs.MappedTypes.{type_maps}
@@ -43,7 +43,7 @@ module _ (m : Mapping) (small : IsSmall m) where
   content_maps kinds.Hints = mapped_maps Hints (map (remapped_hints m)) (λ x. refl) (hints_maps m small)
   content_maps kinds.Core = mapped_maps Core (λ x. x) (λ x. refl) kept
   content_maps kinds.CoreModules = mapped_maps CoreModules (λ x. x) (λ x. refl) kept
-  content_maps kinds.CoreInstances = mapped_maps CoreInstances (λ x. x) (λ x. refl) kept
+  content_maps kinds.CoreInstances = mapped_maps CoreInstances (map (remapped_instance m)) (λ x. refl) (instances_maps m small)
   content_maps kinds.CoreStack = mapped_maps CoreStack (λ x. x) (λ x. refl) kept
   content_maps kinds.Custom = mapped_maps Custom (λ x. x) (λ x. refl) kept
   content_maps kinds.Raw = mapped_maps Raw (λ x. x) (λ x. refl) kept

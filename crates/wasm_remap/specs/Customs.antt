@@ -2,6 +2,7 @@
 use Rattle.std.specs.Prelude.{ℕ, ◌==◌, List, [], ◌∷◌, Option, Some, None, cond, map}
 use Rattle.std.specs.Option.{option_map}
 use Rattle.wasm_custom.specs.Comdats.{Comdat}
+use Rattle.wasm_custom.specs.CoreDumps.{Instance}
 use Rattle.wasm_custom.specs.Hints.{Hints}
 use Rattle.wasm_custom.specs.Linking.{LinkItem, Segments, InitFunctions, Comdats, Symbols, Target, OtherLink}
 use Rattle.wasm_custom.specs.Names.{NameItem, Module, Map, Indirect, Other}
@@ -51,6 +52,13 @@ remapped_name m (Other id bytes) = Other id bytes
 -- The branch hints of a function.
 abbrev pub remapped_hints : Mapping → Hints → Hints
 remapped_hints m h = mapped_first m (Some spaces.Functions) h
+
+-- ---- core dumps
+
+-- An instance of a core dump: its memories and globals are those of the file. The index of its module
+-- stays.
+abbrev pub remapped_instance : Mapping → Instance → Instance
+remapped_instance m i = record { module_index = i.module_index; memories = map (m spaces.Memories) i.memories; globals = map (m spaces.Globals) i.globals }
 
 -- ---- linking
 

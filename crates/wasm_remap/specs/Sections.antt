@@ -11,14 +11,14 @@ use Rattle.wasm_reader.specs.Kinds.{Contents, content, Bodies, Segments, DataCou
 use Rattle.wasm_reader.specs.Kinds.{CoreStack, Custom, Raw, Types, TargetFeatures, SourceMappingUrl, ExternalDebugInfo, BuildId, Dylink, Relocations}
 use Rattle.wasm_reader.specs.Sections.{AppendsContentIn, HasContentIn}
 use Rattle.wasm_reader.specs.Words.{Section, section_kind_of}
-use Rattle.wasm_remap.specs.Customs.{remapped_hints, remapped_link, remapped_name, remapped_relocation}
+use Rattle.wasm_remap.specs.Customs.{remapped_hints, remapped_instance, remapped_link, remapped_name, remapped_relocation}
 use Rattle.wasm_remap.specs.Instructions.{remapped_body}
 use Rattle.wasm_remap.specs.Items.{remapped_data, remapped_element, remapped_export, remapped_global, remapped_import, remapped_table, remapped_tag}
 use Rattle.wasm_remap.specs.Mapping.{Mapping, IsSmall}
 use Rattle.wasm_remap.specs.Types.{remapped_type}
 use Rattle.wasm_remap.specs.declared.spaces.IndexSpace.TheVariants as spaces
 
--- The content with each index mapped. A core dump has indices of the module that it is a dump of,
+-- The content with each index mapped. The frames of a core dump have functions of the dumped modules,
 -- which stay.
 abbrev pub remapped : Mapping → Contents → Contents
 remapped m (Bodies xs) = Bodies (map (remapped_body m) xs)
@@ -39,7 +39,7 @@ remapped m (Producers xs) = Producers xs
 remapped m (Hints xs) = Hints (map (remapped_hints m) xs)
 remapped m (Core n) = Core n
 remapped m (CoreModules xs) = CoreModules xs
-remapped m (CoreInstances xs) = CoreInstances xs
+remapped m (CoreInstances xs) = CoreInstances (map (remapped_instance m) xs)
 remapped m (CoreStack x) = CoreStack x
 remapped m (Custom x) = Custom x
 remapped m (Raw x) = Raw x

@@ -1,14 +1,14 @@
 // Items of custom sections whose indices are mapped.
 ghost use Rattle.std.specs.Prelude.{◌≡◌, ℕ, List, IfOk, IfErr, OnOk, Option, map};
-ghost use Rattle.wasm_custom.specs.Words.{Comdat as ComdatModel, Hints, LinkItem as LinkModel, NameItem as NameModel, Symbol as SymbolModel, comdat_view, hints_view, link_view, name_item_view};
+ghost use Rattle.wasm_custom.specs.Words.{Comdat as ComdatModel, Hints, Instance, LinkItem as LinkModel, NameItem as NameModel, Symbol as SymbolModel, comdat_view, hints_view, instance_view, link_view, name_item_view};
 ghost use Rattle.wasm_custom.specs.Names.{id_of, inside_view, names_view};
 ghost use Rattle.wasm_custom.specs.Symbols.{symbol_view};
 ghost use Rattle.wasm_custom.specs.declared.comdats.ComdatSymbol.{ComdatSymbol};
 ghost use Rattle.wasm_custom.specs.declared.relocations.Relocation.{Relocation};
 ghost use Rattle.wasm_remap.specs.Mapping.{ComesFrom, mapped_first};
-ghost use Rattle.wasm_remap.specs.Customs.{comdat_spaces, name_spaces, remapped_comdat, remapped_hints, remapped_link, remapped_member, remapped_name, remapped_relocation, remapped_symbol, space_among, space_of_relocation as relocation_space};
+ghost use Rattle.wasm_remap.specs.Customs.{comdat_spaces, name_spaces, remapped_comdat, remapped_hints, remapped_instance, remapped_link, remapped_member, remapped_name, remapped_relocation, remapped_symbol, space_among, space_of_relocation as relocation_space};
 
-use crate::indexed::{Indexed, Remap, RemapError, mapped, mapped_number, remap_each, remap_firsts};
+use crate::indexed::{Indexed, Remap, RemapError, mapped, mapped_number, remap_each, remap_firsts, remap_numbers};
 use crate::spaces::IndexSpace;
 use std::alloc::Allocator;
 use wasm_custom::{
@@ -97,6 +97,20 @@ impl<A: Allocator + Copy> Indexed<A> for (u32, Vec<BranchHint, A>) {
     fn remap<M: Remap>(&mut self, _alloc: A, indices: &M) -> Result<(), RemapError<M::Error>> {
         self.0 = mapped(indices, IndexSpace::Functions, self.0)?;
         Ok(())
+    }
+}
+
+/// An instance of a core dump: the index of its module, its memories and its globals.
+impl<A: Allocator + Copy> Indexed<A> for (u32, Vec<u32, A>, Vec<u32, A>) {
+    ghost Value = { Instance };
+
+    ghost view = { instance_view };
+
+    ghost remapped = { remapped_instance };
+
+    fn remap<M: Remap>(&mut self, _alloc: A, indices: &M) -> Result<(), RemapError<M::Error>> {
+        remap_numbers(&mut self.1, IndexSpace::Memories, indices)?;
+        remap_numbers(&mut self.2, IndexSpace::Globals, indices)
     }
 }
 

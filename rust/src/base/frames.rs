@@ -52,6 +52,7 @@ use crate::alloc::Allocator;
 /// ```
 ///
 /// Definitions: [`unsigned_encoding`](crate::definitions::base::numbers::unsigned_encoding), [`longest`](crate::definitions::base::encodings::longest). [How to read clauses](crate::definitions).
+#[inline(always)]
 pub fn begin_size_prefixed<A: Sink>(sink: &mut A, size: usize) -> Result<()> {
     let Ok(short) = u32::try_from(size) else {
         return Err(Refused::TooLong);

@@ -122,19 +122,19 @@ fn append_counted_groups<A: Sink>(
 }
 
 /// Appends an unsigned number of several groups.
-#[inline(never)]
+#[inline]
 fn append_long_unsigned<A: Sink>(sink: &mut A, n: u64) -> Result<()> {
     append_groups(sink, false, UNSIGNED_LIMIT, n)
 }
 
 /// Appends a signed number of several groups.
-#[inline(never)]
+#[inline]
 fn append_long_signed<A: Sink>(sink: &mut A, negative: bool, n: u64) -> Result<()> {
     append_groups(sink, negative, SIGNED_LIMIT, n)
 }
 
 /// Appends an unsigned number. Most have one byte, which is written here without a call.
-#[inline]
+#[inline(always)]
 fn append_unsigned<A: Sink>(sink: &mut A, n: u64) -> Result<()> {
     if n < UNSIGNED_LIMIT {
         sink.push(n as u8)?;
@@ -144,7 +144,7 @@ fn append_unsigned<A: Sink>(sink: &mut A, n: u64) -> Result<()> {
 }
 
 /// Appends a signed number. Most have one byte, which is written here without a call.
-#[inline]
+#[inline(always)]
 fn append_signed<A: Sink>(sink: &mut A, n: i64) -> Result<()> {
     let negative = n < 0;
     let n = if negative { -(n + 1) } else { n } as u64;
@@ -166,7 +166,7 @@ fn append_signed<A: Sink>(sink: &mut A, n: i64) -> Result<()> {
 ///
 /// Definitions: [`unsigned_encoding`](crate::definitions::base::numbers::unsigned_encoding). [How to read clauses](crate::definitions).
 impl Encode for u32 {
-    #[inline]
+    #[inline(always)]
     fn encode<A: Sink>(&self, sink: &mut A) -> Result<()> {
         append_unsigned(sink, u64::from(*self))
     }
@@ -183,7 +183,7 @@ impl Encode for u32 {
 ///
 /// Definitions: [`unsigned_encoding`](crate::definitions::base::numbers::unsigned_encoding). [How to read clauses](crate::definitions).
 impl Encode for u64 {
-    #[inline]
+    #[inline(always)]
     fn encode<A: Sink>(&self, sink: &mut A) -> Result<()> {
         append_unsigned(sink, *self)
     }

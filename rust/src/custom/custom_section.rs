@@ -7,6 +7,7 @@ use crate::base::{CowSlice, CowStr, Encode, Refused, Result, Section, SectionId,
 
 /// Appends the size prefix and the name of a custom section, and reserves spare capacity for `size`
 /// bytes of data that the caller appends next.
+#[inline]
 pub(crate) fn begin_custom<A: Sink>(
     sink: &mut A,
     name: &str,

@@ -54,7 +54,7 @@ macro_rules! hands_on {
     };
 }
 
-hands_on! { u8 u64 usize i64 }
+hands_on! { u8 u64 usize }
 hands_on! { AbstractHeapType HeapType RefType ValType StorageType FieldType ArrayType ContType }
 hands_on! { BlockType Catch Handle Ieee32 Ieee64 MemArg MemArgOrdering Ordering }
 hands_on! { GlobalType MemoryType TableType CoreDumpValue }
@@ -77,7 +77,7 @@ macro_rules! numbers {
     };
 }
 
-numbers! { u32 i32 StartSection DataCountSection }
+numbers! { u32 i32 i64 StartSection DataCountSection }
 
 /// Encodes a name: its length in bytes, and its bytes.
 impl Encode for str {

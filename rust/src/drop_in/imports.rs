@@ -1,10 +1,10 @@
 //! The import section, and the types of imported items.
-use super::{ImportSection, TagType, by_proved, done, handed, same_cases, same_fields};
-use crate::base::CowSlice;
+use super::{ImportSection, TagType, by_proved, done, encode_with, same_cases, same_fields};
+use crate::base::{self, CowSlice, Result};
 use crate::sections;
 use crate::sections::{GlobalType, MemoryType, TableType};
+use crate::vec::Sink;
 use alloc_crate::borrow::Cow;
-use alloc_crate::vec::Vec;
 
 #[doc = text!(EntityType)]
 #[derive(Clone, Copy, Debug, PartialEq, Eq)]
@@ -73,26 +73,26 @@ impl ImportSection {
     }
 }
 
-impl<'a> Imports<'a> {
-    /// Converts the entry for a proved call. A borrowed list of items is copied, since their types
-    /// are converted.
-    pub(super) fn proved(self) -> sections::Imports<'a> {
-        match self {
-            Imports::Single(import) => sections::Imports::Single(import.into()),
+/// An entry as the proved call encodes it. Items are encoded behind an entry without any: its
+/// encoding ends with their number, which is one byte.
+pub struct Group<'a>(pub Imports<'a>);
+
+impl base::Encode for Group<'_> {
+    #[inline]
+    fn encode<A: Sink>(&self, sink: &mut A) -> Result<()> {
+        let (entry, items): (sections::Imports<'_>, _) = match &self.0 {
+            Imports::Single(import) => (sections::Imports::Single(import.clone().into()), None),
             Imports::Compact1 { module, items } => {
-                let items = items.into_owned().into_iter();
-                let items: Vec<_> = items.map(sections::ImportCompact::from).collect();
-                sections::Imports::Compact1 {
-                    module,
-                    items: CowSlice::Owned(items.into()),
-                }
+                let all = items.iter().cloned().map(sections::ImportCompact::from);
+                let items = CowSlice::Borrowed(&[][..]);
+                (sections::Imports::Compact1 { module, items }, Some(all))
             }
-            Imports::Compact2 { module, ty, names } => sections::Imports::Compact2 {
-                module,
-                ty: ty.into(),
-                names: handed(names),
-            },
-        }
+            Imports::Compact2 { module, ty, names } => {
+                let (ty, names) = ((*ty).into(), CowSlice::Borrowed(&names[..]));
+                (sections::Imports::Compact2 { module, ty, names }, None)
+            }
+        };
+        encode_with(&entry, items, sink)
     }
 }
 

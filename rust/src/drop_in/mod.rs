@@ -50,11 +50,10 @@ mod values;
 
 pub use names::*;
 
-use crate::base::{CowSlice, Entries, Pieces, Refused, Result};
+use crate::base::{self, Entries, Pieces, Refused, Result};
 use crate::ending::Root;
-use crate::vec;
+use crate::vec::{self, Sink};
 use alloc_crate::alloc::{Layout, handle_alloc_error};
-use alloc_crate::borrow::Cow;
 
 /// Ends a call that the proved one returned an error for. The size of a failed allocation is not
 /// known here.
@@ -92,12 +91,19 @@ impl From<Pieces> for Entries<Root> {
     }
 }
 
-/// Converts items for a proved call. None is copied.
-fn handed<T: Clone>(items: Cow<'_, [T]>) -> CowSlice<'_, T> {
-    match items {
-        Cow::Borrowed(items) => CowSlice::Borrowed(items),
-        Cow::Owned(items) => CowSlice::Owned(items.into()),
+/// Encodes a value. With items its encoding ends with the number of none, which is one byte, and
+/// the items are encoded in its place.
+#[inline(always)]
+fn encode_with<V, A: Sink>(value: &impl base::Encode, items: Option<V>, sink: &mut A) -> Result<()>
+where
+    V: IntoIterator<Item: base::Encode, IntoIter: ExactSizeIterator>,
+{
+    value.encode(sink)?;
+    if let Some(items) = items {
+        sink.truncate(sink.len() - 1);
+        base::encode_vec(items, sink)?;
     }
+    Ok(())
 }
 
 /// Implements `Default` by `new`.

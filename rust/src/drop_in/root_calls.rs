@@ -15,6 +15,7 @@ use super::{
 use super::bytes::Bytes;
 use super::const_expr::encodings;
 use super::custom::MARK;
+use super::imports::Group;
 use super::later::Later;
 use super::sections::{Front, Given};
 use crate::{base, code, custom, types};
@@ -538,7 +539,7 @@ impl ImportSection {
     ///
     /// Definitions: [`AddsTo`](crate::definitions::base::calls::AddsTo), [`import_encoding`](crate::definitions::sections::imports::import_encoding), [`imports_item`](crate::definitions::sections::imports::imports_item), [`IsEncodableImport`](crate::definitions::sections::imports::IsEncodableImport). [How to read clauses](crate::definitions).
     pub fn imports<'a>(&mut self, imports: Imports<'a>) -> &mut Self {
-        done(self.0.add_record(&imports.proved()));
+        done(self.0.add_record(&Group(imports)));
         self
     }
 

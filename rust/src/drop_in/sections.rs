@@ -1,5 +1,5 @@
 //! The sections of counted items.
-use super::{ConstExpr, NONE, listed};
+use super::{ConstExpr, NONE, encode_with, listed};
 use crate::base::{CowSlice, Encode, Lent, RefType, Result};
 use crate::ending::Root;
 use crate::sections;
@@ -97,19 +97,12 @@ impl Encode for Given<'_> {
                 (sections::Elements::Functions(functions), None)
             }
             Elements::Expressions(ty, expressions) => {
-                let none = CowSlice::Borrowed(&[][..]);
-                (
-                    sections::Elements::Expressions(*ty, none),
-                    Some(expressions),
-                )
+                let none = sections::Elements::Expressions(*ty, CowSlice::Borrowed(&[]));
+                (none, Some(expressions.iter().map(Lent)))
             }
         };
-        sections::ElementSegment { mode, elements }.encode(sink)?;
-        if let Some(expressions) = expressions {
-            sink.truncate(sink.len() - 1);
-            (&expressions[..]).encode(sink)?;
-        }
-        Ok(())
+        let segment = sections::ElementSegment { mode, elements };
+        encode_with(&segment, expressions, sink)
     }
 }
 

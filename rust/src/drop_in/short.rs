@@ -3,7 +3,7 @@
 use super::done;
 use crate::alloc::AllocError;
 use crate::base::{AbstractHeapType, Encode, HeapType, Lent, Result, ValType};
-use crate::ending::grow;
+use crate::ending::{Growing, grow};
 use crate::immediates::{Ieee32, Ieee64, Lane, MemArg, MemArgTarget, Ordering};
 use crate::sections::{DataCountSection, StartSection};
 use crate::vec::{Sealed, Sink};
@@ -24,14 +24,20 @@ pub struct Exact {
 }
 
 impl Exact {
-    /// Returns what a call appends, if it appends exactly `N` bytes.
+    /// Returns a sink without bytes.
     #[inline(always)]
-    pub fn of(call: impl FnOnce(&mut Self) -> Result<()>, len: usize) -> Option<Self> {
-        let mut sink = Exact {
+    fn new() -> Self {
+        Exact {
             bytes: [0; SPACE],
             len: 0,
-        };
-        call(&mut sink).ok()?;
+        }
+    }
+
+    /// Returns the encoding of a value, if it has exactly `len` bytes.
+    #[inline(always)]
+    pub fn of(value: &impl Encode, len: usize) -> Option<Self> {
+        let mut sink = Exact::new();
+        value.encode(&mut sink).ok()?;
         (sink.len == len && len <= SPACE).then_some(sink)
     }
 }
@@ -128,7 +134,7 @@ pub fn put_short<const N: usize, P: Short>(list: &mut Vec<u8>, op: [u8; N], part
     let size = N + P::SIZE;
     if parts.is_short()
         && list.capacity() - list.len() >= size
-        && let Some(bytes) = Exact::of(|sink| (op, parts.short()).encode(sink), size)
+        && let Some(bytes) = Exact::of(&(op, parts.short()), size)
     {
         list.extend_from_slice(&bytes);
         return true;
@@ -136,13 +142,32 @@ pub fn put_short<const N: usize, P: Short>(list: &mut Vec<u8>, op: [u8; N], part
     false
 }
 
-/// Appends a number, of any length.
+/// The bytes that are copied at once: a copy of this size is not a call.
+const BLOCK: usize = 16;
+
+/// Appends a number, of any length. It is encoded on the stack, where no byte needs a test of the
+/// capacity. Then a whole block is copied, and the list is truncated.
 #[inline(never)]
 pub fn put_number<P: Short>(number: P, list: &mut Vec<u8>) {
+    const { assert!(P::MOST <= BLOCK) }
+    if list.capacity() - list.len() < BLOCK {
+        return put_tight(number, list);
+    }
+    let mut sink = Exact::new();
+    done(number.long().encode(&mut sink));
+    let end = list.len() + sink.len;
+    list.extend_from_slice(&sink.bytes[..BLOCK]);
+    list.truncate(end);
+}
+
+/// Appends a number without spare capacity for a block.
+#[cold]
+#[inline(never)]
+fn put_tight<P: Short>(number: P, list: &mut Vec<u8>) {
     if list.capacity() - list.len() < P::MOST {
         grow(list, P::MOST);
     }
-    done(number.long().encode(list));
+    done(number.long().encode(&mut Growing(list)));
 }
 
 /// Implements [`Short`] for types all of whose values have encodings of one size.
@@ -311,7 +336,7 @@ mod tests {
         let bytes = encoding(value);
         assert!(bytes.len() <= P::MOST);
         if value.is_short() {
-            let exact = Exact::of(|sink| value.short().encode(sink), P::SIZE);
+            let exact = Exact::of(&value.short(), P::SIZE);
             assert_eq!(&exact.expect("the bytes are as many")[..], bytes);
         }
     }
@@ -418,11 +443,24 @@ mod tests {
         }
     }
 
+    /// Numbers of all lengths, to each spare capacity, have the bytes of the proved `encode`.
+    #[test]
+    fn numbers_are_appended_to_any_spare_capacity() {
+        let numbers = (0..64).flat_map(|bits| [1_u64 << bits, (1 << bits) - 1]);
+        let numbers = numbers.flat_map(|it| [it, !it]).map(u64::cast_signed);
+        for (number, spare) in numbers.flat_map(|it| (0..2 * BLOCK).map(move |spare| (it, spare))) {
+            let mut list = Vec::with_capacity(spare);
+            put_number(number, &mut list);
+            put_number(number as u32, &mut list);
+            assert_eq!(list, [encoding(number), encoding(number as u32)].concat());
+        }
+    }
+
     #[test]
     fn a_full_sink_returns_nothing() {
-        let full =
-            |count: usize| Exact::of(|sink| (0..count).try_for_each(|_| Ok(sink.push(0)?)), count);
-        assert!(full(SPACE).is_some() && full(SPACE + 1).is_none() && full(2 * SPACE).is_none());
-        assert!(Exact::of(|sink| [0; SPACE + 1].encode(sink), SPACE).is_none());
+        assert!(Exact::of(&[0; SPACE], SPACE).is_some());
+        assert!(Exact::of(&([0; SPACE], 0_u8), SPACE + 1).is_none());
+        assert!(Exact::of(&[0; SPACE + 1], SPACE + 1).is_none());
+        assert!(Exact::of(&[0; SPACE + 1], SPACE).is_none());
     }
 }

@@ -228,7 +228,7 @@ impl MemArg {
 ///
 /// Definitions: [`mem_arg_encoding`](crate::definitions::immediates::immediates::mem_arg_encoding). [How to read clauses](crate::definitions).
 impl Encode for MemArg {
-    #[inline]
+    #[inline(always)]
     fn encode<A: Sink>(&self, sink: &mut A) -> Result<()> {
         match (self.target, self.ordering) {
             (MemArgTarget::Memory(0), None) => encode_plain(self.flags(), self.offset, sink),
@@ -239,7 +239,7 @@ impl Encode for MemArg {
 
 /// Appends flags and an offset. Most have one byte each, and are written after one test of the
 /// spare capacity.
-#[inline]
+#[inline(always)]
 fn encode_plain<A: Sink>(flags: u32, offset: u64, sink: &mut A) -> Result<()> {
     if flags < 0x80 && offset < 0x80 && sink.capacity() - sink.len() >= 2 {
         put_two_bytes(flags as u8, offset as u8, sink);

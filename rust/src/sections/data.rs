@@ -367,6 +367,7 @@ impl<S: Store> CountedSection<DataItems, S> {
     }
 
     /// Adds a segment that is encoded as `front` and the size-prefixed bytes.
+    #[inline]
     fn add_bytes<F: Encode, D: IntoIterator<Item = u8>>(
         &mut self,
         front: F,

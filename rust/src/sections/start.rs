@@ -46,6 +46,7 @@ pub struct DataCountSection {
 }
 
 /// Appends the number with its size prefix, which decode to this number alone.
+#[inline(always)]
 fn encode_number<A: Sink>(sink: &mut A, number: u32) -> Result<()> {
     begin_size_prefixed(sink, encoding_size(number))?;
     number.encode(sink).unwrap();
@@ -66,6 +67,7 @@ fn encode_number<A: Sink>(sink: &mut A, number: u32) -> Result<()> {
 ///
 /// Definitions: [`size_prefixed_encoding`](crate::definitions::base::encodings::size_prefixed_encoding), [`unsigned_encoding`](crate::definitions::base::numbers::unsigned_encoding), [`HasEncodableSize`](crate::definitions::base::encodings::HasEncodableSize), [`DecodesBack`](crate::definitions::base::calls::DecodesBack), [`size_prefixed`](crate::definitions::base::formats::size_prefixed), [`u32_format`](crate::definitions::base::formats::u32). [How to read clauses](crate::definitions).
 impl Encode for StartSection {
+    #[inline(always)]
     fn encode<A: Sink>(&self, sink: &mut A) -> Result<()> {
         encode_number(sink, self.function_index)
     }
@@ -104,6 +106,7 @@ impl Section for StartSection {
 ///
 /// Definitions: [`size_prefixed_encoding`](crate::definitions::base::encodings::size_prefixed_encoding), [`unsigned_encoding`](crate::definitions::base::numbers::unsigned_encoding), [`HasEncodableSize`](crate::definitions::base::encodings::HasEncodableSize), [`DecodesBack`](crate::definitions::base::calls::DecodesBack), [`size_prefixed`](crate::definitions::base::formats::size_prefixed), [`u32_format`](crate::definitions::base::formats::u32). [How to read clauses](crate::definitions).
 impl Encode for DataCountSection {
+    #[inline(always)]
     fn encode<A: Sink>(&self, sink: &mut A) -> Result<()> {
         encode_number(sink, self.count)
     }

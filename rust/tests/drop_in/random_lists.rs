@@ -2,11 +2,11 @@
 //! transcription of the calls that the Rust crate makes.
 use crate::recorded::{Call, Length, List, Log};
 use dolzhytik::*;
-use std::cell::{Cell, RefCell};
-use std::panic::{AssertUnwindSafe, catch_unwind, set_hook, take_hook};
+use std::cell::RefCell;
 use std::rc::Rc;
 
-/// How many calls the test makes, unless the environment variable `DOLZHYTIK_CALLS` says it.
+/// How many calls the test makes, unless the environment variable `DOLZHYTIK_CALLS` says it while
+/// this is compiled.
 const CALLS: usize = 20_000;
 
 /// What the calls below append, written by the layouts of `coreinstances` and `corestack`. A list
@@ -105,11 +105,12 @@ impl Numbers {
         (0..count).map(|_| item(self)).collect()
     }
 
-    /// A length: mostly that of the items, or a wrong one, or one that 32 bits cannot represent.
+    /// A length: mostly that of the items, or a wrong one, or one that 32 bits cannot represent, if
+    /// a `usize` can.
     fn length(&mut self) -> Length {
         match self.below(8) {
             0 => Length::Said(self.wide() as usize),
-            1 => Length::Said(1 << 32),
+            1 => Length::Said(usize::try_from(1_u64 << 32).unwrap_or(usize::MAX)),
             _ => Length::Left,
         }
     }
@@ -160,19 +161,30 @@ impl<T: Clone> Pair<T> {
     }
 }
 
-thread_local! {
-    /// Whether panics of this thread are expected, and print nothing.
-    static EXPECTED: Cell<bool> = const { Cell::new(false) };
-}
+/// Returns the value of a call, or none if it panics. Expected panics print nothing. On wasm32 the
+/// harness has this function.
+fn caught<R>(call: impl FnOnce() -> R) -> Option<R> {
+    use std::cell::Cell;
+    use std::panic::{AssertUnwindSafe, catch_unwind, set_hook, take_hook};
+    use std::sync::Once;
 
-/// Has expected panics print nothing.
-fn silence() {
-    let hook = take_hook();
-    set_hook(Box::new(move |panic| {
-        if !EXPECTED.get() {
-            hook(panic);
-        }
-    }));
+    thread_local! {
+        /// Whether panics of this thread are expected.
+        static EXPECTED: Cell<bool> = const { Cell::new(false) };
+    }
+    static SILENCED: Once = Once::new();
+    SILENCED.call_once(|| {
+        let hook = take_hook();
+        set_hook(Box::new(move |panic| {
+            if !EXPECTED.get() {
+                hook(panic);
+            }
+        }));
+    });
+    EXPECTED.set(true);
+    let value = catch_unwind(AssertUnwindSafe(call)).ok();
+    EXPECTED.set(false);
+    value
 }
 
 /// What is asked of two lists, and the bytes unless a panic ends the call.
@@ -184,9 +196,7 @@ fn outcome<T: Clone>(
     call: impl FnOnce(List<T>, List<T>) -> Vec<u8>,
 ) -> Outcome {
     let Pair { log, first, second } = Pair::of(lists);
-    EXPECTED.set(true);
-    let bytes = catch_unwind(AssertUnwindSafe(|| call(first, second))).ok();
-    EXPECTED.set(false);
+    let bytes = caught(|| call(first, second));
     let calls = log.borrow().clone();
     (calls, bytes)
 }
@@ -229,14 +239,12 @@ fn check_frame(numbers: &mut Numbers) -> bool {
 /// the same bytes, and a panic at the same call.
 #[test]
 fn random_lists_beside_a_transcription() {
-    let calls = std::env::var("DOLZHYTIK_CALLS").map_or(CALLS, |it| it.parse().expect("a number"));
+    let calls = option_env!("DOLZHYTIK_CALLS").map_or(CALLS, |it| it.parse().expect("a number"));
     let mut numbers = Numbers(0x9E37_79B9_7F4A_7C15);
-    silence();
     let answered = (0..calls).filter(|call| match call % 2 {
         0 => check_instance(&mut numbers),
         _ => check_frame(&mut numbers),
     });
     let answered = answered.count();
-    println!("{calls} calls, {} of them with a panic", calls - answered);
     assert!(calls < 100 || (calls / 4..calls * 9 / 10).contains(&answered));
 }

@@ -176,6 +176,7 @@ ELSEWHERE = {
     "First": "crate::code::first",
     "Front": "super::sections",
     "Given": "super::sections",
+    "Group": "super::imports",
     "Global": "crate::alloc",
     "Later": "super::later",
     "Lent": "crate::base",

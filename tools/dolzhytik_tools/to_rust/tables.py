@@ -173,6 +173,8 @@ TURNED_STD = {
 }
 HOST_STD = {'std::process::Abort': 'crate::host::Abort'}
 ERASED_STD = {'std::marker::Model', 'thiserror::Error'}
+# The head of an `encode`, before the first words of its body.
+ENCODE = 'fn encode<A: Allocator>(&self, sink: &mut Vec<u8, A>) -> Result<()> {'
 # Single replacements, mostly of calls that fail in Rattle's std and cannot in Rust's.
 PLACES = [
     # These can be called in a constant.
@@ -218,6 +220,24 @@ PLACES = [
     Place('wasm_custom/src/core_stack.rt', "front: Vec<u8, E::Alloc>, frames: E,", "pub(crate) front: Vec<u8, E::Alloc>, pub(crate) frames: E,"),
     # Inline, rustc splits no value type into its fields; Rattle's compiler does.
     Place('wasm_base/src/types.rt', '#[inline(never)]', '#[inline(always)]', 'fn encode<'),
+    # Numbers and memory arguments are inline: over a sink of the root most have one byte, and on the
+    # stack the compiler drops the other cases.
+    Place('wasm_base/src/leb128.rt', '#[inline]', '#[inline(always)]', 'fn append_unsigned<'),
+    Place('wasm_base/src/leb128.rt', '#[inline]', '#[inline(always)]', 'fn append_signed<'),
+    Place('wasm_base/src/leb128.rt', '#[inline(never)]', '#[inline]', 'fn append_long_unsigned<'),
+    Place('wasm_base/src/leb128.rt', '#[inline(never)]', '#[inline]', 'fn append_long_signed<'),
+    Place('wasm_base/src/leb128.rt', '#[inline]', '#[inline(always)]', f'{ENCODE} append_unsigned(sink, u64::from(*self))'),
+    Place('wasm_base/src/leb128.rt', '#[inline]', '#[inline(always)]', f'{ENCODE} append_unsigned(sink, *self)'),
+    Place('wasm_immediates/src/memory.rt', '#[inline]', '#[inline(always)]', f'{ENCODE} match (self.target, self.ordering)'),
+    Place('wasm_immediates/src/memory.rt', '#[inline]', '#[inline(always)]', 'fn encode_plain<'),
+    Place('wasm_sections/src/start.rt', '', '#[inline(always)]\n', 'fn encode_number'),
+    Place('wasm_sections/src/start.rt', '', '#[inline(always)]\n    ', f'{ENCODE} encode_number(sink, self.function_index)'),
+    Place('wasm_sections/src/start.rt', '', '#[inline(always)]\n    ', f'{ENCODE} encode_number(sink, self.count)'),
+    # A size prefix is inline in each encoder: as a function it is a third of a short custom section.
+    Place('wasm_base/src/frames.rt', '', '#[inline(always)]\n', 'pub fn begin_size_prefixed'),
+    Place('wasm_custom/src/custom_section.rt', '', '#[inline]\n', 'pub(crate) fn begin_custom'),
+    # A call of the root is then one function.
+    Place('wasm_sections/src/data.rt', '', '#[inline]\n    ', 'fn add_bytes'),
     # The root of the package makes empty builders by a constant, prints their bytes, and takes those
     # of other builders.
     Place('wasm_base/src/modules.rt', 'bytes: Vec<u8, A>,', 'pub(crate) bytes: Vec<u8, A>,'),

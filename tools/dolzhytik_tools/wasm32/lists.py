@@ -22,9 +22,9 @@ NEED_PROCESSES = {'compiled', 'coverage', 'object', 'program'}
 LONG = 'a length past 32 bits'
 STREAMS = 'std::io'
 LEFT_OUT = {
-    ('drop_in/main', PROCESS): ['mod random_lists'],
     ('drop_in/moved', 'a file'): ['fn the_page_shows_these_programs'],
     ('drop_in/programs', 'a HashMap'): ['fn kinds_are_keys_of_a_map'],
+    ('drop_in/random_lists', PROCESS): ['fn caught'],
     ('drop_in/refusals', LONG): [
         'const TOO_LONG',
         'fn panics',
