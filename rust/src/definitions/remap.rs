@@ -7,6 +7,7 @@
 ///
 /// - Names: [`name_spaces`](customs::name_spaces), [`remapped_name`](customs::remapped_name).
 /// - Hints: [`remapped_hints`](customs::remapped_hints).
+/// - Core dumps: [`remapped_instance`](customs::remapped_instance).
 /// - Linking: [`space_of_symbol`](customs::space_of_symbol), [`remapped_definition`](customs::remapped_definition), [`remapped_symbol`](customs::remapped_symbol), [`comdat_spaces`](customs::comdat_spaces), [`remapped_member`](customs::remapped_member), [`remapped_comdat`](customs::remapped_comdat), [`remapped_link`](customs::remapped_link).
 /// - Relocations: [`space_of_relocation`](customs::space_of_relocation), [`remapped_relocation`](customs::remapped_relocation).
 ///
@@ -60,6 +61,17 @@ pub trait customs {
     ///
     /// Definitions: [`Mapping`](mapping::Mapping), [`Hints`](super::custom::hints::Hints), [`mapped_first`](mapping::mapped_first).
     type remapped_hints;
+    /// An instance of a core dump: its memories and globals are those of the file. The index of its module stays.
+    ///
+    /// ```text
+    /// abbrev pub remapped_instance : Mapping → Instance → Instance
+    /// remapped_instance m i = record
+    ///     { module_index = i.module_index; memories = map (m spaces.Memories) i.memories;
+    ///     globals = map (m spaces.Globals) i.globals }
+    /// ```
+    ///
+    /// Definitions: [`Mapping`](mapping::Mapping), [`Instance`](super::custom::core_dumps::Instance).
+    type remapped_instance;
     /// The index space of a symbol with an index.
     ///
     /// ```text
@@ -584,7 +596,7 @@ pub trait mapping {
 ///
 /// [How to read definitions](super). The file is [`Sections.antt`](https://github.com/dolzhytik/dolzhytik/blob/main/crates/wasm_remap/specs/Sections.antt).
 pub trait sections {
-    /// The content with each index mapped. A core dump has indices of the module that it is a dump of, which stay.
+    /// The content with each index mapped. The frames of a core dump have functions of the dumped modules, which stay.
     ///
     /// ```text
     /// abbrev pub remapped : Mapping → Contents → Contents
@@ -606,7 +618,7 @@ pub trait sections {
     /// remapped m (Hints xs) = Hints (map (remapped_hints m) xs)
     /// remapped m (Core n) = Core n
     /// remapped m (CoreModules xs) = CoreModules xs
-    /// remapped m (CoreInstances xs) = CoreInstances xs
+    /// remapped m (CoreInstances xs) = CoreInstances (map (remapped_instance m) xs)
     /// remapped m (CoreStack x) = CoreStack x
     /// remapped m (Custom x) = Custom x
     /// remapped m (Raw x) = Raw x
@@ -620,7 +632,7 @@ pub trait sections {
     ///     (x.0, (x.1.0, map (remapped_relocation m) x.1.1))
     /// ```
     ///
-    /// Definitions: [`Mapping`](mapping::Mapping), [`Contents`](super::reader::kinds::Contents), [`Bodies`](super::reader::kinds::Contents), [`remapped_body`](instructions::remapped_body), [`Segments`](super::reader::kinds::Contents), [`remapped_data`](items::remapped_data), [`DataCount`](super::reader::kinds::Contents), [`Elements`](super::reader::kinds::Contents), [`remapped_element`](items::remapped_element), [`Exports`](super::reader::kinds::Contents), [`remapped_export`](items::remapped_export), [`Functions`](super::reader::kinds::Contents), [`Globals`](super::reader::kinds::Contents), [`remapped_global`](items::remapped_global), [`Imports`](super::reader::kinds::Contents), [`remapped_import`](items::remapped_import), [`Memories`](super::reader::kinds::Contents), [`Start`](super::reader::kinds::Contents), [`Tables`](super::reader::kinds::Contents), [`remapped_table`](items::remapped_table), [`Tags`](super::reader::kinds::Contents), [`remapped_tag`](items::remapped_tag), [`Names`](super::reader::kinds::Contents), [`remapped_name`](customs::remapped_name), [`Linking`](super::reader::kinds::Contents), [`remapped_link`](customs::remapped_link), [`Producers`](super::reader::kinds::Contents), [`Hints`](super::reader::kinds::Contents), [`remapped_hints`](customs::remapped_hints), [`Core`](super::reader::kinds::Contents), [`CoreModules`](super::reader::kinds::Contents), [`CoreInstances`](super::reader::kinds::Contents), [`CoreStack`](super::reader::kinds::Contents), [`Custom`](super::reader::kinds::Contents), [`Raw`](super::reader::kinds::Contents), [`Types`](super::reader::kinds::Contents), [`remapped_type`](types::remapped_type), [`TargetFeatures`](super::reader::kinds::Contents), [`SourceMappingUrl`](super::reader::kinds::Contents), [`ExternalDebugInfo`](super::reader::kinds::Contents), [`BuildId`](super::reader::kinds::Contents), [`Dylink`](super::reader::kinds::Contents), [`Relocations`](super::reader::kinds::Contents), [`remapped_relocation`](customs::remapped_relocation).
+    /// Definitions: [`Mapping`](mapping::Mapping), [`Contents`](super::reader::kinds::Contents), [`Bodies`](super::reader::kinds::Contents), [`remapped_body`](instructions::remapped_body), [`Segments`](super::reader::kinds::Contents), [`remapped_data`](items::remapped_data), [`DataCount`](super::reader::kinds::Contents), [`Elements`](super::reader::kinds::Contents), [`remapped_element`](items::remapped_element), [`Exports`](super::reader::kinds::Contents), [`remapped_export`](items::remapped_export), [`Functions`](super::reader::kinds::Contents), [`Globals`](super::reader::kinds::Contents), [`remapped_global`](items::remapped_global), [`Imports`](super::reader::kinds::Contents), [`remapped_import`](items::remapped_import), [`Memories`](super::reader::kinds::Contents), [`Start`](super::reader::kinds::Contents), [`Tables`](super::reader::kinds::Contents), [`remapped_table`](items::remapped_table), [`Tags`](super::reader::kinds::Contents), [`remapped_tag`](items::remapped_tag), [`Names`](super::reader::kinds::Contents), [`remapped_name`](customs::remapped_name), [`Linking`](super::reader::kinds::Contents), [`remapped_link`](customs::remapped_link), [`Producers`](super::reader::kinds::Contents), [`Hints`](super::reader::kinds::Contents), [`remapped_hints`](customs::remapped_hints), [`Core`](super::reader::kinds::Contents), [`CoreModules`](super::reader::kinds::Contents), [`CoreInstances`](super::reader::kinds::Contents), [`remapped_instance`](customs::remapped_instance), [`CoreStack`](super::reader::kinds::Contents), [`Custom`](super::reader::kinds::Contents), [`Raw`](super::reader::kinds::Contents), [`Types`](super::reader::kinds::Contents), [`remapped_type`](types::remapped_type), [`TargetFeatures`](super::reader::kinds::Contents), [`SourceMappingUrl`](super::reader::kinds::Contents), [`ExternalDebugInfo`](super::reader::kinds::Contents), [`BuildId`](super::reader::kinds::Contents), [`Dylink`](super::reader::kinds::Contents), [`Relocations`](super::reader::kinds::Contents), [`remapped_relocation`](customs::remapped_relocation).
     type remapped;
     /// The section decodes to items, and the buffer gains the minimal encoding of these items with each index mapped, if they have one. They have if the new indices are below 2^32, and the section has fewer than 2^26 bytes, so that no size prefix is too long.
     ///

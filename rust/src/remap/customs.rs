@@ -2,7 +2,7 @@
 // Items of custom sections whose indices are mapped.
 
 use crate::vec::Vec;
-use crate::remap::indexed::{Indexed, Remap, RemapError, mapped, mapped_number, remap_each, remap_firsts};
+use crate::remap::indexed::{Indexed, Remap, RemapError, mapped, mapped_number, remap_each, remap_firsts, remap_numbers};
 use crate::remap::spaces::IndexSpace;
 use crate::alloc::Allocator;
 use crate::custom::{BranchHint, Comdat, ComdatSymbol, LinkItem, NameItem, PlainRelocation, Relocation, Symbol};
@@ -83,6 +83,24 @@ impl<A: Allocator + Copy> Indexed<A> for (u32, Vec<BranchHint, A>) {
     fn remap<M: Remap>(&mut self, _alloc: A, indices: &M) -> Result<(), RemapError<M::Error>> {
         self.0 = mapped(indices, IndexSpace::Functions, self.0)?;
         Ok(())
+    }
+}
+
+/// An instance of a core dump: the index of its module, its memories and its globals.
+///
+/// # Defined
+///
+/// ```text
+/// Value = { Instance }
+/// view = { instance_view }
+/// remapped = { remapped_instance }
+/// ```
+///
+/// Definitions: [`Instance`](crate::definitions::custom::core_dumps::Instance), [`instance_view`](crate::definitions::custom::core_dumps::instance_view), [`remapped_instance`](crate::definitions::remap::customs::remapped_instance). [How to read clauses](crate::definitions).
+impl<A: Allocator + Copy> Indexed<A> for (u32, Vec<u32, A>, Vec<u32, A>) {
+    fn remap<M: Remap>(&mut self, _alloc: A, indices: &M) -> Result<(), RemapError<M::Error>> {
+        remap_numbers(&mut self.1, IndexSpace::Memories, indices)?;
+        remap_numbers(&mut self.2, IndexSpace::Globals, indices)
     }
 }
 

@@ -47,6 +47,7 @@ pub fn remap_items<A: Allocator + Copy, M: Remap>(
         Items::Names(items) => remap_each(items, alloc, indices),
         Items::Linking(items) => remap_each(items, alloc, indices),
         Items::Hints(items) => remap_each(items, alloc, indices),
+        Items::CoreInstances(items) => remap_each(items, alloc, indices),
         Items::Types(items) => remap_each(items, alloc, indices),
         Items::Relocations { relocations, .. } => remap_each(relocations, alloc, indices),
         Items::DataCount(_)
@@ -54,7 +55,6 @@ pub fn remap_items<A: Allocator + Copy, M: Remap>(
         | Items::Producers(_)
         | Items::Core(_)
         | Items::CoreModules(_)
-        | Items::CoreInstances(_)
         | Items::CoreStack { .. }
         | Items::Custom { .. }
         | Items::Raw(_)

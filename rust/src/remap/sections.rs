@@ -191,7 +191,11 @@ fn mapped_table<M: Remap>(
         Some(index) => Ok(Some(mapped(indices, IndexSpace::Tables, index)?)),
         None => {
             let index = mapped(indices, IndexSpace::Tables, 0)?;
-            if index == 0 { Ok(None) } else { Ok(Some(index)) }
+            if index == 0 {
+                Ok(None)
+            } else {
+                Ok(Some(index))
+            }
         }
     }
 }

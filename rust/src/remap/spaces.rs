@@ -32,9 +32,19 @@ struct Run(u32, u32, Option<IndexSpace>, Option<IndexSpace>);
 static ONE_BYTE: [Run; 17] = [
     Run(0x07, 0x08, Some(IndexSpace::Tags), None),
     Run(0x10, 0x10, Some(IndexSpace::Functions), None),
-    Run(0x11, 0x11, Some(IndexSpace::Types), Some(IndexSpace::Tables)),
+    Run(
+        0x11,
+        0x11,
+        Some(IndexSpace::Types),
+        Some(IndexSpace::Tables),
+    ),
     Run(0x12, 0x12, Some(IndexSpace::Functions), None),
-    Run(0x13, 0x13, Some(IndexSpace::Types), Some(IndexSpace::Tables)),
+    Run(
+        0x13,
+        0x13,
+        Some(IndexSpace::Types),
+        Some(IndexSpace::Tables),
+    ),
     Run(0x14, 0x15, Some(IndexSpace::Types), None),
     Run(0x23, 0x24, Some(IndexSpace::Globals), None),
     Run(0x25, 0x26, Some(IndexSpace::Tables), None),
@@ -66,7 +76,12 @@ static AFTER_FB: [Run; 9] = [
 static AFTER_FC: [Run; 9] = [
     Run(8, 8, Some(IndexSpace::Data), Some(IndexSpace::Memories)),
     Run(9, 9, Some(IndexSpace::Data), None),
-    Run(10, 10, Some(IndexSpace::Memories), Some(IndexSpace::Memories)),
+    Run(
+        10,
+        10,
+        Some(IndexSpace::Memories),
+        Some(IndexSpace::Memories),
+    ),
     Run(11, 11, Some(IndexSpace::Memories), None),
     Run(12, 12, Some(IndexSpace::Elements), Some(IndexSpace::Tables)),
     Run(13, 13, Some(IndexSpace::Elements), None),
