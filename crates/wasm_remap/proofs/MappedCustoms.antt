@@ -1,5 +1,5 @@
 -- This file proves that the items of custom sections have an encoding after a map of their indices.
-use Rattle.wasm_base.proofs.Words.{ℕ, map, Option, Some, refl}
+use Rattle.wasm_base.proofs.Words.{ℕ, ◌∷◌, [], map, Option, Some, refl}
 use Rattle.std.specs.Option.{option_map}
 use Rattle.wasm_base.specs.Formats.{Format, u32, pair}
 use Rattle.wasm_custom.specs.CoreDumps.{instance_of, instance, instances_payload}
