@@ -1,16 +1,14 @@
 -- This file proves that the content of a section has an encoding after a map of its indices.
-use Rattle.wasm_base.proofs.Words.{◌≡◌, ℕ, ◌^◌, ◌*◌, ◌<◌, ◌≤◌, List, length, map, refl, subst, sym, arith}
-use Rattle.wasm_base.specs.Formats.{Format, u32, mapped, vec, size_prefixed}
+use Rattle.wasm_base.proofs.Words.{◌≡◌, ℕ, ◌^◌, ◌<◌, List, length, map, refl, subst, sym, arith}
 use Rattle.wasm_base.specs.Numbers.{admitted, standard, standard_minimal}
-use Rattle.wasm_code.specs.Bodies.{body}
-use Rattle.wasm_reader.specs.Kinds.{Contents, content, kind_in, Bodies, Segments, DataCount, Elements, Exports, Functions, Globals, Imports, Memories, Start, Tables, Tags, Names, Linking, Producers, Hints, Core, CoreModules}
+use Rattle.wasm_reader.specs.Kinds.{Contents, content, Bodies, Segments, DataCount, Elements, Exports, Functions, Globals, Imports, Memories, Start, Tables, Tags, Names, Linking, Producers, Hints, Core, CoreModules}
 use Rattle.wasm_reader.specs.Kinds.{CoreInstances, CoreStack, Custom, Raw, Types, TargetFeatures, SourceMappingUrl, ExternalDebugInfo, BuildId, Dylink, Relocations}
 use Rattle.wasm_reader.specs.Sections.{AppendsContentIn, HasContentIn, HasShortBodies}
 use Rattle.wasm_reader.specs.Words.{Section, section_kind_of}
 use Rattle.wasm_reader.specs.declared.kinds.SectionKind.{SectionKind}
 use Rattle.wasm_reader.specs.declared.kinds.SectionKind.TheVariants as kinds
 use Rattle.wasm_reader.proofs.KindLaws.{content_whole, kind_is}
-use Rattle.wasm_remap.specs.Customs.{remapped_hints, remapped_instance, remapped_link, remapped_name, remapped_relocation}
+use Rattle.wasm_remap.specs.Customs.{remapped_hints, remapped_instance, remapped_link, remapped_name}
 use Rattle.wasm_remap.specs.Instructions.{remapped_body}
 use Rattle.wasm_remap.specs.Items.{remapped_data, remapped_element, remapped_export, remapped_global, remapped_import, remapped_table, remapped_tag}
 use Rattle.wasm_remap.specs.Mapping.{Mapping, IsSmall}

@@ -1,9 +1,9 @@
 -- This file proves the steps of the loop over the sections of a module whose indices are mapped.
-use Rattle.wasm_base.proofs.Words.{◌≡◌, ℕ, List, [], ◌∷◌, ◌++◌, Bool, true, false, refl, sym, ap, subst, ◌∙◌, append-nil, append_assoc, flat_map, header, wasm_module, DecodesWhole, DecodesOneMore}
+use Rattle.wasm_base.proofs.Words.{◌≡◌, ℕ, List, [], ◌∷◌, ◌++◌, true, false, inl, inr, refl, sym, ap, subst, ◌∙◌, append-nil, append_assoc, flat_map, header, wasm_module, DecodesWhole, DecodesOneMore}
 use Rattle.std.specs.List.{AllByRecursion}
 use Rattle.std.proofs.lemmas.Grind.{flat_map-append}
 use Rattle.wasm_reader.specs.Iterating.{GivesSection, ahead}
-use Rattle.wasm_reader.specs.Outlines.{Section, IsSection, bytes_of, HasSections}
+use Rattle.wasm_reader.specs.Outlines.{Section, IsSection, bytes_of}
 use Rattle.wasm_reader.specs.Shortening.{contains_offsets}
 use Rattle.wasm_reader.specs.Iterating.{Iterating, Located}
 use Rattle.wasm_reader.specs.declared.whole.Offsets.{Offsets}

@@ -68,7 +68,7 @@ abbrev pub AreRemapped : Mapping → List Section → List (ℕ × List ℕ) →
 AreRemapped m [] news = news ≡ []
 AreRemapped m (s ∷ olds) news =
     ((contains_offsets s.name ≡ true) × AreRemapped m olds news)
-    ⊎ ((payload : List ℕ) (others : List (ℕ × List ℕ)) × (contains_offsets s.name ≡ false) × (news ≡ (s.id, payload) ∷ others) × RemapsSection m s [] payload × AreRemapped m olds others)
+    ⊎ ((payload : List ℕ) × (others : List (ℕ × List ℕ)) × (contains_offsets s.name ≡ false) × (news ≡ (s.id, payload) ∷ others) × RemapsSection m s [] payload × AreRemapped m olds others)
 
 -- The bytes are a module, and the new bytes are a module of its sections with each index mapped. With
 -- `Refuse`, no section holds offsets.

@@ -8,7 +8,9 @@ ghost use Rattle.wasm_custom.specs.declared.relocations.Relocation.{Relocation};
 ghost use Rattle.wasm_remap.specs.Mapping.{ComesFrom, mapped_first};
 ghost use Rattle.wasm_remap.specs.Customs.{comdat_spaces, name_spaces, remapped_comdat, remapped_hints, remapped_instance, remapped_link, remapped_member, remapped_name, remapped_relocation, remapped_symbol, space_among, space_of_relocation as relocation_space};
 
-use crate::indexed::{Indexed, Remap, RemapError, mapped, mapped_number, remap_each, remap_firsts, remap_numbers};
+use crate::indexed::{
+    Indexed, Remap, RemapError, mapped, mapped_number, remap_each, remap_firsts, remap_numbers,
+};
 use crate::spaces::IndexSpace;
 use std::alloc::Allocator;
 use wasm_custom::{

@@ -654,7 +654,7 @@ pub trait sections {
     /// AreRemapped m [] news = news ≡ []
     /// AreRemapped m (s ∷ olds) news =
     ///     ((contains_offsets s.name ≡ true) × AreRemapped m olds news)
-    ///     ⊎ ((payload : List ℕ) (others : List (ℕ × List ℕ))
+    ///     ⊎ ((payload : List ℕ) × (others : List (ℕ × List ℕ))
     ///         × (contains_offsets s.name ≡ false) × (news ≡ (s.id, payload) ∷ others)
     ///         × RemapsSection m s [] payload × AreRemapped m olds others)
     /// ```

@@ -5,6 +5,7 @@ from collections.abc import Iterable
 from dataclasses import dataclass
 
 from ..errors import Stop
+from .formatting import LIST_WIDTH
 from .layouts import NUMBER
 from .table import TABLE, Case
 
@@ -63,8 +64,9 @@ def made(cases: list[Case], name: str, prefix: int | None) -> str:
     found = runs(cases, prefix)
     text = f"static {name}: [Run; {len(found)}] = [\n"
     for it in found:
-        spaces = (f"Some(IndexSpace::{space})" if space else "None" for space in it.spaces)
-        text += f"    Run({it.first.digits}, {it.last.digits}, {', '.join(spaces)}),\n"
+        words = [it.first.digits, it.last.digits, *(f"Some(IndexSpace::{space})" if space else "None" for space in it.spaces)]
+        line = ", ".join(words)
+        text += f"    Run({line}),\n" if len(line) <= LIST_WIDTH else "    Run(\n" + "".join(f"        {word},\n" for word in words) + "    ),\n"
     return text
 
 
