@@ -9,3 +9,4 @@ pub use Rattle.wasm_sections.proofs as sections
 pub use Rattle.wasm_types.proofs as types
 pub use Rattle.wasm_custom.proofs as custom
 pub use Rattle.wasm_reader.proofs as reading
+pub use Rattle.wasm_remap.proofs as remapping

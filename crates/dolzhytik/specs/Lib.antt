@@ -8,3 +8,4 @@ pub use Rattle.wasm_sections.specs as sections
 pub use Rattle.wasm_types.specs as types
 pub use Rattle.wasm_custom.specs as custom
 pub use Rattle.wasm_reader.specs as reading
+pub use Rattle.wasm_remap.specs as remapping

@@ -1,6 +1,7 @@
 //! The libraries as one crate: a caller lists `dolzhytik` in `crates.txt`, and names what it uses
 //! here. Definitions of `wasm_base` are in `Rattle.dolzhytik.specs.base`, its lemmas in
-//! `Rattle.dolzhytik.proofs.base`, and so on; those of `wasm_reader` are in `reading`.
+//! `Rattle.dolzhytik.proofs.base`, and so on; those of `wasm_reader` are in `reading`, and those of
+//! `wasm_remap` in `remapping`.
 #![tactic(auto)]
 
 pub mod joined;
