@@ -29,6 +29,7 @@ BAD = [
     ("two cases of one name", "01\tNop\t-\t\tnop", "01\tUnreachable\t-\t\tnop"),
     ("two calls of one name", "01\tNop\t-\t\tnop", "01\tNop\t-\t\tunreachable"),
     ("a case that is no name", "01\tNop\t-\t\tnop", "01\tnop\t-\t\tnop"),
+    ("a field of no known index space", "ArrayNewFixed\tuu\tarray_type_index array_size", "ArrayNewFixed\tuu\tarray_type_index array_length"),
     ("a parameter that is missing", "0C\tBr\tu\t\tbr\tlabel", "0C\tBr\tu\t\tbr"),
     ("a parameter too many", "01\tNop\t-\t\tnop", "01\tNop\t-\t\tnop\tlabel"),
     ("a field that is missing", "uu\tdata_index mem\t", "uu\tdata_index\t"),
@@ -50,9 +51,9 @@ GOOD = [
     ("another name", "01\tNop\t", "01\tNothing\t", OWN | ROWS | CASES),
     ("another number", "FC 22\tI64MulWideU", "FC 23\tI64MulWideU", NUMBERS | OPS | OPCODES | {"rows.rtt"}),
     ("another layout", "D5\tBrOnNull\tu", "D5\tBrOnNull\th", OWN | ROWS | OPS | OPCODES),
-    ("another name of a field", "ArrayNewFixed\tuu\tarray_type_index array_size", "ArrayNewFixed\tuu\tarray_type_index array_length", {"src/instruction.rt", "src/ranged.rt", "cases.rtt"} | CASES),
+    ("another name of a field", "ArrayNewFixed\tuu\tarray_type_index array_size", "ArrayNewFixed\tuu\tarray_type_index field_index", {"src/instruction.rt", "src/ranged.rt", "cases.rtt"} | CASES),
     ("another call", "01\tNop\t-\t\tnop", "01\tNop\t-\t\tnothing", set()),
-    ("an instruction in the place of another", "D6\tBrOnNonNull\tu\t\tbr_on_non_null\tlabel", "D7\tRefTo\tuu\tfirst second\tref_to", OWN | ROWS | OPS | OPCODES),
+    ("an instruction in the place of another", "D6\tBrOnNonNull\tu\t\tbr_on_non_null\tlabel", "D7\tRefTo\tuu\tlabel local_index\tref_to", OWN | ROWS | OPS | OPCODES),
     ("a new numeric instruction", "FD 0\tV128Load\t", "FC 23\tI64Old\t-\t\ti64_old\nFD 0\tV128Load\t", NUMBERS | ROWS | OPS | OPCODES),
     ("a new vector instruction with fields", "FE 0\tMemoryAtomicNotify", "FD 276\tV128Load16Zero\tm\t\tv128_load16_zero\tmemarg\nFE 0\tMemoryAtomicNotify",
      {"src/vector_immediate.rt", "specs/VectorImmediate.antt"} | ROWS | OPS | OPCODES),
@@ -74,7 +75,7 @@ def changed(old: str, new: str) -> tuple[str, int]:
 def bad_trouble(old: str, new: str) -> str | None:
     text, line = changed(old, new)
     try:
-        read(text)
+        generated(TOP, read(text))
     except Stop as stop:
         return None if str(stop).startswith(f"{TABLE}:{line}: ") else f"it was told as {stop}"
     return "it was not stopped at"

@@ -251,7 +251,7 @@ def exported(path: str) -> set[str]:
 def whole() -> None:
     """The crate `dolzhytik` has all public names of the libraries."""
     libraries = sorted(it.removesuffix(".specs") for it in facades.Facades(TOP).aliases() if it.endswith(".specs"))
-    named = exported("dolzhytik/src/lib.rt") | exported("dolzhytik/src/reader.rt")
+    named = {name for it in ("lib.rt", "reader.rt", "reader/remap.rt") for name in exported(f"dolzhytik/src/{it}")}
     public = {name for it in libraries for name in exported(f"{it}/src/lib.rt")}
     assert named == public, named ^ public
 
