@@ -209,9 +209,9 @@ def lists_of_the_tool(room: Room) -> None:
     assert status == 1 and said == 'wasm32: the lists of this tool and rust/tests differ: new\n0 passed, 1 failed\n', (status, said)
     (room.path / 'rust/tests/new').rmdir()
     moved = room.path / 'rust/tests/drop_in/moved.rs'
-    moved.write_text(moved.read_text().replace('the_page_shows_this_program', 'renamed'))
+    moved.write_text(moved.read_text().replace('the_page_shows_these_programs', 'renamed'))
     status, said = room.run('tools/wasm32', 'drop_in')
-    assert status == 1 and 'drop_in/moved.rs: 0 items begin with `fn the_page_shows_this_program`\n' in said, (status, said)
+    assert status == 1 and 'drop_in/moved.rs: 0 items begin with `fn the_page_shows_these_programs`\n' in said, (status, said)
 
 
 ALL = [copies, items_left_out, unknown_forms, not_run, newer_lists, links_replaced, lists_of_the_tool]
