@@ -49,6 +49,7 @@ mod errors;
 #[doc(alias = "no_std")]
 pub mod fallible;
 mod hex;
+mod reencode;
 mod string;
 mod vec;
 
