@@ -9,10 +9,39 @@ use crate::reader::{
 use crate::remap::{IndexSpace, Remap, RemapError, remap_items};
 use crate::sections::{Export, Imports, MemoryType, TagType};
 use crate::vec::Vec;
-use alloc_crate::vec::Vec as StdVec;
+use alloc_crate::vec;
 use core::cell::RefCell;
 use core::error::Error;
 use core::fmt;
+
+/// Declares the method of each index space, which by default returns the index.
+macro_rules! index_methods {
+    ($($(#[$doc:meta])* $method:ident;)*) => {
+        $(
+            $(#[$doc])*
+            fn $method(&mut self, index: u32) -> Result<u32, Self::Error> {
+                Ok(index)
+            }
+        )*
+    };
+}
+
+/// Declares the method of each kind of section, which by default changes nothing. Items with a
+/// lifetime may borrow from the value.
+macro_rules! section_methods {
+    ($($(#[$doc:meta])* $method:ident $(<$life:lifetime>)? ($items:ident: $ty:ty);)*) => {
+        $(
+            $(#[$doc])*
+            fn $method $(<$life>)? (
+                &$($life)? mut self,
+                $items: &mut $ty,
+            ) -> Result<(), ReencodeError<Self::Error>> {
+                let _ = $items;
+                Ok(())
+            }
+        )*
+    };
+}
 
 /// Encodes a module again with other indices and other items, by methods of your own.
 ///
@@ -23,12 +52,12 @@ use core::fmt;
 ///   the same one is passed: [`remap_items`] is proved for such methods.
 /// - **A method of a section**, such as [`import_section`](Reencode::import_section), edits the
 ///   decoded items. By default, it changes nothing. Their indices are the new ones already, and
-///   those of items that you add are encoded as they are.
+///   those of items that you add are encoded as they are. Names and bytes that you add may be in
+///   the value itself, as in the example.
 ///
 /// A method of a section is called for each section of its kind, in the order of the module. If the
 /// module has none, the method gets an empty list or `None`, and a section is written if it adds
-/// something. It comes before the next section in the standard's order. If there is no such section,
-/// it comes after the last section that is not custom.
+/// something. It comes before the next section in the standard's order, or after the last one.
 ///
 /// Without a method of a section, the bytes are those of
 /// [`remap_module`](crate::reader::remap::remap_module). The trait itself is tested, and not proved.
@@ -81,153 +110,57 @@ pub trait Reencode {
     /// The error of your methods.
     type Error;
 
-    /// Returns the new index of a function.
-    fn function_index(&mut self, index: u32) -> Result<u32, Self::Error> {
-        Ok(index)
+    index_methods! {
+        /// Returns the new index of a function.
+        function_index;
+        /// Returns the new index of a type. Each type of a recursion group has an index.
+        type_index;
+        /// Returns the new index of a table.
+        table_index;
+        /// Returns the new index of a memory.
+        memory_index;
+        /// Returns the new index of a global.
+        global_index;
+        /// Returns the new index of a tag.
+        tag_index;
+        /// Returns the new index of an element segment.
+        element_index;
+        /// Returns the new index of a data segment.
+        data_index;
     }
 
-    /// Returns the new index of a type. Each type of a recursion group has an index.
-    fn type_index(&mut self, index: u32) -> Result<u32, Self::Error> {
-        Ok(index)
-    }
-
-    /// Returns the new index of a table.
-    fn table_index(&mut self, index: u32) -> Result<u32, Self::Error> {
-        Ok(index)
-    }
-
-    /// Returns the new index of a memory.
-    fn memory_index(&mut self, index: u32) -> Result<u32, Self::Error> {
-        Ok(index)
-    }
-
-    /// Returns the new index of a global.
-    fn global_index(&mut self, index: u32) -> Result<u32, Self::Error> {
-        Ok(index)
-    }
-
-    /// Returns the new index of a tag.
-    fn tag_index(&mut self, index: u32) -> Result<u32, Self::Error> {
-        Ok(index)
-    }
-
-    /// Returns the new index of an element segment.
-    fn element_index(&mut self, index: u32) -> Result<u32, Self::Error> {
-        Ok(index)
-    }
-
-    /// Returns the new index of a data segment.
-    fn data_index(&mut self, index: u32) -> Result<u32, Self::Error> {
-        Ok(index)
-    }
-
-    /// Edits the types and recursion groups.
-    fn type_section(
-        &mut self,
-        _types: &mut Vec<TypeEntry>,
-    ) -> Result<(), ReencodeError<Self::Error>> {
-        Ok(())
-    }
-
-    /// Edits the imports and groups of imports. An imported function, table, memory, global or tag
-    /// has an index before all that the module defines.
-    fn import_section<'a>(
-        &'a mut self,
-        _imports: &mut Vec<Imports<'a>>,
-    ) -> Result<(), ReencodeError<Self::Error>> {
-        Ok(())
-    }
-
-    /// Edits the indices of the functions' types.
-    fn function_section(
-        &mut self,
-        _types: &mut Vec<u32>,
-    ) -> Result<(), ReencodeError<Self::Error>> {
-        Ok(())
-    }
-
-    /// Edits the tables.
-    fn table_section(
-        &mut self,
-        _tables: &mut Vec<TableItem>,
-    ) -> Result<(), ReencodeError<Self::Error>> {
-        Ok(())
-    }
-
-    /// Edits the memories.
-    fn memory_section(
-        &mut self,
-        _memories: &mut Vec<MemoryType>,
-    ) -> Result<(), ReencodeError<Self::Error>> {
-        Ok(())
-    }
-
-    /// Edits the tags.
-    fn tag_section(&mut self, _tags: &mut Vec<TagType>) -> Result<(), ReencodeError<Self::Error>> {
-        Ok(())
-    }
-
-    /// Edits the globals.
-    fn global_section(
-        &mut self,
-        _globals: &mut Vec<GlobalItem>,
-    ) -> Result<(), ReencodeError<Self::Error>> {
-        Ok(())
-    }
-
-    /// Edits the exports.
-    fn export_section<'a>(
-        &'a mut self,
-        _exports: &mut Vec<Export<'a>>,
-    ) -> Result<(), ReencodeError<Self::Error>> {
-        Ok(())
-    }
-
-    /// Edits the index of the start function. Without one, the section is left out.
-    fn start_section(
-        &mut self,
-        _function: &mut Option<u32>,
-    ) -> Result<(), ReencodeError<Self::Error>> {
-        Ok(())
-    }
-
-    /// Edits the element segments.
-    fn element_section(
-        &mut self,
-        _segments: &mut Vec<ElementItem>,
-    ) -> Result<(), ReencodeError<Self::Error>> {
-        Ok(())
-    }
-
-    /// Edits the number of data segments. Without one, the section is left out. The number stays if
-    /// [`data_section`](Reencode::data_section) adds a segment, and is encoded before it is called.
-    fn data_count_section(
-        &mut self,
-        _count: &mut Option<u32>,
-    ) -> Result<(), ReencodeError<Self::Error>> {
-        Ok(())
-    }
-
-    /// Edits the bodies of functions.
-    fn code_section(&mut self, _bodies: &mut Vec<Body>) -> Result<(), ReencodeError<Self::Error>> {
-        Ok(())
-    }
-
-    /// Edits the data segments.
-    fn data_section<'a>(
-        &'a mut self,
-        _segments: &mut Vec<Segment<'a>>,
-    ) -> Result<(), ReencodeError<Self::Error>> {
-        Ok(())
-    }
-
-    /// Edits the items of a custom section, such as [`Items::Names`]. The name of the section
-    /// selects their kind.
-    fn custom_section<'a>(
-        &'a mut self,
-        _items: &mut Items<'a>,
-    ) -> Result<(), ReencodeError<Self::Error>> {
-        Ok(())
+    section_methods! {
+        /// Edits the types and recursion groups.
+        type_section(types: Vec<TypeEntry>);
+        /// Edits the imports and groups of imports. Imported functions have the first indices of
+        /// functions, and so on.
+        import_section<'a>(imports: Vec<Imports<'a>>);
+        /// Edits the indices of the functions' types.
+        function_section(types: Vec<u32>);
+        /// Edits the tables.
+        table_section(tables: Vec<TableItem>);
+        /// Edits the memories.
+        memory_section(memories: Vec<MemoryType>);
+        /// Edits the tags.
+        tag_section(tags: Vec<TagType>);
+        /// Edits the globals.
+        global_section(globals: Vec<GlobalItem>);
+        /// Edits the exports.
+        export_section<'a>(exports: Vec<Export<'a>>);
+        /// Edits the index of the start function. With `None` the section is left out.
+        start_section(function: Option<u32>);
+        /// Edits the element segments.
+        element_section(segments: Vec<ElementItem>);
+        /// Edits the number of data segments. With `None` the section is left out. If you add a
+        /// segment, change the number here.
+        data_count_section(count: Option<u32>);
+        /// Edits the bodies of functions.
+        code_section(bodies: Vec<Body>);
+        /// Edits the data segments.
+        data_section<'a>(segments: Vec<Segment<'a>>);
+        /// Edits the items of a custom section. Its name selects their kind, such as
+        /// [`Items::Names`].
+        custom_section<'a>(items: Items<'a>);
     }
 
     /// Returns the module with mapped indices and edited items. Each encoding is minimal.
@@ -244,7 +177,7 @@ pub trait Reencode {
         &mut self,
         module: &[u8],
         offsets: Offsets,
-    ) -> Result<StdVec<u8>, ReencodeError<Self::Error>> {
+    ) -> Result<vec::Vec<u8>, ReencodeError<Self::Error>> {
         let mut new = Reencoded {
             user: self,
             old: Sections::new(Global, module)?,
@@ -268,7 +201,7 @@ pub trait Reencode {
     fn reencode_section(
         &mut self,
         section: &Section<'_>,
-    ) -> Result<Option<StdVec<u8>>, ReencodeError<Self::Error>> {
+    ) -> Result<Option<vec::Vec<u8>>, ReencodeError<Self::Error>> {
         let mut items = section.items()?;
         remap_items(&mut items, Global, &Indices(RefCell::new(&mut *self)))?;
         edited_payload(self, items, false)
@@ -296,7 +229,10 @@ impl<E: fmt::Display> fmt::Display for ReencodeError<E> {
             Self::Refused(error) => error.fmt(f),
             Self::User(error) => error.fmt(f),
             Self::Offsets(offset) => {
-                write!(f, "its offsets would become wrong: section at {offset:#x}")
+                write!(
+                    f,
+                    "section at offset {offset:#x}: its offsets would become wrong"
+                )
             }
         }
     }
@@ -421,7 +357,7 @@ impl<'m, R: Reencode + ?Sized> Reencoded<'_, 'm, R> {
     }
 
     /// Appends a section, unless it is left out.
-    fn add(&mut self, id: u8, payload: Option<StdVec<u8>>) -> Result<(), Refused> {
+    fn add(&mut self, id: u8, payload: Option<vec::Vec<u8>>) -> Result<(), Refused> {
         match payload {
             Some(bytes) => self.module.section(&RawSection { id, bytes: &bytes }),
             None => Ok(()),
@@ -463,11 +399,11 @@ fn edited_payload<R: Reencode + ?Sized>(
     user: &mut R,
     items: Items<'_>,
     is_absent: bool,
-) -> Result<Option<StdVec<u8>>, ReencodeError<R::Error>> {
+) -> Result<Option<vec::Vec<u8>>, ReencodeError<R::Error>> {
     let Some(items) = edited(user, items, is_absent)? else {
         return Ok(None);
     };
-    let mut payload = StdVec::new();
+    let mut payload = vec::Vec::new();
     encode_items_in::<Standard, _, _, _>(Global, &items, &mut payload)?;
     Ok(Some(payload))
 }

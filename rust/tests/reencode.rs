@@ -253,9 +253,9 @@ impl Filled {
 /// Implements the methods of sections, by the id of each section, the case of its items, and their
 /// type, which may borrow from the value.
 macro_rules! filled {
-    ($($method:ident $id:literal $case:ident: $item:ty)*) => {
+    ($($method:ident $(<$life:lifetime>)? $id:literal $case:ident: $item:ty)*) => {
         $(
-            fn $method<'a>(&'a mut self, list: &mut Vec<$item>) -> Edited<Infallible> {
+            fn $method $(<$life>)? (&$($life)? mut self, list: &mut Vec<$item>) -> Edited<Infallible> {
                 match self.items($id) {
                     Items::$case(items) if list.is_empty() => list.extend(items)?,
                     _ => {}
@@ -271,16 +271,16 @@ impl Reencode for Filled {
 
     filled! {
         type_section 1 Types: TypeEntry
-        import_section 2 Imports: Imports<'a>
+        import_section<'a> 2 Imports: Imports<'a>
         function_section 3 Functions: u32
         table_section 4 Tables: TableItem
         memory_section 5 Memories: MemoryType
         tag_section 13 Tags: TagType
         global_section 6 Globals: GlobalItem
-        export_section 7 Exports: Export<'a>
+        export_section<'a> 7 Exports: Export<'a>
         element_section 9 Elements: ElementItem
         code_section 10 Bodies: Body
-        data_section 11 Segments: Segment<'a>
+        data_section<'a> 11 Segments: Segment<'a>
     }
 
     fn start_section(&mut self, function: &mut Option<u32>) -> Edited<Infallible> {
@@ -560,7 +560,7 @@ fn other_errors() {
     assert_eq!(error, ReencodeError::Offsets(12));
     assert_eq!(
         error.to_string(),
-        "its offsets would become wrong: section at 0xc"
+        "section at offset 0xc: its offsets would become wrong"
     );
     assert!(error.source().is_none());
     let left_out = Same.reencode_module(&bytes, Offsets::LeaveOut);
