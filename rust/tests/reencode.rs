@@ -8,8 +8,8 @@ use dolzhytik::reader::{
     Body, ElementItem, GlobalItem, Items, NameItem, Offsets, ReadError, ReadFault, Reencode,
     ReencodeError, Section, Sections, Segment, TableItem, TypeEntry, shorten_module,
 };
-use samples::{EVERY, EVERY_SHIFTED, PADDED, PADDED_NAME, SHORT, SHORT_NAME, UNREAD};
-use samples::{bytes_of, custom, module};
+use every::{EVERY, EVERY_SHIFTED};
+use samples::{PADDED, PADDED_NAME, SHORT, SHORT_NAME, UNREAD, bytes_of, custom, module};
 use std::alloc::{GlobalAlloc, Layout, System};
 use std::cell::Cell;
 use std::convert::Infallible;
@@ -17,8 +17,9 @@ use std::error::Error;
 use std::fmt;
 use std::vec::Vec as StdVec;
 
-#[allow(dead_code)]
-#[allow(unused_imports, unused_mut, unused_variables, clippy::all)]
+#[path = "modules/every.rs"]
+mod every;
+#[allow(dead_code, unused_imports, unused_mut, unused_variables, clippy::all)]
 #[path = "examples/mod.rs"]
 #[rustfmt::skip]
 mod examples;

@@ -1,8 +1,7 @@
 //! Calls of which each allocation fails in turn.
+use crate::every::{EVERY, EVERY_SHIFTED};
 use crate::remapped::{By, Rejected, shifted};
-use crate::samples::{
-    EVERY, EVERY_SHIFTED, PADDED, PADDED_NAME, SHORT, SHORT_NAME, UNREAD, bytes_of, module,
-};
+use crate::samples::{PADDED, PADDED_NAME, SHORT, SHORT_NAME, UNREAD, bytes_of, module};
 use crate::sections::first_section;
 use dolzhytik::fallible::{AllocError, Allocator, Refused, Vec};
 use dolzhytik::reader::remap::{RemapError, remap_module, remap_section};

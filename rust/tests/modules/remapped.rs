@@ -1,7 +1,6 @@
 //! Modules whose indices are mapped.
-use crate::samples::{
-    EVERY, EVERY_SHIFTED, PADDED, PADDED_NAME, SHORT, UNREAD, bytes_of, custom, module,
-};
+use crate::every::{EVERY, EVERY_SHIFTED};
+use crate::samples::{PADDED, PADDED_NAME, SHORT, UNREAD, bytes_of, custom, module};
 use dolzhytik::fallible::{Global, Op, Vec};
 use dolzhytik::reader::remap::{
     IndexSpace, Remap, RemapError, remap_items, remap_module, remap_section, spaces_of,
