@@ -53,14 +53,15 @@ macro_rules! section_methods {
 /// - **A method of a section**, such as [`import_section`](Reencode::import_section), edits the
 ///   decoded items. By default, it changes nothing. Their indices are the new ones already, and
 ///   those of items that you add are encoded as they are. Names and bytes that you add may be in
-///   the value itself, as in the example.
+///   the value itself, as in the example. Add only items that some bytes encode: see
+///   [`encode_items`](crate::reader::encode_items).
 ///
 /// A method of a section is called for each section of its kind, in the order of the module. If the
 /// module has none, the method gets an empty list or `None`, and a section is written if it adds
 /// something. It comes before the next section in the standard's order, or after the last one.
 ///
 /// Without a method of a section, the bytes are those of
-/// [`remap_module`](crate::reader::remap::remap_module). The trait itself is tested, and not proved.
+/// [`remap_module`](crate::reader::remap::remap_module). The trait itself is tested, not proved.
 ///
 /// # Examples
 ///
@@ -166,13 +167,14 @@ pub trait Reencode {
     /// Returns the module with mapped indices and edited items. Each encoding is minimal.
     ///
     /// Custom sections that hold offsets would become wrong ([`Offsets`] lists them). With
-    /// [`Offsets::Refuse`] such a section is an error, and with [`Offsets::LeaveOut`] it is left out.
+    /// [`Offsets::Refuse`] such a section is an error, and with [`Offsets::LeaveOut`] it is left
+    /// out.
     ///
     /// # Errors
     ///
-    /// Returns `Read` if the bytes are no module or a section does not decode, `User` with the error
-    /// of a method, `Offsets` for a section that holds offsets, and `Refused` if an encoding is too
-    /// long or an allocation fails.
+    /// Returns `Read` if the bytes are no module or a section does not decode, `User` with the
+    /// error of a method, `Offsets` for a section that holds offsets, and `Refused` if an encoding
+    /// is too long or an allocation fails.
     fn reencode_module(
         &mut self,
         module: &[u8],

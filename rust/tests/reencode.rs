@@ -83,8 +83,9 @@ fn without_methods_the_module_is_minimal() {
         let minimal = Same.reencode_module(&module(&PADDED), offsets);
         assert_eq!(minimal.unwrap(), module(&SHORT));
     }
-    // Empty sections stay, and so do those of ids that the standard does not have.
-    for sections in [&["02 01 00", "0a 01 00"][..], &["63 01 05"], &[]] {
+    // Empty sections stay, those of ids that the standard does not have, and `anyref` in one byte.
+    let anyref = "01 05 01 60 01 6e 00";
+    for sections in [&["02 01 00", "0a 01 00"][..], &["63 01 05"], &[anyref], &[]] {
         let bytes = module(sections);
         assert_eq!(
             Same.reencode_module(&bytes, Offsets::Refuse).unwrap(),
@@ -256,7 +257,10 @@ impl Filled {
 macro_rules! filled {
     ($($method:ident $(<$life:lifetime>)? $id:literal $case:ident: $item:ty)*) => {
         $(
-            fn $method $(<$life>)? (&$($life)? mut self, list: &mut Vec<$item>) -> Edited<Infallible> {
+            fn $method $(<$life>)? (
+                &$($life)? mut self,
+                list: &mut Vec<$item>,
+            ) -> Edited<Infallible> {
                 match self.items($id) {
                     Items::$case(items) if list.is_empty() => list.extend(items)?,
                     _ => {}
@@ -631,10 +635,13 @@ impl Reencode for AddImport {
 
 #[test]
 fn each_request_for_memory_refused() {
-    let [types, imports, functions, .., start, _, _, code, _] = ORDERED;
-    let bytes = module(&[types, imports, functions, start, code, SHORT_NAME]);
-    let both = "02 0d 02 0178 0179 00 00 016d 0166 00 00";
-    let expected = module(&[types, both, functions, "08 01 01", code, SHORT_NAME]);
+    let [types, _, functions, .., start, _, _, code, _] = ORDERED;
+    // A group of imports, whose list is copied.
+    let group = "016d 00 7f 01 0166 00 00";
+    let imports = format!("02 0a 01 {group}");
+    let bytes = module(&[types, &imports, functions, start, code, SHORT_NAME]);
+    let both = format!("02 10 02 0178 0179 00 00 {group}");
+    let expected = module(&[types, &both, functions, "08 01 01", code, SHORT_NAME]);
     let mut add = AddImport("x".into(), "y".into());
     let mut refused = 0;
     let edited = loop {

@@ -21,9 +21,9 @@ pub const EVERY: [&str; 12] = [
     "0b 09 02 00 4100 0b 01aa  01 00",
 ];
 
-/// The same sections with another number added in each space: 10 (hexadecimal) for functions, 20 for
-/// types, 30 for tables, 40 for memories, 50 for globals, 60 for tags, 70 for element segments, and 8
-/// for data segments.
+/// The same sections with another number added in each space, here in hexadecimal: 8 for data
+/// segments, 10 for functions, 20 for types, 30 for tables, 40 for memories, 50 for globals, 60 for
+/// tags, and 70 for element segments.
 pub const EVERY_SHIFTED: [&str; 12] = [
     "01 0e 02 60 01 6321 00  50 01 20 5f 01 6420 00",
     "02 1f 04 016d 0166 00 20  016d 0165 04 00 20  016d 0167 03 6321 00  016d 0174 01 6321 00 00",
