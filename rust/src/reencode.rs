@@ -160,7 +160,7 @@ pub trait Reencode {
         /// Edits the data segments.
         data_section<'a>(segments: Vec<Segment<'a>>);
         /// Edits the items of a custom section. Its name selects their kind, such as
-        /// [`Items::Names`].
+        /// [`Items::Names`]. The method cannot add a custom section, nor leave one out.
         custom_section<'a>(items: Items<'a>);
     }
 
