@@ -1,5 +1,5 @@
-//! Compares `remap_module`, `remap_section`, `remap_items` and `spaces_of` with a plain remapper, on
-//! random modules and random maps. See README.md.
+//! Compares `remap_module`, `remap_section`, `remap_items` and `spaces_of` with a plain remapper, and
+//! `Reencode` with `remap_module`, on random modules and random maps. See README.md.
 
 use crate::grammar::{self, Grammar, KINDS, Space, spaces, table};
 use crate::maker::{Maker, Random, input};
@@ -11,8 +11,8 @@ use dolzhytik::reader::remap::{
     IndexSpace, Remap, RemapError, remap_items, remap_module, remap_section, spaces_of,
 };
 use dolzhytik::reader::{
-    self, ModuleFault, Offsets, ReadError, ReadFault, Sections, Standard, encode_items_in,
-    shorten_module,
+    self, ModuleFault, Offsets, ReadError, ReadFault, Reencode, Sections, Standard,
+    encode_items_in, shorten_module,
 };
 use std::cell::Cell;
 use std::collections::HashSet;
@@ -163,6 +163,35 @@ impl Remap for Map {
     }
 }
 
+/// A map as methods of `Reencode`.
+struct Methods<'a>(&'a Map);
+
+/// Implements the method of each index space.
+macro_rules! methods {
+    ($($method:ident $space:ident)*) => {
+        $(
+            fn $method(&mut self, index: u32) -> Result<u32, Self::Error> {
+                self.0.new_of(Space::$space, index).ok_or((Space::$space, index))
+            }
+        )*
+    };
+}
+
+impl Reencode for Methods<'_> {
+    type Error = (Space, u32);
+
+    methods! {
+        function_index Functions
+        type_index Types
+        table_index Tables
+        memory_index Memories
+        global_index Globals
+        tag_index Tags
+        element_index Elements
+        data_index Data
+    }
+}
+
 // ---- the plain remapper
 
 /// The result for a module or a section.
@@ -238,12 +267,29 @@ fn is_same_error(given: &RemapError<(Space, u32)>, expected: &Answer, counts: &m
     }
 }
 
+/// Whether `Reencode` gives this result of `remap_module` too.
+fn is_reencoded(
+    bytes: &[u8],
+    map: &Map,
+    offsets: Offsets,
+    given: &Result<fallible::Vec<u8>, RemapError<(Space, u32)>>,
+) -> bool {
+    match (Methods(map).reencode_module(bytes, offsets), given) {
+        (Ok(reencoded), Ok(given)) => reencoded[..] == given[..],
+        (Err(error), Err(given)) => error == (*given).into(),
+        _ => false,
+    }
+}
+
 /// Whether the library's result for a module is the expected one.
 pub fn agree(bytes: &[u8], map: &Map, offsets: Offsets, counts: &mut Counts) -> bool {
     let expected = remapped_module(bytes, map, offsets == Offsets::LeaveOut);
     let given = remap_module(bytes, Global, map, offsets);
     for (sum, asked) in counts.asked.iter_mut().zip(&map.asked) {
         *sum += asked.take();
+    }
+    if !is_reencoded(bytes, map, offsets, &given) {
+        return false;
     }
     match (given, &expected) {
         (Ok(given), Answer::Remapped(expected)) => {

@@ -67,11 +67,12 @@
 //! # What is proved
 //!
 //! This module and [`reader`](crate::reader) are the repository's libraries with the contracts
-//! erased. Only [`Allocator`], [`Vec`], [`String`], [`Sink`], their impls and errors, and [`hex`]
-//! are written by hand. Every other function is proved to be safe, to return, and to keep the
-//! clauses that its page has under **Proved**, word for word. The words above clauses are a
-//! summary. Trusted are the prover, the definitions that clauses name, `tools/to-rust`, which
-//! erases the contracts, the code written by hand, and rustc with its library.
+//! erased. Only [`Allocator`], [`Vec`], [`String`], [`Sink`],
+//! [`Reencode`](crate::reader::Reencode), their impls and errors, and [`hex`] are written by hand.
+//! Every other function is proved to be safe, to return, and to keep the clauses that its page has
+//! under **Proved**, word for word. The words above clauses are a summary. Trusted are the prover,
+//! the definitions that clauses name, `tools/to-rust`, which erases the contracts, the code written
+//! by hand, and rustc with its library.
 //!
 //! [`definitions`](crate::definitions) has these definitions, and says how to read clauses.
 //! **Defined** has the words of a trait's clauses, such as `encoding`, the encoding.

@@ -7,7 +7,8 @@
 //!   [`Instruction`] is one as a value. [`ConstExpr`] is a constant expression.
 //! - Implement [`Encode`] and [`Section`] for values and sections of your own.
 //! - [`fallible`] has the proved builders. Their calls return errors.
-//! - [`reader`] lists, decodes, edits and minimizes modules. Begin with [`reader::Sections`].
+//! - [`reader`] lists, decodes, edits and minimizes modules. Begin with [`reader::Sections`], and to
+//!   edit, with [`reader::Reencode`].
 //! - [`definitions`] explains contracts, and defines each word in them.
 #![no_std]
 #![forbid(unsafe_code)]
@@ -49,6 +50,7 @@ mod errors;
 #[doc(alias = "no_std")]
 pub mod fallible;
 mod hex;
+mod reencode;
 mod string;
 mod vec;
 

@@ -7,6 +7,7 @@ pub use crate::insn::reading::*;
 pub use crate::code::reading::*;
 pub use crate::sections::reading::*;
 pub use crate::custom::reading::*;
+pub use crate::reencode::*;
 
 /// Indices, mapped: each place of a module that refers to a function, a type, a table and so on.
 pub mod remap {

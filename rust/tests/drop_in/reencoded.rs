@@ -2,60 +2,36 @@
 use dolzhytik as wasm_encoder;
 
 use std::convert::Infallible;
-use wasm_encoder::fallible::{self, EntityType, Global, Import, Imports};
-use wasm_encoder::reader::remap::{IndexSpace, Remap, RemapError, remap_module};
-use wasm_encoder::reader::{Items, Offsets, Sections, Standard, encode_items_in};
-use wasm_encoder::{Module, RawSection};
+use wasm_encoder::fallible::{self, EntityType, Import, Imports};
+use wasm_encoder::reader::{Offsets, Reencode, ReencodeError};
 
 /// Imports the function `log` of `host`, of type 0, before all other functions.
 struct AddImport;
 
-impl Remap for AddImport {
+impl Reencode for AddImport {
     type Error = Infallible;
 
-    fn index(&self, space: IndexSpace, index: u32) -> Result<u32, Infallible> {
-        Ok(match space {
-            IndexSpace::Functions => index + 1,
-            _ => index,
-        })
+    fn function_index(&mut self, index: u32) -> Result<u32, Infallible> {
+        Ok(index + 1)
+    }
+
+    fn import_section(
+        &mut self,
+        imports: &mut fallible::Vec<Imports<'_>>,
+    ) -> Result<(), ReencodeError<Infallible>> {
+        imports.push(Imports::Single(Import {
+            module: "host",
+            name: "log",
+            ty: EntityType::Function(0),
+        }))?;
+        // It is function 0, and so before all others.
+        imports.rotate_right(1);
+        Ok(())
     }
 }
 
-fn with_import(module: &[u8]) -> Result<Vec<u8>, RemapError<Infallible>> {
-    let shifted = remap_module(module, Global, &AddImport, Offsets::LeaveOut)?;
-
-    // The new import, and then the old ones.
-    let log = Import {
-        module: "host",
-        name: "log",
-        ty: EntityType::Function(0),
-    };
-    let mut imports: fallible::Vec<_> = vec![Imports::Single(log)].into();
-    for section in Sections::new(Global, &shifted)? {
-        if let Items::Imports(old) = section?.items()? {
-            imports.extend(old)?;
-        }
-    }
-    let mut data = Vec::new();
-    encode_items_in::<Standard, _, _, _>(Global, &Items::Imports(imports), &mut data)?;
-    let imports = RawSection { id: 2, data: &data };
-
-    let (mut edited, mut is_added) = (Module::new(), false);
-    for section in Sections::new(Global, &shifted)? {
-        let section = section?;
-        // Only types and custom sections come before the imports.
-        if !is_added && section.id() > 1 {
-            edited.section(&imports);
-            is_added = true;
-        }
-        if section.id() != 2 {
-            edited.section(&section);
-        }
-    }
-    if !is_added {
-        edited.section(&imports);
-    }
-    Ok(edited.finish())
+fn with_import(module: &[u8]) -> Result<Vec<u8>, ReencodeError<Infallible>> {
+    AddImport.reencode_module(module, Offsets::LeaveOut)
 }
 
 /// Checks what the module of the sections becomes.

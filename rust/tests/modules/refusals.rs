@@ -1,5 +1,6 @@
 //! Calls of which each allocation fails in turn.
-use crate::remapped::{By, EVERY, EVERY_SHIFTED, Rejected, shifted};
+use crate::every::{EVERY, EVERY_SHIFTED};
+use crate::remapped::{By, Rejected, shifted};
 use crate::samples::{PADDED, PADDED_NAME, SHORT, SHORT_NAME, UNREAD, bytes_of, module};
 use crate::sections::first_section;
 use dolzhytik::fallible::{AllocError, Allocator, Refused, Vec};

@@ -13,7 +13,7 @@ from .context import sources, uses
 from .crates import Crate, reading
 from .modules import SKIP
 from .source import Source
-from .tables import BESIDE_TESTS, BY_HAND, INNER, LIBRARIES, PUBLIC, READERS, TESTS
+from .tables import BESIDE_TESTS, BY_HAND, INNER, LIBRARIES, PUBLIC, READERS, READING_BY_HAND, TESTS
 from .uses import grouped
 
 # The hidden lines around the examples of documentation.
@@ -108,11 +108,12 @@ def head_and_rest(text: str) -> tuple[str, str]:
 
 
 def exported_readers(crate: Crate, relative: str | pathlib.Path) -> str:
-    """Returns what the root of `reader` exports of the libraries below it."""
+    """Returns what the root of `reader` exports of the libraries below it, and of modules by hand."""
     if crate.name != 'wasm_reader' or str(relative) != 'lib.rt':
         return ''
     inner = ''.join(f'/// {says}\npub mod {LIBRARIES[name]} {{\n    pub use crate::{LIBRARIES[name]}::*;\n}}\n' for name, says in INNER.items())
-    return ''.join(f'pub use {reading(name)}::*;\n' for name in READERS) + f'\n{inner}\n'
+    modules = [*map(reading, READERS), *(f'crate::{name}' for name in READING_BY_HAND)]
+    return ''.join(f'pub use {module}::*;\n' for module in modules) + f'\n{inner}\n'
 
 
 def support(crate: Crate, is_root: bool) -> str:

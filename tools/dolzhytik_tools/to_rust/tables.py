@@ -48,6 +48,8 @@ PUBLIC = {
 # The libraries that are public as a module of `reader`, and what each is.
 INNER = {'wasm_remap': 'Indices, mapped: each place of a module that refers to a function, a type, a table and so on.'}
 PUBLIC_LAWS = {'wasm_reader': 'reader::laws'}
+# The hand-written modules whose names `reader` exports.
+READING_BY_HAND = ['reencode']
 # The names of a library that decode: users find them in `reader`, and not in `fallible`. The
 # library's module has them in a module of its own, which `reader` exports.
 READERS = {
