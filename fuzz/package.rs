@@ -2,6 +2,7 @@
 
 mod files;
 mod grammar;
+mod insert;
 mod items;
 mod maker;
 mod modules;

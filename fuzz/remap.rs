@@ -1,14 +1,16 @@
-//! Compares `remap_module`, `remap_section`, `remap_items` and `spaces_of` with a plain remapper, and
-//! `Reencode` with `remap_module`, on random modules and random maps. See README.md.
+//! Compares `remap_module`, `remap_section`, `remap_items` and `spaces_of` with a plain remapper,
+//! `Reencode` with `remap_module`, and the calls that insert with plain edits of bytes, on random
+//! modules and random maps. See README.md.
 
 use crate::grammar::{self, Grammar, KINDS, Space, spaces, table};
+use crate::insert::are_edits;
 use crate::maker::{Maker, Random, input};
 use crate::modules::{add_section, framed, id_of, unframed};
 use crate::plain::remapped;
 use crate::whole::{HEADER, Section, section};
 use dolzhytik::fallible::{self, Global, Op};
 use dolzhytik::reader::remap::{
-    IndexSpace, Remap, RemapError, remap_items, remap_module, remap_section, spaces_of,
+    IndexSpace, Position, Remap, RemapError, remap_items, remap_module, remap_section, spaces_of,
 };
 use dolzhytik::reader::{
     self, ModuleFault, Offsets, ReadError, ReadFault, Reencode, Sections, Standard,
@@ -196,7 +198,7 @@ impl Reencode for Methods<'_> {
 
 /// The result for a module or a section.
 #[derive(Debug)]
-enum Answer {
+pub enum Answer {
     Remapped(Vec<u8>),
     /// The bytes do not decode. The error is at one of these offsets.
     Unread(RangeInclusive<usize>),
@@ -217,7 +219,7 @@ fn remapped_section(section: &Section<'_>, map: &Map) -> Answer {
 }
 
 /// The result for a module.
-fn remapped_module(bytes: &[u8], map: &Map, leaves_out: bool) -> Answer {
+pub fn remapped_module(bytes: &[u8], map: &Map, leaves_out: bool) -> Answer {
     if !bytes.starts_with(HEADER) {
         return Answer::Unread(0..=bytes.len());
     }
@@ -456,6 +458,15 @@ fn module(random: &mut Random) -> Vec<u8> {
     module
 }
 
+/// Whether the edits of a module by a random section are the plain ones.
+fn is_edited(random: &mut Random, module: &[u8]) -> bool {
+    let kind = random.one_of(&KINDS);
+    let encoding = made(random, kind, Grammar::Standard);
+    let id = id_of(random, kind);
+    let position = random.one_of(&[Position::First, Position::Last, Position::Instead]);
+    are_edits(module, id, unframed(&encoding), position)
+}
+
 /// How many results there were of each form.
 #[derive(Default)]
 pub struct Counts {
@@ -508,7 +519,8 @@ pub fn run(seed: u64, count: u64) -> bool {
         let is_same = agree(&module, &map, Offsets::Refuse, &mut counts)
             & agree(&module, &map, Offsets::LeaveOut, &mut counts)
             & are_same_sections(&module, &map, &mut counts)
-            & is_shortened(&module);
+            & is_shortened(&module)
+            & is_edited(&mut random, &module);
         if !is_same {
             differences += 1;
             println!("module {} {:?}", show(&module), map.rules);

@@ -1,5 +1,6 @@
-//! What errors of the proved source lack there: `Display` and `Error` of a type that is one word.
+//! `Display` and `Error` of errors that lack them in the proved source.
 use crate::base::reading::{DecodeError, ReadFault};
+use crate::remap::{IndexTooLarge, RemapError};
 use core::error::Error;
 use core::fmt;
 
@@ -19,3 +20,36 @@ impl fmt::Display for DecodeError {
 }
 
 impl Error for DecodeError {}
+
+impl<E: fmt::Display> fmt::Display for RemapError<E> {
+    fn fmt(&self, f: &mut fmt::Formatter<'_>) -> fmt::Result {
+        match self {
+            Self::Read(error) => error.fmt(f),
+            Self::Refused(error) => error.fmt(f),
+            Self::Index(error) => error.fmt(f),
+            Self::Offsets(offset) => {
+                write!(
+                    f,
+                    "section at offset {offset:#x}: its offsets would become wrong"
+                )
+            }
+        }
+    }
+}
+
+impl<E: Error> Error for RemapError<E> {
+    fn source(&self) -> Option<&(dyn Error + 'static)> {
+        match self {
+            Self::Index(error) => error.source(),
+            _ => None,
+        }
+    }
+}
+
+impl fmt::Display for IndexTooLarge {
+    fn fmt(&self, f: &mut fmt::Formatter<'_>) -> fmt::Result {
+        f.write_str("an index would be more than 4294967295")
+    }
+}
+
+impl Error for IndexTooLarge {}

@@ -230,12 +230,7 @@ impl<E: fmt::Display> fmt::Display for ReencodeError<E> {
             Self::Read(error) => error.fmt(f),
             Self::Refused(error) => error.fmt(f),
             Self::User(error) => error.fmt(f),
-            Self::Offsets(offset) => {
-                write!(
-                    f,
-                    "section at offset {offset:#x}: its offsets would become wrong"
-                )
-            }
+            Self::Offsets(offset) => RemapError::<E>::Offsets(*offset).fmt(f),
         }
     }
 }

@@ -2,4 +2,5 @@
 pub mod Common
 pub mod IteratedLaws
 pub mod ObjectLaws
+pub mod InsertedLaws
 pub mod RemappedLaws

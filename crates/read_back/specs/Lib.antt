@@ -6,6 +6,7 @@ pub mod Libraries
 pub mod Objects
 pub mod FirstValues
 pub mod Handed
+pub mod Inserted
 pub mod Iterated
 pub mod Remapped
 pub mod ReadPadded

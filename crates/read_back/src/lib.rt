@@ -24,6 +24,7 @@ pub mod dumps;
 pub mod dylink;
 pub mod first_values;
 pub mod handed;
+pub mod inserted;
 pub mod instructions;
 pub mod objects;
 pub mod once;

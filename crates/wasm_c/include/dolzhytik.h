@@ -1,5 +1,5 @@
-/* Assembles, lists, outlines and minimizes WebAssembly modules. The page docs/C.md has an example
-   and the limits. */
+/* Assembles, lists, outlines and minimizes WebAssembly modules, and maps their indices. The page
+   docs/C.md has an example and the limits. */
 #ifndef DOLZHYTIK_H
 #define DOLZHYTIK_H
 
@@ -29,8 +29,8 @@ enum dz_recipe_cause {
 };
 
 /* The causes of an error in a section or a module. dz_cause returns their texts. No call sets
-   DZ_NOT_SHORTEST, since padded LEB128 decodes. Only dz_shorten sets DZ_NO_KIND, and only
-   dz_shorten_module DZ_OFFSETS. */
+   DZ_NOT_SHORTEST, since padded LEB128 decodes. Only dz_shorten and dz_remap_module set DZ_NO_KIND.
+   Only the calls that write modules set DZ_OFFSETS, and those that map indices the causes below it. */
 enum dz_fault {
     DZ_ENDED = 1,
     DZ_NOT_SHORTEST = 2,
@@ -41,7 +41,9 @@ enum dz_fault {
     DZ_SIZE_MISMATCH = 7,
     DZ_OUT_OF_MEMORY = 8,
     DZ_NO_KIND = 9,
-    DZ_OFFSETS = 10
+    DZ_OFFSETS = 10,
+    DZ_NO_INDEX = 11,
+    DZ_OVERLONG = 12
 };
 
 /* The kinds of sections, which select how dz_shorten decodes a payload. DZ_CUSTOM decodes a custom
@@ -162,6 +164,38 @@ uint64_t dz_outline(const uint8_t *module, size_t module_len, dz_outlined *out, 
    If the bytes are no module, or an allocation failed, `*place` and `*cause` are those of
    dz_outline. On an error `*kept` is 0, and on success `*place` and `*cause` are 0. */
 uint64_t dz_shorten_module(const uint8_t *module, size_t module_len, uint32_t drop_offsets, uint8_t *out, size_t out_len, uint64_t *kept, uint64_t *place, uint32_t *cause);
+
+/* The index spaces of a module. */
+enum dz_space {
+    DZ_SPACE_FUNCTIONS,
+    DZ_SPACE_TYPES,
+    DZ_SPACE_TABLES,
+    DZ_SPACE_MEMORIES,
+    DZ_SPACE_GLOBALS,
+    DZ_SPACE_TAGS,
+    DZ_SPACE_ELEMENTS,
+    DZ_SPACE_DATA
+};
+
+/* Writes a module in which each index of a dz_space is replaced, and returns the module's size in
+   bytes. `indices` has the new index of each old one. All sections are encoded anew, in their
+   minimal encoding.
+
+   An index behind `indices_len`, or whose new one is UINT32_MAX, is an error: `*cause` is
+   DZ_NO_INDEX, as for an entity that was removed. If `drop_offsets` is not 0, the custom sections
+   that hold offsets, as dz_shorten_module lists them, are left out. If it is 0, such a section is an
+   error: `*cause` is DZ_OFFSETS. If the bytes are no module, or a section does not decode,
+   `*cause` is that of the decoder. If a section would be too long, it is DZ_OVERLONG. `*offset` is
+   where the bytes do not decode, or that of the section that holds offsets, or 0. On success both
+   are 0. */
+uint64_t dz_remap_module(const uint8_t *module, size_t module_len, uint32_t space, const uint32_t *indices, size_t indices_len, uint32_t drop_offsets, uint8_t *out, size_t out_len, uint64_t *offset, uint32_t *cause);
+
+/* Writes a module with one more import, of a function of the type `type_index`, and returns the
+   module's size in bytes. The import is the first one, so that the function has index 0. Each other
+   index of a function is one higher, wherever it is in the module.
+
+   If a name is not UTF-8, `*cause` is DZ_NOT_UTF8. Other errors are those of dz_remap_module. */
+uint64_t dz_insert_import(const uint8_t *module, size_t module_len, const uint8_t *module_name, size_t module_name_len, const uint8_t *name, size_t name_len, uint32_t type_index, uint32_t drop_offsets, uint8_t *out, size_t out_len, uint64_t *offset, uint32_t *cause);
 
 /* Writes the text of a number of dz_fault in ASCII, such as `Ended`, and returns its length in
    bytes. No 0 ends the text. Fails if no cause has the number. */

@@ -20,6 +20,8 @@ fn fault_text(cause: u32) -> Option<&'static str>
         8 => Some("Memory"),
         9 => Some("NoKind"),
         10 => Some("Offsets"),
+        11 => Some("NoIndex"),
+        12 => Some("TooLong"),
         _ => None,
     }
 }
@@ -44,8 +46,10 @@ fn recipe_text(cause: u32) -> Option<&'static str>
 }
 
 /// Writes the message of a cause of [`dz_list`](crate::listing::dz_list),
-/// [`dz_outline`](crate::outlining::dz_outline), [`dz_shorten`](crate::minimal::dz_shorten) or
-/// [`dz_shorten_module`](crate::whole::dz_shorten_module), in ASCII and without a terminating NUL.
+/// [`dz_outline`](crate::outlining::dz_outline), [`dz_shorten`](crate::minimal::dz_shorten),
+/// [`dz_shorten_module`](crate::whole::dz_shorten_module),
+/// [`dz_remap_module`](crate::indices::dz_remap_module) or
+/// [`dz_insert_import`](crate::indices::dz_insert_import), in ASCII and without a terminating NUL.
 /// Returns its length in bytes, or [`NO_ANSWER`] for any other number.
 #[unsafe(no_mangle)]
 pub extern "C" fn dz_cause(cause: u32, out: &mut [u8]) -> u64

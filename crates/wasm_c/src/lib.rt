@@ -1,5 +1,5 @@
 //! The encoder and the reader for programs in C and Rust: recipes are assembled, the sections of
-//! modules are listed and outlined, and sections and modules are minimized.
+//! modules are listed and outlined, sections and modules are minimized, and indices are mapped.
 //!
 //! A slice is passed as a pointer and a length. A function returns the number of bytes or sections
 //! of its result. It copies them to the front of `out`, if `out` holds all of them. On an error it
@@ -7,6 +7,7 @@
 #![tactic(auto)]
 
 mod causes;
+mod indices;
 mod listing;
 mod minimal;
 mod outlining;

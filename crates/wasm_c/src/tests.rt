@@ -1,6 +1,7 @@
 // Tests of each call, with an output that is ample, too short and empty.
 use crate::NO_ANSWER;
 use crate::causes::{dz_cause, dz_recipe_cause};
+use crate::indices::{dz_insert_import, dz_remap_module};
 use crate::listing::{DzSection, dz_list, number_of as fault_number};
 use crate::minimal::dz_shorten;
 use crate::outlining::{DzOutlined, dz_outline};
@@ -335,6 +336,103 @@ fn modules_that_are_refused(rt: HostRuntime) {
     check_whole(&rt, alloc, &[], 1, &mut [], (NO_ANSWER, 0, 0, 1), &[]);
 }
 
+/// A module of a function that calls itself.
+const CALLS: &[u8] =
+    b"\0asm\x01\0\0\0\x01\x04\x01\x60\0\0\x03\x02\x01\0\x0A\x06\x01\x04\0\x10\0\x0B";
+
+/// The same where it is function 7.
+const SEVENTH: &[u8] =
+    b"\0asm\x01\0\0\0\x01\x04\x01\x60\0\0\x03\x02\x01\0\x0A\x06\x01\x04\0\x10\x07\x0B";
+
+/// Checks the result of a map of the indices of one space, and the content of `room` afterwards.
+fn check_remapped(
+    rt: &impl Abort,
+    alloc: Global,
+    bytes: &[u8],
+    (space, indices): (u32, &[u32]),
+    room: &mut [u8],
+    expected: (u64, u64, u32),
+    left: &[u8],
+) {
+    let mut offset = 7;
+    let mut cause = 7;
+    let answer = dz_remap_module(
+        alloc,
+        bytes,
+        space,
+        indices,
+        0,
+        room,
+        &mut offset,
+        &mut cause,
+    );
+    assert_eq!(rt; (answer, offset, cause), expected);
+    assert_eq!(rt; &*room, left);
+}
+
+#[test]
+fn mapped_modules(rt: HostRuntime) {
+    let alloc = rt.alloc();
+    let seven: (u32, &[u32]) = (0, &[7]);
+    check_remapped(&rt, alloc, CALLS, seven, &mut [9; 26], (26, 0, 0), SEVENTH);
+    check_remapped(&rt, alloc, CALLS, seven, &mut [9; 3], (26, 0, 0), &[9; 3]);
+    check_remapped(&rt, alloc, CALLS, (2, &[]), &mut [9; 26], (26, 0, 0), CALLS);
+    let none = (NO_ANSWER, 0, 11);
+    check_remapped(&rt, alloc, CALLS, (0, &[]), &mut [9], none, &[9]);
+    let removed: (u32, &[u32]) = (0, &[4294967295]);
+    check_remapped(&rt, alloc, CALLS, removed, &mut [9], none, &[9]);
+    let no_space = (NO_ANSWER, 0, 9);
+    check_remapped(&rt, alloc, CALLS, (8, &[7]), &mut [9], no_space, &[9]);
+    let offsets = (NO_ANSWER, 15, 10);
+    check_remapped(&rt, alloc, SYMBOLS, seven, &mut [9], offsets, &[9]);
+    let ended = (NO_ANSWER, 9, 1);
+    check_remapped(&rt, alloc, &CALLS[..9], seven, &mut [9], ended, &[9]);
+}
+
+/// Checks the result of an inserted import, and the content of `room` afterwards.
+fn check_inserted(
+    rt: &impl Abort,
+    alloc: Global,
+    (bytes, name): (&[u8], &[u8]),
+    drop_offsets: u32,
+    room: &mut [u8],
+    expected: (u64, u64, u32),
+    left: &[u8],
+) {
+    let mut offset = 7;
+    let mut cause = 7;
+    let answer = dz_insert_import(
+        alloc,
+        bytes,
+        b"host",
+        name,
+        0,
+        drop_offsets,
+        room,
+        &mut offset,
+        &mut cause,
+    );
+    assert_eq!(rt; (answer, offset, cause), expected);
+    assert_eq!(rt; &*room, left);
+}
+
+#[test]
+fn inserted_imports(rt: HostRuntime) {
+    let alloc = rt.alloc();
+    let called =
+        b"\0asm\x01\0\0\0\x01\x04\x01\x60\0\0\x02\x0C\x01\x04host\x03hit\0\0\x03\x02\x01\0\x0A\x06\x01\x04\0\x10\x01\x0B";
+    let hit: (&[u8], &[u8]) = (CALLS, b"hit");
+    check_inserted(&rt, alloc, hit, 0, &mut [9; 40], (40, 0, 0), called);
+    check_inserted(&rt, alloc, hit, 0, &mut [9; 3], (40, 0, 0), &[9; 3]);
+    let alone = b"\0asm\x01\0\0\0\x02\x0C\x01\x04host\x03hit\0\0\x0A\x04\x01\x02\0\x0B";
+    let symbols: (&[u8], &[u8]) = (SYMBOLS, b"hit");
+    check_inserted(&rt, alloc, symbols, 1, &mut [9; 28], (28, 0, 0), alone);
+    let offsets = (NO_ANSWER, 15, 10);
+    check_inserted(&rt, alloc, symbols, 0, &mut [9], offsets, &[9]);
+    let no_text = (NO_ANSWER, 0, 6);
+    check_inserted(&rt, alloc, (CALLS, b"\xFF"), 0, &mut [9], no_text, &[9]);
+}
+
 /// The message of a cause.
 struct TextRow {
     cause: u32,
@@ -342,7 +440,7 @@ struct TextRow {
 }
 
 /// The messages of errors of sections and modules.
-const FAULT_TEXTS: [TextRow; 10] = [
+const FAULT_TEXTS: [TextRow; 12] = [
     TextRow {
         cause: 1,
         text: b"Ended",
@@ -382,6 +480,14 @@ const FAULT_TEXTS: [TextRow; 10] = [
     TextRow {
         cause: 10,
         text: b"Offsets",
+    },
+    TextRow {
+        cause: 11,
+        text: b"NoIndex",
+    },
+    TextRow {
+        cause: 12,
+        text: b"TooLong",
     },
 ];
 
@@ -449,7 +555,7 @@ fn texts_of_faults(rt: HostRuntime) {
     let mut little = [9; 4];
     assert_eq!(rt; dz_cause(1, &mut little), 5);
     assert_eq!(rt; dz_cause(0, &mut little), NO_ANSWER);
-    assert_eq!(rt; dz_cause(11, &mut little), NO_ANSWER);
+    assert_eq!(rt; dz_cause(13, &mut little), NO_ANSWER);
     assert_eq!(rt; little, [9; 4]);
     assert_eq!(rt; dz_cause(1, &mut []), 5);
 }

@@ -9,11 +9,11 @@ use std::alloc::Global;
 use wasm_reader::{ModuleFault, Offsets, shorten_module};
 
 /// The number of the cause of a section whose offsets would become wrong.
-const OFFSETS: u32 = 10;
+pub(crate) const OFFSETS: u32 = 10;
 
 /// Returns the treatment of sections that hold offsets: 0 is an error, and any other number leaves
 /// them out.
-fn offsets_of(drop_offsets: u32) -> Offsets
+pub(crate) fn offsets_of(drop_offsets: u32) -> Offsets
     ensures { result ≡ offsets_numbered drop_offsets }
 {
     if drop_offsets == 0 {

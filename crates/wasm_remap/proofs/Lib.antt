@@ -9,3 +9,7 @@ pub mod MappedCustoms
 pub mod MappedItems
 pub mod MappedSections
 pub mod ModuleLaws
+pub mod PlaceLaws
+pub mod InsertLaws
+pub mod ImportedLaws
+pub mod BegunLaws

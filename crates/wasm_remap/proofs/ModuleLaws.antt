@@ -30,11 +30,11 @@ are_more m [] news more s h g = subst (λ z. AreRemapped m (s ∷ []) (z ++ more
 are_more m (o ∷ olds) news more s (inl h) g = inl (h.0, are_more m olds news more s h.1 g)
 are_more m (o ∷ olds) news more s (inr h) g = inr (h.0, h.1 ++ more, h.2, ap (λ z. z ++ more) h.3, h.4, are_more m olds h.1 more s h.5 g)
 
-all_more : {X : Type 0} (P : X → Type 0) (xs : List X) (x : X) → AllByRecursion P xs → P x → AllByRecursion P (xs ++ x ∷ [])
+pub all_more : {X : Type 0} (P : X → Type 0) (xs : List X) (x : X) → AllByRecursion P xs → P x → AllByRecursion P (xs ++ x ∷ [])
 all_more P [] x h p = (p, tt)
 all_more P (y ∷ xs) x h p = (h.0, all_more P xs x h.1 p)
 
-joined_more : (olds : List Section) (start rest after : List ℕ) (s : Section) → start ≡ flat_map bytes_of olds ++ rest → rest ≡ bytes_of s ++ after → start ≡ flat_map bytes_of (olds ++ s ∷ []) ++ after
+pub joined_more : (olds : List Section) (start rest after : List ℕ) (s : Section) → start ≡ flat_map bytes_of olds ++ rest → rest ≡ bytes_of s ++ after → start ≡ flat_map bytes_of (olds ++ s ∷ []) ++ after
 joined_more olds start rest after s e g =
     let front = flat_map bytes_of olds in
     let more : flat_map bytes_of (olds ++ s ∷ []) ≡ front ++ bytes_of s = flat_map-append bytes_of olds (s ∷ []) ∙ ap (λ z. front ++ z) (append-nil (bytes_of s)) in

@@ -6,3 +6,8 @@ pub mod Items
 pub mod Types
 pub mod Customs
 pub mod Sections
+pub mod Shifted
+pub mod Places
+pub mod Inserted
+pub mod Imported
+pub mod Begun

@@ -2,17 +2,26 @@
 //! table, a memory, a global, a tag, an element segment or a data segment.
 #![tactic(auto)]
 
+mod code;
 mod customs;
+mod imports;
 mod indexed;
+mod insert;
 mod instructions;
 mod items;
 mod modules;
+mod places;
 mod recursive;
 mod sections;
+mod shift;
 mod spaces;
 mod types;
 
+pub use code::{Prologue, insert_code};
+pub use imports::insert_import;
 pub use indexed::{Remap, RemapError};
+pub use insert::{Position, insert_section};
 pub use items::{remap_items, remap_section};
 pub use modules::remap_module;
+pub use shift::{IndexTooLarge, Shift};
 pub use spaces::{IndexSpace, spaces_of};

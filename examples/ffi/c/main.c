@@ -119,6 +119,37 @@ static void shorten_module(const void *module, size_t len, uint32_t drop_offsets
     printf("\n");
 }
 
+/* Prints the bytes of a module that a call returned, or its error. */
+static void say_edited(uint64_t size, const uint8_t *out, uint64_t offset, uint32_t cause) {
+    if (size == DZ_NO_ANSWER) {
+        printf("at %" PRIu64 ": ", offset);
+        say(dz_cause, cause);
+        return;
+    }
+    for (uint64_t i = 0; i < size && i < ROOM; i++)
+        printf("%02x", out[i]);
+    printf("\n");
+}
+
+static void remap(const void *module, size_t len, uint32_t space, const uint32_t *indices, size_t count) {
+    uint8_t out[ROOM] = {0};
+    uint64_t offset;
+    uint32_t cause;
+    uint64_t size = dz_remap_module(module, len, space, indices, count, 0, out, ROOM, &offset, &cause);
+    say_edited(size, out, offset, cause);
+}
+
+static void insert(const void *module, size_t len, const char *name, uint32_t drop_offsets) {
+    uint8_t out[ROOM] = {0};
+    uint64_t offset;
+    uint32_t cause;
+    uint64_t size = dz_insert_import(module, len, (const uint8_t *)"host", 4, (const uint8_t *)name, strlen(name), 0, drop_offsets, out, ROOM, &offset, &cause);
+    say_edited(size, out, offset, cause);
+}
+
+/* A function that calls itself and is exported. */
+static const char calls[] = "\0asm\x01\0\0\0" "\x01\x04\x01\x60\0\0" "\x03\x02\x01\0" "\x07\x05\x01\x01" "f\0\0" "\x0A\x06\x01\x04\0\x10\0\x0B";
+
 /* A type, a custom section of padded numbers called `name`, one without a name, and a function
    section that counts seven functions and ends before them. */
 static const char outlined[] = "\0asm\x01\0\0\0" "\x01\x04\x01\x60\0\0" "\0\x87\0\x84\0name\xFF" "\0\x01\x05" "\x03\x01\x07";
@@ -150,5 +181,13 @@ int main(void) {
     shorten_module(symbols, sizeof symbols - 1, 0);
     shorten_module(symbols, sizeof symbols - 1, 1);
     shorten_module(outlined, 9, 1);
+    uint32_t indices[] = {7};
+    remap(calls, sizeof calls - 1, DZ_SPACE_FUNCTIONS, indices, 1);
+    remap(calls, sizeof calls - 1, DZ_SPACE_FUNCTIONS, indices, 0);
+    remap(calls, sizeof calls - 1, 8, indices, 1);
+    remap(symbols, sizeof symbols - 1, DZ_SPACE_TYPES, indices, 1);
+    insert(calls, sizeof calls - 1, "hit", 0);
+    insert(calls, sizeof calls - 1, "\xFF", 0);
+    insert(symbols, sizeof symbols - 1, "hit", 1);
     return 0;
 }

@@ -2,7 +2,9 @@
 //!
 //! They turn pointers and lengths into slices, and call [`calls`], which `tools/to-rust` writes
 //! from the proved source.
-use calls::{DzOutlined, DzSection, causes, listing, minimal, outlining, recipes, whole};
+use calls::{
+    DzOutlined, DzSection, causes, indices as edits, listing, minimal, outlining, recipes, whole,
+};
 use dolzhytik::fallible::Global;
 use std::slice;
 
@@ -161,6 +163,80 @@ pub unsafe extern "C" fn dz_shorten_module(
     let module = unsafe { list(module, module_len) };
     let out = unsafe { output(out, out_len) };
     whole::dz_shorten_module(Global, module, drop_offsets, out, kept, place, cause)
+}
+
+/// Writes a module in which each index of one space is replaced.
+///
+/// # Safety
+///
+/// As the header says: pointers are valid for their lengths, and the memory that is written
+/// overlaps nothing else.
+#[unsafe(no_mangle)]
+#[allow(clippy::too_many_arguments, reason = "a slice is two of them")]
+pub unsafe extern "C" fn dz_remap_module(
+    module: *const u8,
+    module_len: usize,
+    space: u32,
+    indices: *const u32,
+    indices_len: usize,
+    drop_offsets: u32,
+    out: *mut u8,
+    out_len: usize,
+    offset: &mut u64,
+    cause: &mut u32,
+) -> u64 {
+    let module = unsafe { list(module, module_len) };
+    let indices = unsafe { list(indices, indices_len) };
+    let out = unsafe { output(out, out_len) };
+    edits::dz_remap_module(
+        Global,
+        module,
+        space,
+        indices,
+        drop_offsets,
+        out,
+        offset,
+        cause,
+    )
+}
+
+/// Writes a module with one more import, of a function.
+///
+/// # Safety
+///
+/// As the header says: pointers are valid for their lengths, and the memory that is written
+/// overlaps nothing else.
+#[unsafe(no_mangle)]
+#[allow(clippy::too_many_arguments, reason = "a slice is two of them")]
+pub unsafe extern "C" fn dz_insert_import(
+    module: *const u8,
+    module_len: usize,
+    module_name: *const u8,
+    module_name_len: usize,
+    name: *const u8,
+    name_len: usize,
+    type_index: u32,
+    drop_offsets: u32,
+    out: *mut u8,
+    out_len: usize,
+    offset: &mut u64,
+    cause: &mut u32,
+) -> u64 {
+    let module = unsafe { list(module, module_len) };
+    let module_name = unsafe { list(module_name, module_name_len) };
+    let name = unsafe { list(name, name_len) };
+    let out = unsafe { output(out, out_len) };
+    edits::dz_insert_import(
+        Global,
+        module,
+        module_name,
+        name,
+        type_index,
+        drop_offsets,
+        out,
+        offset,
+        cause,
+    )
 }
 
 /// Writes the message of a cause of the calls for sections and modules.

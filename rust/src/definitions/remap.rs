@@ -3,6 +3,151 @@
 //!
 //! The contracts of [`wasm_remap`](https://github.com/dolzhytik/dolzhytik/blob/main/crates/wasm_remap/README.md) name these definitions.
 
+/// Modules whose bodies begin with inserted instructions.
+///
+/// - Closed instructions: [`is_among`](begun::is_among), [`open_after`](begun::open_after), [`IsClosedBehind`](begun::IsClosedBehind), [`IsClosed`](begun::IsClosed).
+/// - Bodies: [`begun_body`](begun::begun_body), [`begun_bodies`](begun::begun_bodies), [`GainsCode`](begun::GainsCode), [`IsBegun`](begun::IsBegun), [`EncodeBodies`](begun::EncodeBodies), [`AddsBody`](begun::AddsBody).
+/// - Modules: [`BeginsBodies`](begun::BeginsBodies), [`InsertsCode`](begun::InsertsCode).
+///
+/// [How to read definitions](super). The file is [`Begun.antt`](https://github.com/dolzhytik/dolzhytik/blob/main/crates/wasm_remap/specs/Begun.antt).
+pub trait begun {
+    /// Whether the opcode is one of these bytes.
+    ///
+    /// ```text
+    /// abbrev pub is_among : List ℕ → Op → Bool
+    /// is_among [] op = false
+    /// is_among (b ∷ bytes) op = same_op op (Byte b) || is_among bytes op
+    /// ```
+    ///
+    /// Definitions: [`same_op`](super::insn::plain::same_op).
+    type is_among;
+    /// How many blocks are open behind an instruction, and nothing if none is open in front of one that ends or divides a block. `block`, `loop`, `if`, `try` and `try_table` open one. `end` and `delegate` end one. `else`, `catch` and `catch_all` divide one.
+    ///
+    /// ```text
+    /// abbrev pub open_after : Op → ℕ → Option ℕ
+    /// open_after op zero = cond (is_among (0x02 ∷ 0x03 ∷ 0x04 ∷ 0x06 ∷ 0x1F ∷ []) op) (Some 1)
+    ///     (cond (is_among (0x0B ∷ 0x18 ∷ 0x05 ∷ 0x07 ∷ 0x19 ∷ []) op) None (Some 0))
+    /// open_after op (suc n) = cond (is_among (0x02 ∷ 0x03 ∷ 0x04 ∷ 0x06 ∷ 0x1F ∷ []) op)
+    ///     (Some (suc (suc n))) (cond (is_among (0x0B ∷ 0x18 ∷ []) op) (Some n) (Some (suc n)))
+    /// ```
+    ///
+    /// Definitions: [`is_among`](begun::is_among).
+    type open_after;
+    /// Each block that the instructions open is ended by them, in order, if this many are open before.
+    ///
+    /// ```text
+    /// abbrev pub IsClosedBehind : Option ℕ → List Plain → Type 0
+    /// IsClosedBehind None is = ⊥
+    /// IsClosedBehind (Some n) [] = n ≡ 0
+    /// IsClosedBehind (Some n) (i ∷ is) = IsClosedBehind (open_after i.op n) is
+    /// ```
+    ///
+    /// Definitions: [`Plain`](super::insn::plain::Plain), [`open_after`](begun::open_after).
+    type IsClosedBehind;
+    /// Each block that the instructions open is ended by them, and no other.
+    ///
+    /// ```text
+    /// abbrev pub IsClosed : List Plain → Type 0
+    /// IsClosed = IsClosedBehind (Some 0)
+    /// ```
+    ///
+    /// Definitions: [`Plain`](super::insn::plain::Plain), [`IsClosedBehind`](begun::IsClosedBehind).
+    type IsClosed;
+    /// The body with these instructions before its own.
+    ///
+    /// ```text
+    /// abbrev pub begun_body : List Plain → Body → Body
+    /// begun_body code x = record { runs = x.runs; code = code ++ x.code }
+    /// ```
+    ///
+    /// Definitions: [`Plain`](super::insn::plain::Plain), [`Body`](super::code::bodies::Body).
+    type begun_body;
+    /// The bodies with instructions before their own, which depend on the number of the body.
+    ///
+    /// ```text
+    /// abbrev pub begun_bodies : (ℕ → List Plain) → ℕ → List Body → List Body
+    /// begun_bodies code n [] = []
+    /// begun_bodies code n (x ∷ bodies) = begun_body (code n) x
+    ///     ∷ begun_bodies code (suc n) bodies
+    /// ```
+    ///
+    /// Definitions: [`Plain`](super::insn::plain::Plain), [`Body`](super::code::bodies::Body), [`begun_body`](begun::begun_body).
+    type begun_bodies;
+    /// The bytes gain an encoding of these instructions.
+    ///
+    /// ```text
+    /// pub record GainsCode (code : List Plain) (old new : List ℕ) : Type 0 where
+    ///   pub encoding : List ℕ
+    ///   pub added : new ≡ old ++ encoding
+    ///   pub encodes : members (instruction table) standard encoding code
+    /// ```
+    ///
+    /// Definitions: [`Plain`](super::insn::plain::Plain), [`members`](super::base::formats::members), [`instruction`](super::insn::plain::instruction), [`table`](super::insn::table::table), [`standard`](super::base::numbers::Mode).
+    type GainsCode;
+    /// The new bytes are the locals, an encoding of these instructions, and the old ones.
+    ///
+    /// ```text
+    /// pub record IsBegun (locals : List ℕ) (code : List Plain) (old new : List ℕ)
+    ///     : Type 0 where
+    ///   pub added : List ℕ
+    ///   pub is : new ≡ locals ++ (added ++ old)
+    ///   pub encodes : members (instruction table) standard added code
+    /// ```
+    ///
+    /// Definitions: [`Plain`](super::insn::plain::Plain), [`members`](super::base::formats::members), [`instruction`](super::insn::plain::instruction), [`table`](super::insn::table::table), [`standard`](super::base::numbers::Mode).
+    type IsBegun;
+    /// The entries of a code section encode these bodies, one each.
+    ///
+    /// ```text
+    /// abbrev pub EncodeBodies : List (List ℕ) → List Body → Type 0
+    /// EncodeBodies entries bodies = AllZip (size_prefixed body standard) entries bodies
+    /// ```
+    ///
+    /// Definitions: [`Body`](super::code::bodies::Body), [`size_prefixed`](super::base::formats::size_prefixed), [`body`](super::code::bodies::body), [`standard`](super::base::numbers::Mode).
+    type EncodeBodies;
+    /// The code section gains this body.
+    ///
+    /// ```text
+    /// pub record AddsBody (x : Body) (old new : List (List ℕ)) : Type 0 where
+    ///   pub entry : List ℕ
+    ///   pub is : new ≡ old ++ entry ∷ []
+    ///   pub encodes : size_prefixed body standard entry x
+    /// ```
+    ///
+    /// Definitions: [`Body`](super::code::bodies::Body), [`size_prefixed`](super::base::formats::size_prefixed), [`body`](super::code::bodies::body), [`standard`](super::base::numbers::Mode).
+    type AddsBody;
+    /// The payload of the first code section has the same bodies with instructions before their own.
+    ///
+    /// ```text
+    /// pub record BeginsBodies (code : ℕ → List Plain) (olds : List Section) (edited : List ℕ)
+    ///     : Type 0 where
+    ///   pub before : List Section
+    ///   pub section : Section
+    ///   pub after : List Section
+    ///   pub found : IsFound (number_of ids.Code) before section after olds
+    ///   pub payload : List ℕ
+    ///   pub bodies : (xs : List Body) → vec (size_prefixed body) standard section.payload xs
+    ///       → vec (size_prefixed body) standard payload (begun_bodies code 0 xs)
+    ///   pub decodes : DecodesWhole wasm_module edited
+    ///       (between before (number_of ids.Code) payload after)
+    /// ```
+    ///
+    /// Definitions: [`Plain`](super::insn::plain::Plain), [`Section`](super::reader::outlines::Section), [`IsFound`](places::IsFound), [`number_of`](super::base::section_id::number_of), [`Body`](super::code::bodies::Body), [`vec`](super::base::formats::vec), [`size_prefixed`](super::base::formats::size_prefixed), [`body`](super::code::bodies::body), [`standard`](super::base::numbers::Mode), [`begun_bodies`](begun::begun_bodies), [`DecodesWhole`](super::base::decoding::DecodesWhole), [`wasm_module`](super::base::formats::wasm_module), [`between`](inserted::between).
+    type BeginsBodies;
+    /// The bytes are a module, and the edited bytes are a module in which each body begins with these instructions. A module without code stays.
+    ///
+    /// ```text
+    /// pub record InsertsCode (code : ℕ → List Plain) (bytes edited : List ℕ) : Type 0 where
+    ///   pub olds : List Section
+    ///   pub has : HasSections bytes olds
+    ///   pub are : BeginsBodies code olds edited
+    ///       ⊎ (lacks (number_of ids.Code) olds × (edited ≡ bytes))
+    /// ```
+    ///
+    /// Definitions: [`Plain`](super::insn::plain::Plain), [`Section`](super::reader::outlines::Section), [`HasSections`](super::reader::outlines::HasSections), [`BeginsBodies`](begun::BeginsBodies), [`lacks`](places::lacks), [`number_of`](super::base::section_id::number_of).
+    type InsertsCode;
+}
+
 /// What a map of indices makes of the items of custom sections.
 ///
 /// - Names: [`name_spaces`](customs::name_spaces), [`remapped_name`](customs::remapped_name).
@@ -169,6 +314,173 @@ pub trait customs {
     ///
     /// Definitions: [`Mapping`](mapping::Mapping), [`mapped_in`](mapping::mapped_in), [`space_of_relocation`](customs::space_of_relocation).
     type remapped_relocation;
+}
+
+/// Modules into which an import is inserted.
+///
+/// [How to read definitions](super). The file is [`Imported.antt`](https://github.com/dolzhytik/dolzhytik/blob/main/crates/wasm_remap/specs/Imported.antt).
+pub trait imported {
+    /// The index space of an imported entity.
+    ///
+    /// ```text
+    /// abbrev pub space_of : EntityType → IndexSpace
+    /// space_of (entities.Function index) = spaces.Functions
+    /// space_of (entities.FunctionExact index) = spaces.Functions
+    /// space_of (entities.Table ty) = spaces.Tables
+    /// space_of (entities.Memory ty) = spaces.Memories
+    /// space_of (entities.Global ty) = spaces.Globals
+    /// space_of (entities.Tag ty) = spaces.Tags
+    /// ```
+    type space_of;
+    /// The map that makes room for one entity before all others of its space.
+    ///
+    /// ```text
+    /// abbrev pub room_in : IndexSpace → Shift
+    /// room_in space = record { space = space; from = 0; by = 1 }
+    /// ```
+    type room_in;
+    /// The indices of the entity's space are one higher, and the first member of the imports is this one.
+    ///
+    /// ```text
+    /// pub record InsertsImport (x : Import) (offsets : Offsets) (bytes edited : List ℕ)
+    ///     : Type 0 where
+    ///   pub shifted_bytes : List ℕ
+    ///   pub shifts : RemapsModule
+    ///       (shifted (room_in (space_of x.ty))) offsets bytes shifted_bytes
+    ///   pub payload : List ℕ
+    ///   pub decodes : vec import_format standard payload (import_item x ∷ [])
+    ///   pub inserts : InsertsSection First (number_of ids.Import) payload shifted_bytes edited
+    /// ```
+    ///
+    /// Definitions: [`RemapsModule`](sections::RemapsModule), [`shifted`](shifted::shifted), [`room_in`](imported::room_in), [`space_of`](imported::space_of), [`vec`](super::base::formats::vec), [`import_format`](super::sections::imports::import_format), [`standard`](super::base::numbers::Mode), [`import_item`](super::sections::imports::import_item), [`InsertsSection`](inserted::InsertsSection), [`number_of`](super::base::section_id::number_of).
+    type InsertsImport;
+}
+
+/// Modules into which a section is inserted.
+///
+/// [How to read definitions](super). The file is [`Inserted.antt`](https://github.com/dolzhytik/dolzhytik/blob/main/crates/wasm_remap/specs/Inserted.antt).
+pub trait inserted {
+    /// Whether the payload of a section of this id is no list: it is one number.
+    ///
+    /// ```text
+    /// abbrev pub is_number : ℕ → Bool
+    /// is_number id = (id == number_of ids.Start) || (id == number_of ids.DataCount)
+    /// ```
+    ///
+    /// Definitions: [`number_of`](super::base::section_id::number_of).
+    type is_number;
+    /// A list of new members and old ones.
+    ///
+    /// ```text
+    /// abbrev pub joined_lists : {X : Type 0} → Position → List X → List X → List X
+    /// joined_lists First new old = new ++ old
+    /// joined_lists Last new old = old ++ new
+    /// joined_lists Instead new old = new
+    /// ```
+    type joined_lists;
+    /// The payload of a list has the members of a new list and of an old one: the sum of their counts, and the bytes of their members.
+    ///
+    /// ```text
+    /// pub record IsJoined (p : Position) (new old joined : List ℕ) : Type 0 where
+    ///   pub new_count : ℕ
+    ///   pub new_members : List ℕ
+    ///   pub new_read : Decodes u32 standard new new_count new_members
+    ///   pub old_count : ℕ
+    ///   pub old_members : List ℕ
+    ///   pub old_read : Decodes u32 standard old old_count old_members
+    ///   pub fits : new_count + old_count < 2 ^ 32
+    ///   pub is : joined ≡ unsigned_encoding (new_count + old_count)
+    ///       ++ joined_lists p new_members old_members
+    /// ```
+    ///
+    /// Definitions: [`Decodes`](super::base::decoding::Decodes), [`u32`](super::base::formats::u32), [`standard`](super::base::numbers::Mode), [`unsigned_encoding`](super::base::numbers::unsigned_encoding), [`joined_lists`](inserted::joined_lists).
+    type IsJoined;
+    /// The payload of the section of this id, for a new payload and the old one.
+    ///
+    /// ```text
+    /// abbrev pub IsPayload : Position → ℕ → (new old payload : List ℕ) → Type 0
+    /// IsPayload p id new old payload =
+    ///     ((p ≢ Instead) × (is_number id ≡ false) × IsJoined p new old payload)
+    ///     ⊎ (((p ≡ Instead) ⊎ (is_number id ≡ true)) × (payload ≡ new))
+    /// ```
+    ///
+    /// Definitions: [`is_number`](inserted::is_number), [`IsJoined`](inserted::IsJoined).
+    type IsPayload;
+    /// These sections with one of this id and payload between them.
+    ///
+    /// ```text
+    /// abbrev pub between : List Section → ℕ → List ℕ → List Section → List (ℕ × List ℕ)
+    /// between before id payload after = map copied before ++ (id, payload) ∷ map copied after
+    /// ```
+    ///
+    /// Definitions: [`Section`](super::reader::outlines::Section), [`copied`](places::copied).
+    type between;
+    /// The first section of the id has the new members too.
+    ///
+    /// ```text
+    /// pub record IsExtended (p : Position) (id : ℕ) (new : List ℕ) (olds : List Section)
+    ///     (news : List (ℕ × List ℕ)) : Type 0 where
+    ///   pub before : List Section
+    ///   pub section : Section
+    ///   pub after : List Section
+    ///   pub found : IsFound id before section after olds
+    ///   pub payload : List ℕ
+    ///   pub has : IsPayload p id new section.payload payload
+    ///   pub are : news ≡ between before id payload after
+    /// ```
+    ///
+    /// Definitions: [`Section`](super::reader::outlines::Section), [`IsFound`](places::IsFound), [`IsPayload`](inserted::IsPayload), [`between`](inserted::between).
+    type IsExtended;
+    /// There is a new section of the id. A section without a place in the standard's order is the last one.
+    ///
+    /// ```text
+    /// pub record IsAdded (id : ℕ) (new : List ℕ) (olds : List Section)
+    ///     (news : List (ℕ × List ℕ)) : Type 0 where
+    ///   pub before : List Section
+    ///   pub after : List Section
+    ///   pub split : olds ≡ before ++ after
+    ///   pub ordered : rank_of id ≢ 0 → lacks id olds × IsPlace id before after
+    ///   pub last : rank_of id ≡ 0 → after ≡ []
+    ///   pub are : news ≡ between before id new after
+    /// ```
+    ///
+    /// Definitions: [`Section`](super::reader::outlines::Section), [`rank_of`](places::rank_of), [`lacks`](places::lacks), [`IsPlace`](places::IsPlace), [`between`](inserted::between).
+    type IsAdded;
+    /// The bytes are a module, and the new bytes are a module that has the new section too: in the first one of its id, or as one more.
+    ///
+    /// ```text
+    /// pub record InsertsSection (p : Position) (id : ℕ) (new bytes edited : List ℕ)
+    ///     : Type 0 where
+    ///   pub olds : List Section
+    ///   pub has : HasSections bytes olds
+    ///   pub news : List (ℕ × List ℕ)
+    ///   pub are : ((rank_of id ≢ 0) × IsExtended p id new olds news)
+    ///       ⊎ IsAdded id new olds news
+    ///   pub decodes : DecodesWhole wasm_module edited news
+    /// ```
+    ///
+    /// Definitions: [`Section`](super::reader::outlines::Section), [`HasSections`](super::reader::outlines::HasSections), [`rank_of`](places::rank_of), [`IsExtended`](inserted::IsExtended), [`IsAdded`](inserted::IsAdded), [`DecodesWhole`](super::base::decoding::DecodesWhole), [`wasm_module`](super::base::formats::wasm_module).
+    type InsertsSection;
+    /// The bytes are a module, and the edited bytes are a module that has these members too, in the standard's grammar: joined with those that an old section decodes to, or in a new section.
+    ///
+    /// ```text
+    /// pub record GainsMembers {X : Type 0} (p : Position) (id : ℕ) (F : Format X)
+    ///     (xs : List X) (bytes edited : List ℕ) : Type 0 where
+    ///   pub olds : List Section
+    ///   pub has : HasSections bytes olds
+    ///   pub before : List Section
+    ///   pub after : List Section
+    ///   pub payload : List ℕ
+    ///   pub members :
+    ///     ((section : Section) × (olds ≡ before ++ section ∷ after) × (section.id ≡ id)
+    ///         × ((ys : List X) → vec F standard section.payload ys
+    ///             → vec F standard payload (joined_lists p xs ys)))
+    ///     ⊎ ((olds ≡ before ++ after) × vec F standard payload xs)
+    ///   pub decodes : DecodesWhole wasm_module edited (between before id payload after)
+    /// ```
+    ///
+    /// Definitions: [`Format`](super::base::formats::Format), [`Section`](super::reader::outlines::Section), [`HasSections`](super::reader::outlines::HasSections), [`vec`](super::base::formats::vec), [`standard`](super::base::numbers::Mode), [`joined_lists`](inserted::joined_lists), [`DecodesWhole`](super::base::decoding::DecodesWhole), [`wasm_module`](super::base::formats::wasm_module), [`between`](inserted::between).
+    type GainsMembers;
 }
 
 /// What a map of indices makes of types, instructions and bodies.
@@ -590,6 +902,154 @@ pub trait mapping {
     type ComesFrom;
 }
 
+/// The places of sections in a module.
+///
+/// - The standard's order: [`order`](places::order), [`rank_among`](places::rank_among), [`rank_of`](places::rank_of).
+/// - Places: [`lacks`](places::lacks), [`IsFound`](places::IsFound), [`IsAt`](places::IsAt), [`IsFree`](places::IsFree), [`ComesBefore`](places::ComesBefore), [`EndsBefore`](places::EndsBefore), [`BeginsPlaced`](places::BeginsPlaced), [`IsPlace`](places::IsPlace).
+///
+/// [How to read definitions](super). The file is [`Places.antt`](https://github.com/dolzhytik/dolzhytik/blob/main/crates/wasm_remap/specs/Places.antt).
+pub trait places {
+    /// The sections of a list, without their offsets.
+    ///
+    /// ```text
+    /// abbrev pub sections_in : List Located → List Section
+    /// sections_in = map (λ s. s.section)
+    /// ```
+    ///
+    /// Definitions: [`Located`](super::reader::iterating::Located), [`Section`](super::reader::outlines::Section).
+    type sections_in;
+    /// The id and the payload of a section.
+    ///
+    /// ```text
+    /// abbrev pub copied : Section → ℕ × List ℕ
+    /// copied s = (s.id, s.payload)
+    /// ```
+    ///
+    /// Definitions: [`Section`](super::reader::outlines::Section).
+    type copied;
+    /// The module gains these sections.
+    ///
+    /// ```text
+    /// abbrev pub AppendsSections : List (ℕ × List ℕ) → List ℕ → List ℕ → Type 0
+    /// AppendsSections news old new = (before : List (ℕ × List ℕ))
+    ///     → DecodesWhole wasm_module old before
+    ///     → DecodesWhole wasm_module new (before ++ news)
+    /// ```
+    ///
+    /// Definitions: [`DecodesWhole`](super::base::decoding::DecodesWhole), [`wasm_module`](super::base::formats::wasm_module).
+    type AppendsSections;
+    /// The ids of sections, in the order of the standard.
+    ///
+    /// ```text
+    /// abbrev pub order : List ℕ
+    /// order = number_of ids.Types ∷ number_of ids.Import ∷ number_of ids.Function
+    ///     ∷ number_of ids.Table ∷ number_of ids.Memory ∷ number_of ids.Tag
+    ///     ∷ number_of ids.Global ∷ number_of ids.Export ∷ number_of ids.Start
+    ///     ∷ number_of ids.Element ∷ number_of ids.DataCount ∷ number_of ids.Code
+    ///     ∷ number_of ids.Data ∷ []
+    /// ```
+    ///
+    /// Definitions: [`number_of`](super::base::section_id::number_of).
+    type order;
+    /// The place of an id in the list, counted from `n`, and 0 if the list lacks it.
+    ///
+    /// ```text
+    /// abbrev pub rank_among : ℕ → List ℕ → ℕ → ℕ
+    /// rank_among n [] id = 0
+    /// rank_among n (k ∷ ks) id = cond (id == k) n (rank_among (suc n) ks id)
+    /// ```
+    type rank_among;
+    /// The place of an id in the order, counted from 1. Custom sections and other ids have 0.
+    ///
+    /// ```text
+    /// abbrev pub rank_of : ℕ → ℕ
+    /// rank_of = rank_among 1 order
+    /// ```
+    ///
+    /// Definitions: [`rank_among`](places::rank_among), [`order`](places::order).
+    type rank_of;
+    /// No section has this id.
+    ///
+    /// ```text
+    /// abbrev pub lacks : ℕ → List Section → Type 0
+    /// lacks id = AllByRecursion (λ s. s.id ≢ id)
+    /// ```
+    ///
+    /// Definitions: [`Section`](super::reader::outlines::Section).
+    type lacks;
+    /// The first section of this id, and those before and after it.
+    ///
+    /// ```text
+    /// pub record IsFound (id : ℕ) (before : List Section) (s : Section)
+    ///     (after all : List Section) : Type 0 where
+    ///   pub split : all ≡ before ++ s ∷ after
+    ///   pub is : s.id ≡ id
+    ///   pub first : lacks id before
+    /// ```
+    ///
+    /// Definitions: [`Section`](super::reader::outlines::Section), [`lacks`](places::lacks).
+    type IsFound;
+    /// The first section of this id is at this place.
+    ///
+    /// ```text
+    /// abbrev pub IsAt : ℕ → ℕ → List Section → Type 0
+    /// IsAt id n all = (before : List Section) × (s : Section) × (after : List Section)
+    ///     × (length before ≡ n) × IsFound id before s after all
+    /// ```
+    ///
+    /// Definitions: [`Section`](super::reader::outlines::Section), [`IsFound`](places::IsFound).
+    type IsAt;
+    /// The section has no place in the standard's order.
+    ///
+    /// ```text
+    /// abbrev pub IsFree : Section → Type 0
+    /// IsFree s = rank_of s.id ≡ 0
+    /// ```
+    ///
+    /// Definitions: [`Section`](super::reader::outlines::Section), [`rank_of`](places::rank_of).
+    type IsFree;
+    /// The section comes before one of this id in the standard's order.
+    ///
+    /// ```text
+    /// abbrev pub ComesBefore : ℕ → Section → Type 0
+    /// ComesBefore id s = (rank_of s.id ≢ 0) × (rank_of s.id < rank_of id)
+    /// ```
+    ///
+    /// Definitions: [`Section`](super::reader::outlines::Section), [`rank_of`](places::rank_of).
+    type ComesBefore;
+    /// The last of the sections comes before one of this id.
+    ///
+    /// ```text
+    /// abbrev pub EndsBefore : ℕ → List Section → Type 0
+    /// EndsBefore id ss = (front : List Section) × (s : Section) × (ss ≡ front ++ s ∷ [])
+    ///     × ComesBefore id s
+    /// ```
+    ///
+    /// Definitions: [`Section`](super::reader::outlines::Section), [`ComesBefore`](places::ComesBefore).
+    type EndsBefore;
+    /// The first of the sections has a place in the order, if there is one.
+    ///
+    /// ```text
+    /// abbrev pub BeginsPlaced : List Section → Type 0
+    /// BeginsPlaced [] = Unit {0}
+    /// BeginsPlaced (s ∷ ss) = rank_of s.id ≢ 0
+    /// ```
+    ///
+    /// Definitions: [`Section`](super::reader::outlines::Section), [`rank_of`](places::rank_of).
+    type BeginsPlaced;
+    /// The place of a new section of this id between others: behind the last one that comes before it in the order. If none does, it is in front of the first one that has a place in it.
+    ///
+    /// ```text
+    /// pub record IsPlace (id : ℕ) (before after : List Section) : Type 0 where
+    ///   pub none_after : AllByRecursion (λ s. ComesBefore id s → ⊥) after
+    ///   pub behind : EndsBefore id before
+    ///       ⊎ (AllByRecursion IsFree before × BeginsPlaced after)
+    /// ```
+    ///
+    /// Definitions: [`Section`](super::reader::outlines::Section), [`ComesBefore`](places::ComesBefore), [`EndsBefore`](places::EndsBefore), [`IsFree`](places::IsFree), [`BeginsPlaced`](places::BeginsPlaced).
+    type IsPlace;
+}
+
 /// What a map of indices makes of the content of a section, and the promises of the calls that map.
 ///
 /// - Modules: [`AreRemapped`](sections::AreRemapped), [`RemapsModule`](sections::RemapsModule).
@@ -677,6 +1137,54 @@ pub trait sections {
     ///
     /// Definitions: [`Mapping`](mapping::Mapping), [`Section`](super::reader::outlines::Section), [`HasSections`](super::reader::outlines::HasSections), [`AreRemapped`](sections::AreRemapped), [`contains_offsets`](super::reader::shortening::contains_offsets), [`DecodesWhole`](super::base::decoding::DecodesWhole), [`wasm_module`](super::base::formats::wasm_module).
     type RemapsModule;
+}
+
+/// The map that moves the indices of one space.
+///
+/// [How to read definitions](super). The file is [`Shifted.antt`](https://github.com/dolzhytik/dolzhytik/blob/main/crates/wasm_remap/specs/Shifted.antt).
+pub trait shifted {
+    /// Whether both are the same index space.
+    ///
+    /// ```text
+    /// abbrev pub is_same : IndexSpace → IndexSpace → Bool
+    /// is_same Functions Functions = true
+    /// is_same Types Types = true
+    /// is_same Tables Tables = true
+    /// is_same Memories Memories = true
+    /// is_same Globals Globals = true
+    /// is_same Tags Tags = true
+    /// is_same Elements Elements = true
+    /// is_same Data Data = true
+    /// is_same a b = false
+    /// ```
+    type is_same;
+    /// Whether the index moves.
+    ///
+    /// ```text
+    /// abbrev pub moves : Shift → IndexSpace → ℕ → Bool
+    /// moves s space n = is_same space s.space && nat_le s.from n
+    /// ```
+    ///
+    /// Definitions: [`is_same`](shifted::is_same).
+    type moves;
+    /// The new index: the number is added to an index that moves, unless the sum has more than 32 bits.
+    ///
+    /// ```text
+    /// abbrev pub shifted : Shift → IndexSpace → ℕ → ℕ
+    /// shifted s space n = cond (moves s space n && nat_lt (n + s.by) (2 ^ 32)) (n + s.by) n
+    /// ```
+    ///
+    /// Definitions: [`moves`](shifted::moves).
+    type shifted;
+    /// The index moves, and the sum has more than 32 bits.
+    ///
+    /// ```text
+    /// abbrev pub IsTooLarge : Shift → IndexSpace → ℕ → Type 0
+    /// IsTooLarge s space n = (moves s space n ≡ true) × (2 ^ 32 ≤ n + s.by)
+    /// ```
+    ///
+    /// Definitions: [`moves`](shifted::moves).
+    type IsTooLarge;
 }
 
 /// The index spaces of the numbers among the immediates of each opcode.

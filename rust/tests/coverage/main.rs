@@ -1,5 +1,5 @@
 //! The example `coverage`: node runs modules with counters, which are then the numbers of calls
-//! that the programs make, and the sections without counters keep their bytes.
+//! that the programs make, and the sections without counters keep their payloads.
 #[allow(dead_code, reason = "`main` is not called")]
 #[path = "../../examples/coverage.rs"]
 mod example;

@@ -1,15 +1,17 @@
 //! Errors as `std` programs pass them on: each implements `Error`, and its text says what is wrong
 //! and where.
 use dolzhytik::fallible::{AllocError, AllocFailed, Global, Refused, hex};
+use dolzhytik::reader::remap::{IndexSpace, IndexTooLarge, RemapError, Shift, remap_module};
 use dolzhytik::reader::{
-    DecodeError, Instructions, ModuleFault, Padded, ReadError, ReadFault, Readable, Sections,
+    DecodeError, Instructions, ModuleFault, Offsets, Padded, ReadError, ReadFault, Readable,
+    Sections,
 };
 use std::error::Error;
 
 /// Asks for the trait.
 fn is_error<T: Error + Send + Sync + 'static>() {}
 
-const _: [fn(); 8] = [
+const _: [fn(); 10] = [
     is_error::<AllocError>,
     is_error::<AllocFailed<()>>,
     is_error::<Refused>,
@@ -18,6 +20,8 @@ const _: [fn(); 8] = [
     is_error::<DecodeError>,
     is_error::<ReadError>,
     is_error::<ModuleFault>,
+    is_error::<RemapError<ReadError>>,
+    is_error::<IndexTooLarge>,
 ];
 
 /// Returns the number of instructions of a body without locals.
@@ -76,4 +80,29 @@ fn errors_of_values_and_sections_are_passed_on() -> Result<(), Box<dyn Error>> {
 #[test]
 fn an_error_for_memory_says_no_place() {
     assert_eq!(DecodeError::from(AllocError).to_string(), "out of memory");
+}
+
+#[test]
+fn errors_of_maps_are_passed_on() {
+    let next = |sections: &[u8]| {
+        let shift = Shift {
+            space: IndexSpace::Functions,
+            from: 0,
+            by: 1,
+        };
+        let module = [b"\0asm\x01\0\0\0", sections].concat();
+        remap_module(&module, Global, &shift, Offsets::Refuse)
+            .unwrap_err()
+            .to_string()
+    };
+    // A start section of the last function.
+    let text = next(&[8, 5, 0xFF, 0xFF, 0xFF, 0xFF, 0x0F]);
+    assert_eq!(text, "an index would be more than 4294967295");
+    let text = next(&[8, 2, 0x80]);
+    assert_eq!(text, "unexpected end of input at offset 0xb");
+    let text = next(b"\0\x08\x07linking");
+    let offsets = "section at offset 0x8: its offsets would become wrong";
+    assert_eq!(text, offsets);
+    let refused = RemapError::<IndexTooLarge>::from(Refused::Memory);
+    assert_eq!(refused.to_string(), Refused::Memory.to_string());
 }

@@ -49,6 +49,8 @@ mod example_refusals;
 #[cfg(test)]
 #[rustfmt::skip]
 mod faults;
+#[rustfmt::skip]
+mod inserted;
 #[cfg(test)]
 #[rustfmt::skip]
 mod minimal;

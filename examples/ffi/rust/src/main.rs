@@ -74,6 +74,32 @@ unsafe extern "C" {
         number: *mut u64,
         cause: *mut u32,
     ) -> u64;
+    fn dz_remap_module(
+        module: *const u8,
+        module_len: usize,
+        space: u32,
+        indices: *const u32,
+        indices_len: usize,
+        drop_offsets: u32,
+        out: *mut u8,
+        out_len: usize,
+        offset: *mut u64,
+        cause: *mut u32,
+    ) -> u64;
+    fn dz_insert_import(
+        module: *const u8,
+        module_len: usize,
+        module_name: *const u8,
+        module_name_len: usize,
+        name: *const u8,
+        name_len: usize,
+        type_index: u32,
+        drop_offsets: u32,
+        out: *mut u8,
+        out_len: usize,
+        offset: *mut u64,
+        cause: *mut u32,
+    ) -> u64;
     fn dz_cause(cause: u32, out: *mut u8, out_len: usize) -> u64;
     fn dz_recipe_cause(cause: u32, out: *mut u8, out_len: usize) -> u64;
 }
@@ -83,6 +109,10 @@ const FUNCTIONS: u32 = 5;
 const GLOBALS: u32 = 6;
 const TAGS: u32 = 11;
 const NAMES: u32 = 12;
+
+// Index spaces; the header names them all.
+const SPACE_FUNCTIONS: u32 = 0;
+const SPACE_TYPES: u32 = 1;
 
 /// Returns the text of a cause, by a call that writes it.
 fn text(text_of: unsafe extern "C" fn(u32, *mut u8, usize) -> u64, cause: u32) -> String {
@@ -300,6 +330,65 @@ fn shorten_module(module: &[u8], drop_offsets: u32) {
     }
 }
 
+/// Prints the bytes of an edited module, or the offset and the cause of the error.
+fn say_edited(size: u64, out: &[u8], offset: u64, cause: u32) {
+    if size == NO_ANSWER {
+        println!("at {offset}: {}", text(dz_cause, cause));
+    } else {
+        let module = &out[..size as usize];
+        let digits: String = module.iter().map(|byte| format!("{byte:02x}")).collect();
+        println!("{digits}");
+    }
+}
+
+/// Replaces the indices of a space, and prints the module.
+fn remap(module: &[u8], space: u32, indices: &[u32]) {
+    let (mut out, mut offset, mut cause) = ([0; 256], 0, 0);
+    // SAFETY: as above.
+    let size = unsafe {
+        dz_remap_module(
+            module.as_ptr(),
+            module.len(),
+            space,
+            indices.as_ptr(),
+            indices.len(),
+            0,
+            out.as_mut_ptr(),
+            out.len(),
+            &mut offset,
+            &mut cause,
+        )
+    };
+    say_edited(size, &out, offset, cause);
+}
+
+/// Inserts an import of a function of type 0 from `host`, and prints the module.
+fn insert(module: &[u8], name: &[u8], drop_offsets: u32) {
+    let (mut out, mut offset, mut cause) = ([0; 256], 0, 0);
+    // SAFETY: as above.
+    let size = unsafe {
+        dz_insert_import(
+            module.as_ptr(),
+            module.len(),
+            b"host".as_ptr(),
+            4,
+            name.as_ptr(),
+            name.len(),
+            0,
+            drop_offsets,
+            out.as_mut_ptr(),
+            out.len(),
+            &mut offset,
+            &mut cause,
+        )
+    };
+    say_edited(size, &out, offset, cause);
+}
+
+/// A function that calls itself and is exported.
+const CALLS: &[u8] =
+    b"\0asm\x01\0\0\0\x01\x04\x01\x60\0\0\x03\x02\x01\0\x07\x05\x01\x01f\0\0\x0A\x06\x01\x04\0\x10\0\x0B";
+
 /// A type, a custom section of padded numbers called `name`, one without a name, and a function
 /// section that counts seven functions and ends before them.
 const OUTLINED: &[u8] =
@@ -333,4 +422,11 @@ fn main() {
     shorten_module(SYMBOLS, 0);
     shorten_module(SYMBOLS, 1);
     shorten_module(&OUTLINED[..9], 1);
+    remap(CALLS, SPACE_FUNCTIONS, &[7]);
+    remap(CALLS, SPACE_FUNCTIONS, &[]);
+    remap(CALLS, 8, &[7]);
+    remap(SYMBOLS, SPACE_TYPES, &[7]);
+    insert(CALLS, b"hit", 0);
+    insert(CALLS, b"\xFF", 0);
+    insert(SYMBOLS, b"hit", 1);
 }

@@ -23,6 +23,8 @@ fn fault_text(cause: u32) -> Option<&'static str> {
         8 => Some("Memory"),
         9 => Some("NoKind"),
         10 => Some("Offsets"),
+        11 => Some("NoIndex"),
+        12 => Some("TooLong"),
         _ => None,
     }
 }
@@ -51,8 +53,10 @@ fn recipe_text(cause: u32) -> Option<&'static str> {
 }
 
 /// Writes the message of a cause of [`dz_list`](crate::calls::listing::dz_list),
-/// [`dz_outline`](crate::calls::outlining::dz_outline), [`dz_shorten`](crate::calls::minimal::dz_shorten) or
-/// [`dz_shorten_module`](crate::calls::whole::dz_shorten_module), in ASCII and without a terminating NUL.
+/// [`dz_outline`](crate::calls::outlining::dz_outline), [`dz_shorten`](crate::calls::minimal::dz_shorten),
+/// [`dz_shorten_module`](crate::calls::whole::dz_shorten_module),
+/// [`dz_remap_module`](crate::calls::indices::dz_remap_module) or
+/// [`dz_insert_import`](crate::calls::indices::dz_insert_import), in ASCII and without a terminating NUL.
 /// Returns its length in bytes, or [`NO_ANSWER`] for any other number.
 ///
 /// # Proved

@@ -9,7 +9,7 @@ use dolzhytik::fallible::Global;
 use dolzhytik::reader::{ModuleFault, Offsets, shorten_module};
 
 /// The number of the cause of a section whose offsets would become wrong.
-const OFFSETS: u32 = 10;
+pub(crate) const OFFSETS: u32 = 10;
 
 /// Returns the treatment of sections that hold offsets: 0 is an error, and any other number leaves
 /// them out.
@@ -19,7 +19,7 @@ const OFFSETS: u32 = 10;
 /// ```text
 /// ensures { result ≡ offsets_numbered drop_offsets }
 /// ```
-fn offsets_of(drop_offsets: u32) -> Offsets {
+pub(crate) fn offsets_of(drop_offsets: u32) -> Offsets {
     if drop_offsets == 0 {
         Offsets::Refuse
     } else {

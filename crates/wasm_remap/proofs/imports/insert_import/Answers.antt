@@ -1,0 +1,27 @@
+use Rattle.wasm_base.proofs.Words.{List, ℕ, [], ◌∷◌, ◌++◌, length, joined, ap, sym, subst, ◌∙◌, refl, unsigned_encoding}
+use Rattle.wasm_sections.specs.Imports.{import_encoding, import_item}
+use Rattle.wasm_remap.specs.Imported.{InsertsImport, room_in}
+use Rattle.wasm_remap.specs.Inserted.{InsertsSection}
+use Rattle.wasm_remap.specs.Sections.{RemapsModule}
+use Rattle.wasm_remap.specs.Shifted.{shifted}
+use Rattle.wasm_remap.specs.declared.insert.Position.TheVariants.{First}
+use Rattle.wasm_remap.proofs.ImportedLaws.{if_ok, imported_payload}
+use Rattle.wasm_remap.proofs.imports.insert_import.Goals as goal
+
+pub returns : goal.returns
+returns g c =
+    let item = import_item c.args.import.now in
+    let bytes = c.args.bytes.now in
+    let module_bytes = c.in_ok-shifted.shifted.items in
+    let entries = c.import.new.self in
+    let payload = unsigned_encoding (length entries) ++ joined entries in
+    let is = c.in_ok-import.ensures.ok ∙ ap (λ z. z ++ import_encoding item ∷ []) c.new-imports.ensures in
+    let shifts = subst (λ s. RemapsModule (shifted (room_in s)) c.args.offsets bytes module_bytes) c.space_of.ensures c.in_ok-shifted.ensures in
+    if_ok {R = λ edited. InsertsImport c.args.import.now c.args.offsets bytes edited.items} c.insert_section.result c.insert_section.ensures.inserts c.insert_section.ensures.fits
+    (λ edited inserts fits. record {
+      shifted_bytes = module_bytes;
+      shifts = shifts;
+      payload = payload;
+      decodes = λ plain. imported_payload item entries is fits plain;
+      inserts = subst (λ s. InsertsSection First 2 payload s edited.items) c.deref.ensures.value (inserts payload refl);
+    })

@@ -1,0 +1,136 @@
+// Instructions that are inserted at the start of bodies.
+ghost use Rattle.std.specs.Prelude.{◌≡◌, ℕ, List, IfOk, OnOk};
+ghost use Rattle.wasm_base.specs.Words.{size_prefixed, standard, vec};
+ghost use Rattle.wasm_code.specs.Words.{Body, body as body_format};
+ghost use Rattle.wasm_insn.specs.Words.{Plain};
+ghost use Rattle.wasm_remap.specs.Begun.{begun_bodies, begun_body, AddsBody, EncodeBodies, GainsCode, InsertsCode, IsBegun, IsClosed};
+
+use crate::indexed::RemapError;
+use crate::insert::module_of;
+use crate::places::{found, sections_of};
+use crate::shift::IndexTooLarge;
+use std::alloc::Allocator;
+use wasm_base::{Refused, Result as Written};
+use wasm_code::CodeSection;
+use wasm_reader::{CodeBody, Section};
+
+/// Instructions that are inserted at the start of each body of a module.
+///
+/// They end each block that they begin, and no other. Otherwise the labels of the body's own
+/// instructions would be those of other blocks. A proof owes this (`closed`), and so does code in
+/// Rust.
+///
+/// ```text
+/// /// Each body first calls function 0.
+/// struct Hit;
+///
+/// impl Prologue for Hit {
+///     ghost code = { λ _ _. calling 0 };
+///
+///     ghost closed = { λ _ _. refl };
+///
+///     fn append<A: Allocator>(&self, _body: u32, sink: &mut Vec<u8, A>) -> Result<()> {
+///         InstructionSink::new(sink).call(0)
+///     }
+/// }
+/// ```
+pub trait Prologue {
+    /// The instructions for the body of each number. The first body of the code section has
+    /// number 0.
+    ghost code: { Self → ℕ → List Plain };
+
+    /// Appends the instructions for the body of this number.
+    ///
+    /// # Errors
+    ///
+    /// Returns [`Refused`] if an instruction is too long or an allocation fails.
+    fn append<A: Allocator>(&self, body: u32, sink: &mut Vec<u8, A>) -> Written<()>
+        ensures { OnOk result (GainsCode (code self.now body) sink.old.items sink.new.items) };
+
+    /// Each block that they begin ends in them.
+    ghost closed: { (prologue : Self) (body : ℕ) → IsClosed (code prologue body) };
+}
+
+/// Returns the locals, the new instructions and the old ones.
+fn joined<P: Prologue, A: Allocator>(
+    locals: &[u8],
+    prologue: &P,
+    number: u32,
+    old: &[u8],
+    alloc: A,
+) -> Written<Vec<u8, A>>
+    ensures { IfOk result (λ new. IsBegun locals.now (P.code prologue.now number) old.now new.items) }
+{
+    let mut new = Vec::from_slice(alloc, locals)?;
+    prologue.append(number, &mut new)?;
+    new.extend_from_slice(old)?;
+    Ok(new)
+}
+
+/// Adds the body of this number to a section, with the new instructions at its start.
+fn add_body<P: Prologue, A: Allocator + Copy>(
+    body: &CodeBody<'_, A>,
+    prologue: &P,
+    number: u32,
+    section: &mut CodeSection<A>,
+    alloc: A,
+) -> Result<(), RemapError<IndexTooLarge>>
+    ensures { OnOk result ((x : Body) → body_format standard body.now.bytes x → AddsBody (begun_body (P.code prologue.now number) x) section.old section.new) }
+{
+    let (_runs, instructions) = body.instructions()?;
+    let locals = &body.bytes()[..instructions.offset()];
+    let new = joined(locals, prologue, number, instructions.rest(), alloc)?;
+    section.raw(&new)?;
+    Ok(())
+}
+
+/// Returns a code section of the bodies, with the new instructions at the start of each.
+fn code_of<P: Prologue, A: Allocator + Copy>(
+    section: &Section<'_, A>,
+    prologue: &P,
+    alloc: A,
+) -> Result<CodeSection<A>, RemapError<IndexTooLarge>>
+    ensures { IfOk result (λ new. (xs : List Body) → vec (size_prefixed body_format) standard section.now.section.payload xs → EncodeBodies new (begun_bodies (P.code prologue.now) 0 xs)) }
+{
+    let mut bodies = section.bodies()?;
+    let mut new = CodeSection::new(alloc);
+    let mut number: u32 = 0;
+    loop {
+        let body = match bodies.next() {
+            None => return Ok(new),
+            Some(body) => body?,
+        };
+        add_body(&body, prologue, number, &mut new, alloc)?;
+        number = match number.checked_add(1) {
+            Some(next) => next,
+            None => return Err(Refused::TooLong.into()),
+        };
+    }
+}
+
+/// Inserts instructions at the start of each body, and returns the new module.
+///
+/// The bodies are those of the first code section. Their locals and other instructions keep their
+/// bytes, and all other sections their payloads. A module without code stays as it is.
+///
+/// Instructions move, so that offsets in custom sections would become wrong: those for which
+/// [`Section::has_offsets`] is true.
+///
+/// # Errors
+///
+/// Returns `Read` if the bytes are no module or the code section does not decode, and `Refused` if a
+/// section is too long or an allocation fails.
+pub fn insert_code<P: Prologue, A: Allocator + Copy>(
+    bytes: &[u8],
+    alloc: A,
+    prologue: &P,
+) -> Result<Vec<u8, A>, RemapError<IndexTooLarge>>
+    ensures { IfOk result (λ edited. InsertsCode (P.code prologue.now) bytes.now edited.items) }
+{
+    let sections = sections_of(bytes, alloc)?;
+    let Some((before, old, after)) = found(&sections, 10) else {
+        return Ok(Vec::from_slice(alloc, bytes)?);
+    };
+    let code = code_of(old, prologue, alloc)?;
+    Ok(module_of(before, &code, after, alloc)?)
+}

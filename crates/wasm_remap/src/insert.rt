@@ -1,0 +1,169 @@
+// Sections that are inserted into a module.
+ghost use Rattle.std.specs.Prelude.{◌≡◌, ◌≢◌, ℕ, List, ◌++◌, IfOk, OnOk};
+ghost use Rattle.wasm_base.specs.Words.{u32, unsigned_encoding, standard, wasm_module, Decodes, DecodesWhole};
+ghost use Rattle.wasm_remap.specs.Inserted.{InsertsSection, IsJoined, between, is_number, joined_lists};
+ghost use Rattle.wasm_remap.specs.Places.{sections_in};
+ghost use Rattle.wasm_remap.specs.declared.insert.Position.TheVariants.{Instead};
+
+use crate::indexed::RemapError;
+use crate::places::{append_copies, found, place_of, rank, sections_of};
+use crate::shift::IndexTooLarge;
+use std::alloc::Allocator;
+use wasm_base::{Encode, Module, RawSection, Readable, Refused, Section as NewSection, Standard};
+use wasm_reader::{ReadError, Section};
+
+/// Where members are inserted in a section.
+#[derive(Clone, Copy, PartialEq, Eq, Debug)]
+pub enum Position {
+    /// Before the old members.
+    First,
+    /// After the old members.
+    Last,
+    /// In place of the old members.
+    Instead,
+}
+
+/// Returns `true` if the payload of a section of this id is one number.
+fn is_number(id: u8) -> bool
+    ensures { result ≡ is_number id }
+{
+    id == 8 || id == 12
+}
+
+/// Returns the number at the front, and the remaining bytes.
+fn counted<A: Allocator + Copy>(
+    bytes: &[u8],
+    alloc: A,
+    offset: usize,
+) -> Result<(u32, &[u8]), ReadError>
+    ensures { IfOk result (λ x. Decodes u32 standard bytes.now x.0 x.1.now) }
+{
+    match <u32 as Readable<'_, A, Standard>>::read(bytes, alloc) {
+        Ok(counted) => Ok(counted),
+        Err(error) => Err(ReadError {
+            cause: error.cause(),
+            offset,
+        }),
+    }
+}
+
+/// Returns a list of this count, whose members are those of two lists.
+fn list_of<A: Allocator>(
+    count: u32,
+    front: &[u8],
+    back: &[u8],
+    alloc: A,
+) -> Result<Vec<u8, A>, Refused>
+    ensures { IfOk result (λ list. list.items ≡ unsigned_encoding count ++ (front.now ++ back.now)) }
+{
+    let mut list = Vec::new(alloc);
+    count.encode(&mut list)?;
+    list.extend_from_slice(front)?;
+    list.extend_from_slice(back)?;
+    Ok(list)
+}
+
+/// Returns new members and old ones in their order in a list.
+fn in_order<'a>(position: Position, new: &'a [u8], old: &'a [u8]) -> (&'a [u8], &'a [u8])
+    ensures { position ≢ Instead → result.0.now ++ result.1.now ≡ joined_lists position new.entry.now old.entry.now }
+{
+    match position {
+        Position::First => (new, old),
+        _ => (old, new),
+    }
+}
+
+/// Returns the payload of a list of the members of a new section and an old one. If the new section
+/// does not begin with a count, the error has this offset.
+fn joined<S: NewSection, A: Allocator + Copy>(
+    position: Position,
+    new: &S,
+    old: &Section<'_, A>,
+    offset: usize,
+    alloc: A,
+) -> Result<Vec<u8, A>, RemapError<IndexTooLarge>>
+    ensures joins { position ≢ Instead → IfOk result (λ payload. (added : List ℕ) → S.payload new.now added → IsJoined position added old.now.section.payload payload.items) }
+    ensures fits { OnOk result (S.encodable new.now) }
+{
+    let mut encoding = Vec::new(alloc);
+    new.encode(&mut encoding)?;
+    let (_size, payload) = counted(&encoding, alloc, offset)?;
+    let (new_count, new_members) = counted(payload, alloc, offset)?;
+    let (old_count, old_members) = counted(old.payload(), alloc, old.offset())?;
+    let Some(count) = new_count.checked_add(old_count) else {
+        return Err(Refused::TooLong.into());
+    };
+    let (front, back) = in_order(position, new_members, old_members);
+    Ok(list_of(count, front, back, alloc)?)
+}
+
+/// Returns a module of copies of sections, with a section between them.
+pub(crate) fn module_of<S: NewSection, A: Allocator + Copy>(
+    before: &[Section<'_, A>],
+    section: &S,
+    after: &[Section<'_, A>],
+    alloc: A,
+) -> Result<Vec<u8, A>, Refused>
+    ensures read { IfOk result (λ new. (payload : List ℕ) → S.payload section.now payload → DecodesWhole wasm_module new.items (between (sections_in before.now) (S.id_of section.now) payload (sections_in after.now))) }
+    ensures fits { OnOk result (S.encodable section.now) }
+{
+    let mut module = Module::new(alloc)?;
+    append_copies(before, &mut module)?;
+    module.section(section)?;
+    append_copies(after, &mut module)?;
+    Ok(module.finish())
+}
+
+/// Inserts a section into a module, and returns the new module.
+///
+/// If the module has a section of the same id, the first one gets the new members too, before or
+/// after its own, or in their place. The start function and the data count are no lists, and are
+/// replaced. If there is no such section, the new one is inserted as it is: behind the last section
+/// that comes before it in the standard's order. A custom section becomes the last one.
+///
+/// All other sections keep their payloads, and no index is mapped. [`remap_module`] does that: with a
+/// [`Shift`] it makes room for entities that are inserted before others.
+///
+/// [`remap_module`]: crate::remap_module
+/// [`Shift`]: crate::Shift
+///
+/// ```text
+/// let mut globals = GlobalSection::new(alloc);
+/// globals.global(counter, &ConstExpr::i32_const(alloc, 0)?)?;
+/// let module = insert_section(bytes, alloc, &globals, Position::Last)?;
+/// ```
+///
+/// # Errors
+///
+/// Returns `Read` if the bytes are no module, or if the section of this id does not begin with a
+/// count. If the new one does not, the offset is the module's length. Returns `Refused` if a count
+/// or a section is too long or an allocation fails.
+pub fn insert_section<S: NewSection, A: Allocator + Copy>(
+    bytes: &[u8],
+    alloc: A,
+    section: &S,
+    position: Position,
+) -> Result<Vec<u8, A>, RemapError<IndexTooLarge>>
+    ensures inserts { IfOk result (λ edited. (payload : List ℕ) → S.payload section.now payload → InsertsSection position (S.id_of section.now) payload bytes.now edited.items) }
+    ensures fits { OnOk result (S.encodable section.now) }
+{
+    let sections = sections_of(bytes, alloc)?;
+    let id = section.id();
+    if rank(id) == 0 {
+        let (before, after) = sections.split_at(sections.len());
+        return Ok(module_of(before, section, after, alloc)?);
+    }
+    let Some((before, old, after)) = found(&sections, id) else {
+        let (before, after) = sections.split_at(place_of(&sections, id));
+        return Ok(module_of(before, section, after, alloc)?);
+    };
+    if position == Position::Instead || is_number(id) {
+        return Ok(module_of(before, section, after, alloc)?);
+    }
+    let payload = joined(position, section, old, bytes.len(), alloc)?;
+    let section = RawSection {
+        id,
+        bytes: &payload,
+    };
+    Ok(module_of(before, &section, after, alloc)?)
+}

@@ -1,0 +1,40 @@
+// A map that moves the indices of one space.
+ghost use Rattle.std.specs.Prelude.{◌≡◌};
+ghost use Rattle.wasm_remap.specs.Shifted.{IsTooLarge, shifted};
+
+use crate::indexed::Remap;
+use crate::spaces::IndexSpace;
+
+/// A map that adds a number to the indices of one space, from one index on, as for entities that
+/// are inserted there.
+#[derive(Clone, Copy, PartialEq, Eq, Debug)]
+pub struct Shift {
+    /// The index space.
+    pub space: IndexSpace,
+    /// The first index that moves.
+    pub from: u32,
+    /// The number that is added.
+    pub by: u32,
+}
+
+/// An index would pass 4294967295.
+#[derive(Clone, Copy, PartialEq, Eq, Debug)]
+pub struct IndexTooLarge;
+
+impl Remap for Shift {
+    type Error = IndexTooLarge;
+
+    ghost mapped = { shifted };
+
+    ghost rejects = { λ s space n _. IsTooLarge s space n };
+
+    fn index(&self, space: IndexSpace, index: u32) -> Result<u32, IndexTooLarge> {
+        if space != self.space || index < self.from {
+            return Ok(index);
+        }
+        match index.checked_add(self.by) {
+            Some(index) => Ok(index),
+            None => Err(IndexTooLarge),
+        }
+    }
+}

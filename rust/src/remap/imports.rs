@@ -1,0 +1,75 @@
+// Written by tools/to-rust from crates/wasm_remap/src/imports.rt: change that.
+// Imports that are inserted into a module.
+
+use crate::vec::Vec;
+use crate::remap::indexed::RemapError;
+use crate::remap::insert::{Position, insert_section};
+use crate::remap::modules::remap_module;
+use crate::remap::shift::{IndexTooLarge, Shift};
+use crate::remap::spaces::IndexSpace;
+use crate::alloc::Allocator;
+use crate::reader::Offsets;
+use crate::sections::{EntityType, Import, ImportSection};
+
+/// Returns the index space of an imported entity.
+fn space_of(ty: EntityType) -> IndexSpace {
+    match ty {
+        EntityType::Function(_) | EntityType::FunctionExact(_) => IndexSpace::Functions,
+        EntityType::Table(_) => IndexSpace::Tables,
+        EntityType::Memory(_) => IndexSpace::Memories,
+        EntityType::Global(_) => IndexSpace::Globals,
+        EntityType::Tag(_) => IndexSpace::Tags,
+    }
+}
+
+/// Inserts an import before all others, and returns the new module.
+///
+/// The imported function, table, memory, global or tag has index 0. The indices of all others of
+/// its space are one higher, in each place that [`remap_module`] maps. The index of a function's
+/// type is one of the module's types. A new type is inserted by [`insert_section`].
+///
+/// Custom sections that hold offsets are an error or are left out, as [`Offsets`] says.
+///
+/// [`insert_section`]: crate::insert_section
+///
+/// ```text
+/// let import = Import {
+///     module: "coverage",
+///     name: "hit",
+///     ty: EntityType::Function(0),
+/// };
+/// let module = insert_import(bytes, alloc, &import, Offsets::LeaveOut)?;
+/// ```
+///
+/// # Errors
+///
+/// Returns `Index` if an index would pass 4294967295, `Offsets` for a section that holds offsets,
+/// `Read` if the bytes are no module or a section does not decode, and `Refused` if a section is too
+/// long or an allocation fails.
+///
+/// # Proved
+///
+/// After `Ok`: The indices of the entity's space are one higher, and the first member of the imports is this one.
+///
+/// ```text
+/// ensures { IfOk result (λ edited. InsertsImport import.now offsets bytes.now
+///         edited.items) }
+/// ```
+///
+/// Definitions: [`InsertsImport`](crate::definitions::remap::imported::InsertsImport). [How to read clauses](crate::definitions).
+pub fn insert_import<A: Allocator + Copy>(
+    bytes: &[u8],
+    alloc: A,
+    import: &Import<'_>,
+    offsets: Offsets,
+) -> Result<Vec<u8, A>, RemapError<IndexTooLarge>> {
+    let room = Shift {
+        space: space_of(import.ty),
+        from: 0,
+        by: 1,
+    };
+    let shifted = remap_module(bytes, alloc, &room, offsets)?;
+    let mut imports = ImportSection::new(alloc);
+    imports.import(import.module, import.name, import.ty)?;
+    insert_section(&shifted, alloc, &imports, Position::First)
+}

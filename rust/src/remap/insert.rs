@@ -1,0 +1,154 @@
+// Written by tools/to-rust from crates/wasm_remap/src/insert.rt: change that.
+// Sections that are inserted into a module.
+
+use crate::vec::Vec;
+use crate::remap::indexed::RemapError;
+use crate::remap::places::{append_copies, found_at, place_of, rank, sections_of};
+use crate::remap::shift::IndexTooLarge;
+use crate::alloc::Allocator;
+use crate::base::{Encode, Module, RawSection, Readable, Refused, Section as NewSection, Standard};
+use crate::reader::{ReadError, Section};
+
+/// Where members are inserted in a section.
+#[derive(Clone, Copy, PartialEq, Eq, Debug)]
+#[non_exhaustive]
+pub enum Position {
+    /// Before the old members.
+    First,
+    /// After the old members.
+    Last,
+    /// In place of the old members.
+    Instead,
+}
+
+/// Returns `true` if the payload of a section of this id is one number.
+fn is_number(id: u8) -> bool {
+    id == 8 || id == 12
+}
+
+/// Returns the number at the front, and the remaining bytes.
+fn counted<A: Allocator + Copy>(
+    bytes: &[u8],
+    alloc: A,
+    offset: usize,
+) -> Result<(u32, &[u8]), ReadError> {
+    match <u32 as Readable<'_, A, Standard>>::read(bytes, alloc) {
+        Ok(counted) => Ok(counted),
+        Err(error) => Err(ReadError {
+            cause: error.cause(),
+            offset,
+        }),
+    }
+}
+
+/// Returns a list of this count, whose members are those of two lists.
+fn list_of<A: Allocator>(
+    count: u32,
+    front: &[u8],
+    back: &[u8],
+    alloc: A,
+) -> Result<Vec<u8, A>, Refused> {
+    let mut list = Vec::new(alloc);
+    count.encode(&mut list)?;
+    list.extend_from_slice(front)?;
+    list.extend_from_slice(back)?;
+    Ok(list)
+}
+
+/// Returns the payload of a list of the members of a new section and an old one. If the new section
+/// does not begin with a count, the error has this offset.
+fn joined<S: NewSection, A: Allocator + Copy>(
+    position: Position,
+    new: &S,
+    old: &Section<'_, A>,
+    offset: usize,
+    alloc: A,
+) -> Result<Vec<u8, A>, RemapError<IndexTooLarge>> {
+    let mut encoding = Vec::new(alloc);
+    new.encode(&mut encoding)?;
+    let (_size, payload) = counted(&encoding, alloc, offset)?;
+    let (new_count, new_members) = counted(payload, alloc, offset)?;
+    let (old_count, old_members) = counted(old.payload(), alloc, old.offset())?;
+    let Some(count) = new_count.checked_add(old_count) else {
+        return Err(Refused::TooLong.into());
+    };
+    Ok(match position {
+        Position::First => list_of(count, new_members, old_members, alloc)?,
+        _ => list_of(count, old_members, new_members, alloc)?,
+    })
+}
+
+/// Returns a module of copies of sections, with a section between them.
+pub(crate) fn module_of<S: NewSection, A: Allocator + Copy>(
+    before: &[Section<'_, A>],
+    section: &S,
+    after: &[Section<'_, A>],
+    alloc: A,
+) -> Result<Vec<u8, A>, Refused> {
+    let mut module = Module::new(alloc)?;
+    append_copies(before, &mut module)?;
+    module.section(section)?;
+    append_copies(after, &mut module)?;
+    Ok(module.finish())
+}
+
+/// Inserts a section into a module, and returns the new module.
+///
+/// If the module has a section of the same id, the first one gets the new members too, before or
+/// after its own, or in their place. The start function and the data count are no lists, and are
+/// replaced. If there is no such section, the new one is inserted as it is: behind the last section
+/// that comes before it in the standard's order. A custom section becomes the last one.
+///
+/// All else keeps its bytes, and no index is mapped. [`remap_module`] does that: with a [`Shift`] it
+/// makes room for entities that are inserted before others.
+///
+/// [`remap_module`]: crate::remap_module
+/// [`Shift`]: crate::Shift
+///
+/// ```text
+/// let mut globals = GlobalSection::new(alloc);
+/// globals.global(counter, &ConstExpr::i32_const(alloc, 0)?)?;
+/// let module = insert_section(bytes, alloc, &globals, Position::Last)?;
+/// ```
+///
+/// # Errors
+///
+/// Returns `Read` if the bytes are no module, or if the section of this id does not begin with a
+/// count. If the new one does not, the offset is the module's length. Returns `Refused` if a count
+/// or a section is too long or an allocation fails.
+///
+/// # Proved
+///
+/// ```text
+/// ensures { IfOk result (λ edited. (payload : List ℕ) → S.payload section.now payload
+///         → InsertsSection position (S.id_of section.now) payload bytes.now edited.items)
+///     }
+/// ```
+///
+/// Definitions: [`InsertsSection`](crate::definitions::remap::inserted::InsertsSection). [How to read clauses](crate::definitions).
+pub fn insert_section<S: NewSection, A: Allocator + Copy>(
+    bytes: &[u8],
+    alloc: A,
+    section: &S,
+    position: Position,
+) -> Result<Vec<u8, A>, RemapError<IndexTooLarge>> {
+    let sections = sections_of(bytes, alloc)?;
+    let id = section.id();
+    if rank(id) == 0 {
+        return Ok(module_of(&sections, section, &[], alloc)?);
+    }
+    let Some(place) = found_at(&sections, id) else {
+        let (before, after) = sections.split_at(place_of(&sections, id));
+        return Ok(module_of(before, section, after, alloc)?);
+    };
+    let (before, after) = (&sections[..place], &sections[place + 1..]);
+    if position == Position::Instead || is_number(id) {
+        return Ok(module_of(before, section, after, alloc)?);
+    }
+    let payload = joined(position, section, &sections[place], bytes.len(), alloc)?;
+    let section = RawSection {
+        id,
+        bytes: &payload,
+    };
+    Ok(module_of(before, &section, after, alloc)?)
+}

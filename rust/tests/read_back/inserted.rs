@@ -1,0 +1,97 @@
+// Written by tools/to-rust from crates/read_back/src/inserted.rt: change that.
+// Modules into which sections are inserted.
+
+use dolzhytik::fallible::{Sink, Vec};
+use dolzhytik::fallible::Allocator;
+use dolzhytik::fallible::{Result as Written, ValType};
+use dolzhytik::fallible::ConstExpr;
+use dolzhytik::fallible::InstructionSink;
+use dolzhytik::reader::Offsets;
+use dolzhytik::reader::remap::{IndexTooLarge, Position, Prologue, RemapError, insert_code, insert_import, insert_section};
+use dolzhytik::fallible::{EntityType, GlobalSection, GlobalType, Import, StartSection};
+
+/// Returns the module with an import of the function `hit` of `host`, of type 0, before all others.
+///
+/// # Proved
+///
+/// ```text
+/// ensures { IfOk result (λ new. CallsHit module.now new.items) }
+/// ```
+pub fn with_hit<A: Allocator + Copy>(
+    module: &[u8],
+    alloc: A,
+) -> Result<Vec<u8, A>, RemapError<IndexTooLarge>> {
+    let hit = Import {
+        module: "host",
+        name: "hit",
+        ty: EntityType::Function(0),
+    };
+    insert_import(module, alloc, &hit, Offsets::LeaveOut)
+}
+
+/// Returns the module with a mutable global of 32 bits after its own.
+///
+/// # Proved
+///
+/// ```text
+/// ensures { IfOk result (λ new. HasCounter module.now new.items) }
+/// ```
+pub fn with_counter<A: Allocator + Copy>(
+    module: &[u8],
+    alloc: A,
+) -> Result<Vec<u8, A>, RemapError<IndexTooLarge>> {
+    let counter = GlobalType {
+        val_type: ValType::I32,
+        mutable: true,
+        shared: false,
+    };
+    let mut globals = GlobalSection::new(alloc);
+    globals.global(counter, &ConstExpr::i32_const(alloc, 0)?)?;
+    insert_section(module, alloc, &globals, Position::Last)
+}
+
+/// Returns the module with another start function.
+///
+/// # Proved
+///
+/// ```text
+/// ensures { IfOk result (λ new. StartsAt function_index module.now new.items) }
+/// ```
+pub fn with_start<A: Allocator + Copy>(
+    module: &[u8],
+    function_index: u32,
+    alloc: A,
+) -> Result<Vec<u8, A>, RemapError<IndexTooLarge>> {
+    let start = StartSection { function_index };
+    insert_section(module, alloc, &start, Position::Instead)
+}
+
+/// A call of function 0.
+#[derive(Clone, Copy, Debug)]
+pub struct CallsFirst;
+
+/// # Defined
+///
+/// ```text
+/// code = { λ _ _. calling }
+/// closed = { λ _ _. refl }
+/// ```
+impl Prologue for CallsFirst {
+    fn append<A: Sink>(&self, _body: u32, code: &mut A) -> Written<()> {
+        InstructionSink::new(code).call(0)
+    }
+}
+
+/// Returns the module whose bodies first call function 0.
+///
+/// # Proved
+///
+/// ```text
+/// ensures { IfOk result (λ new. InsertsCode (λ _. calling) module.now new.items) }
+/// ```
+pub fn with_calls<A: Allocator + Copy>(
+    module: &[u8],
+    alloc: A,
+) -> Result<Vec<u8, A>, RemapError<IndexTooLarge>> {
+    insert_code(module, alloc, &CallsFirst)
+}
