@@ -9,3 +9,7 @@ pub mod MappedCustoms
 pub mod MappedItems
 pub mod MappedSections
 pub mod ModuleLaws
+pub mod StreamLaws
+pub mod InstructionForms
+pub mod BodyLaws
+pub mod ContentLaws

@@ -6,3 +6,4 @@ pub mod Items
 pub mod Types
 pub mod Customs
 pub mod Sections
+pub mod Streamed

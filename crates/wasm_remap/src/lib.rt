@@ -2,6 +2,7 @@
 //! table, a memory, a global, a tag, an element segment or a data segment.
 #![tactic(auto)]
 
+mod bodies;
 mod customs;
 mod indexed;
 mod instructions;
@@ -10,6 +11,7 @@ mod modules;
 mod recursive;
 mod sections;
 mod spaces;
+mod streamed;
 mod types;
 
 pub use indexed::{Remap, RemapError};

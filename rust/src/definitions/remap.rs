@@ -824,6 +824,110 @@ pub trait spaces {
     type spaces_of;
 }
 
+/// The promises of calls that decode a value, map its indices and append it, in one pass over the bytes.
+///
+/// - Immediates without an index: [`has_none`](streamed::has_none), [`have_none`](streamed::have_none), [`is_within`](streamed::is_within), [`bytes_without_index`](streamed::bytes_without_index), [`HaveNoIndex`](streamed::HaveNoIndex).
+///
+/// [How to read definitions](super). The file is [`Streamed.antt`](https://github.com/dolzhytik/dolzhytik/blob/main/crates/wasm_remap/specs/Streamed.antt).
+pub trait streamed {
+    /// Some bytes decode to the value in the standard's grammar.
+    ///
+    /// ```text
+    /// abbrev pub HasForm : {X : Type 0} → Format X → X → Type 0
+    /// HasForm F x = (s : List ℕ) × F standard s x
+    /// ```
+    ///
+    /// Definitions: [`Format`](super::base::formats::Format), [`standard`](super::base::numbers::Mode).
+    type HasForm;
+    /// The buffer gains the minimal encoding of the value in the standard's grammar, if some bytes decode to the value there.
+    ///
+    /// ```text
+    /// pub record AppendsForm {X : Type 0} (F : Format X) (x : X) (old new : List ℕ)
+    ///     : Type 0 where
+    ///   pub encoding : List ℕ
+    ///   pub appended : new ≡ old ++ encoding
+    ///   pub encodes : HasForm F x → F standard_minimal encoding x
+    /// ```
+    ///
+    /// Definitions: [`Format`](super::base::formats::Format), [`HasForm`](streamed::HasForm), [`standard_minimal`](super::base::numbers::Mode).
+    type AppendsForm;
+    /// A value decodes from the front of the bytes, and `rest` follows it. The buffer gains `f` of the value.
+    ///
+    /// ```text
+    /// pub record Remaps {X : Type 0} (f : X → X) (F : Format X) (bytes rest old new : List ℕ)
+    ///     : Type 0 where
+    ///   pub value : X
+    ///   pub decoded : Decodes F standard bytes value rest
+    ///   pub appends : AppendsForm F (f value) old new
+    /// ```
+    ///
+    /// Definitions: [`Format`](super::base::formats::Format), [`Decodes`](super::base::decoding::Decodes), [`standard`](super::base::numbers::Mode), [`AppendsForm`](streamed::AppendsForm).
+    type Remaps;
+    /// As [`Remaps`](streamed::Remaps), for a value that occupies all of the bytes.
+    ///
+    /// ```text
+    /// pub record RemapsWhole {X : Type 0} (f : X → X) (F : Format X) (bytes old new : List ℕ)
+    ///     : Type 0 where
+    ///   pub value : X
+    ///   pub decoded : F standard bytes value
+    ///   pub appends : AppendsForm F (f value) old new
+    /// ```
+    ///
+    /// Definitions: [`Format`](super::base::formats::Format), [`standard`](super::base::numbers::Mode), [`AppendsForm`](streamed::AppendsForm).
+    type RemapsWhole;
+    /// Whether a number has no index space.
+    ///
+    /// ```text
+    /// abbrev pub has_none : Option IndexSpace → Bool
+    /// has_none None = true
+    /// has_none (Some space) = false
+    /// ```
+    type has_none;
+    /// Whether immediates of these types have no index, if the numbers among them are in these index spaces.
+    ///
+    /// ```text
+    /// abbrev pub have_none : Spaces → List Part → Bool
+    /// have_none s [] = true
+    /// have_none s (parts.Unsigned ∷ ps) = has_none s.0 && have_none (s.1, None) ps
+    /// have_none s (parts.Memory ∷ ps) = false
+    /// have_none s (parts.Block ∷ ps) = false
+    /// have_none s (parts.Heap ∷ ps) = false
+    /// have_none s (parts.Catches ∷ ps) = false
+    /// have_none s (parts.Types ∷ ps) = false
+    /// have_none s (parts.Handles ∷ ps) = false
+    /// have_none s (p ∷ ps) = have_none s ps
+    /// ```
+    ///
+    /// Definitions: [`Spaces`](spaces::Spaces), [`has_none`](streamed::has_none).
+    type have_none;
+    /// Whether the number is in one of the ranges.
+    ///
+    /// ```text
+    /// abbrev pub is_within : List (ℕ × ℕ) → ℕ → Bool
+    /// is_within [] n = false
+    /// is_within (r ∷ rs) n = (nat_le r.0 n && nat_le n r.1) || is_within rs n
+    /// ```
+    type is_within;
+    /// One-byte opcodes without an index: of control and parametric instructions, of locals, and the numeric ones.
+    ///
+    /// ```text
+    /// abbrev pub bytes_without_index : List (ℕ × ℕ)
+    /// bytes_without_index = (0x00, 0x01) ∷ (0x05, 0x05) ∷ (0x0B, 0x0F) ∷ (0x1A, 0x1B)
+    ///     ∷ (0x20, 0x22) ∷ (0x41, 0xC4) ∷ []
+    /// ```
+    type bytes_without_index;
+    /// No map changes these operands, whatever opcode they follow.
+    ///
+    /// ```text
+    /// pub record HaveNoIndex (given : Operands) : Type 0 where
+    ///   pub stay : (m : Mapping) (s : Spaces) (xs : List Argument) → AreOperands given xs
+    ///       → remapped_arguments m s xs ≡ xs
+    /// ```
+    ///
+    /// Definitions: [`Mapping`](mapping::Mapping), [`Spaces`](spaces::Spaces), [`Argument`](super::insn::arguments::Argument), [`AreOperands`](super::insn::operands::AreOperands), [`remapped_arguments`](instructions::remapped_arguments).
+    type HaveNoIndex;
+}
+
 /// What a map of indices makes of the entries of a type section.
 ///
 /// [How to read definitions](super). The file is [`Types.antt`](https://github.com/dolzhytik/dolzhytik/blob/main/crates/wasm_remap/specs/Types.antt).

@@ -2,6 +2,7 @@
 //! The indices of a WebAssembly module, mapped: every place that refers to a function, a type, a
 //! table, a memory, a global, a tag, an element segment or a data segment.
 
+mod bodies;
 mod customs;
 mod indexed;
 mod instructions;
@@ -10,6 +11,7 @@ mod modules;
 mod recursive;
 mod sections;
 mod spaces;
+mod streamed;
 mod types;
 
 pub use indexed::{Remap, RemapError};
