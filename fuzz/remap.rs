@@ -309,9 +309,7 @@ fn is_same_section(given: &reader::Section<'_>, map: &Map, counts: &mut Counts) 
         (
             Err(RemapError::Index(index)),
             Answer::Rejected(rejected) | Answer::Unread(_, rejected),
-        ) => {
-            payload.is_empty() && rejected.contains(&index)
-        }
+        ) => payload.is_empty() && rejected.contains(&index),
         _ => false,
     }
 }

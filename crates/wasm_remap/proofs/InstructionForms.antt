@@ -35,7 +35,7 @@ use Rattle.wasm_insn.proofs.WalkInstructions.{rare_walks}
 use Rattle.wasm_remap.specs.Instructions.{remapped_arguments, remapped_instruction}
 use Rattle.wasm_remap.specs.Mapping.{Mapping, mapped_in}
 use Rattle.wasm_remap.specs.Spaces.{Spaces, spaces_of}
-use Rattle.wasm_remap.specs.Streamed.{AppendsForm, Remaps, HaveNoIndex, has_none, have_none, is_within, bytes_without_index}
+use Rattle.wasm_remap.specs.Streamed.{AppendsForm, Remaps, HaveNoIndex, is_within, bytes_without_index}
 use Rattle.wasm_remap.specs.declared.spaces.IndexSpace.{IndexSpace}
 
 -- ---- an opcode, and one immediate
@@ -130,6 +130,24 @@ block_minimal ty p s h =
     subst (λ q. part q standard_minimal (block_encoding_in admitted ty) (block ty)) is (ty, refl, (block_in admitted).minimal_in s ty (subst (block_type standard s) same k.2))
 
 -- ---- instructions that stay
+
+-- Whether a number has no index space.
+abbrev has_none : Option IndexSpace → Bool
+has_none None = true
+has_none (Some space) = false
+
+-- Whether immediates of these types have no index, if the numbers among them are in these index
+-- spaces.
+abbrev have_none : Spaces → List Part → Bool
+have_none s [] = true
+have_none s (parts.Unsigned ∷ ps) = has_none s.0 && have_none (s.1, None) ps
+have_none s (parts.Memory ∷ ps) = false
+have_none s (parts.Block ∷ ps) = false
+have_none s (parts.Heap ∷ ps) = false
+have_none s (parts.Catches ∷ ps) = false
+have_none s (parts.Types ∷ ps) = false
+have_none s (parts.Handles ∷ ps) = false
+have_none s (p ∷ ps) = have_none s ps
 
 no_space : (space : Option IndexSpace) (m : Mapping) (n : ℕ) → has_none space ≡ true → mapped_in m space n ≡ n
 no_space None m n h = refl

@@ -1,18 +1,15 @@
 -- This file defines the promises of calls that decode a value, map its indices and append it, in one
 -- pass over the bytes.
-use Rattle.std.specs.Prelude.{◌≡◌, ℕ, ◌&&◌, ◌||◌, nat_le, List, [], ◌∷◌, ◌++◌, Bool, true, false, Option, Some, None}
+use Rattle.std.specs.Prelude.{◌≡◌, ℕ, ◌&&◌, ◌||◌, nat_le, List, [], ◌∷◌, ◌++◌, Bool, false}
 use Rattle.wasm_base.specs.Decoding.{Decodes}
 use Rattle.wasm_base.specs.Formats.{Format}
 use Rattle.wasm_base.specs.Numbers.{standard, standard_minimal}
 use Rattle.wasm_insn.specs.Arguments.{Argument}
 use Rattle.wasm_insn.specs.Operands.{AreOperands}
 use Rattle.wasm_insn.specs.declared.operands.Operands.{Operands}
-use Rattle.wasm_insn.specs.declared.part.Part.{Part}
-use Rattle.wasm_insn.specs.declared.part.Part.TheVariants as parts
 use Rattle.wasm_remap.specs.Instructions.{remapped_arguments}
 use Rattle.wasm_remap.specs.Mapping.{Mapping}
 use Rattle.wasm_remap.specs.Spaces.{Spaces}
-use Rattle.wasm_remap.specs.declared.spaces.IndexSpace.{IndexSpace}
 
 -- Some bytes decode to the value in the standard's grammar.
 abbrev pub HasForm : {X : Type 0} → Format X → X → Type 0
@@ -38,25 +35,7 @@ pub record RemapsWhole {X : Type 0} (f : X → X) (F : Format X) (bytes old new 
   pub decoded : F standard bytes value
   pub appends : AppendsForm F (f value) old new
 
--- ---- immediates without an index
-
--- Whether a number has no index space.
-abbrev pub has_none : Option IndexSpace → Bool
-has_none None = true
-has_none (Some space) = false
-
--- Whether immediates of these types have no index, if the numbers among them are in these index
--- spaces.
-abbrev pub have_none : Spaces → List Part → Bool
-have_none s [] = true
-have_none s (parts.Unsigned ∷ ps) = has_none s.0 && have_none (s.1, None) ps
-have_none s (parts.Memory ∷ ps) = false
-have_none s (parts.Block ∷ ps) = false
-have_none s (parts.Heap ∷ ps) = false
-have_none s (parts.Catches ∷ ps) = false
-have_none s (parts.Types ∷ ps) = false
-have_none s (parts.Handles ∷ ps) = false
-have_none s (p ∷ ps) = have_none s ps
+-- ---- instructions without an index
 
 -- Whether the number is in one of the ranges.
 abbrev pub is_within : List (ℕ × ℕ) → ℕ → Bool

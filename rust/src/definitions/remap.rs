@@ -826,7 +826,7 @@ pub trait spaces {
 
 /// The promises of calls that decode a value, map its indices and append it, in one pass over the bytes.
 ///
-/// - Immediates without an index: [`has_none`](streamed::has_none), [`have_none`](streamed::have_none), [`is_within`](streamed::is_within), [`bytes_without_index`](streamed::bytes_without_index), [`HaveNoIndex`](streamed::HaveNoIndex).
+/// - Instructions without an index: [`is_within`](streamed::is_within), [`bytes_without_index`](streamed::bytes_without_index), [`HaveNoIndex`](streamed::HaveNoIndex).
 ///
 /// [How to read definitions](super). The file is [`Streamed.antt`](https://github.com/dolzhytik/dolzhytik/blob/main/crates/wasm_remap/specs/Streamed.antt).
 pub trait streamed {
@@ -875,31 +875,6 @@ pub trait streamed {
     ///
     /// Definitions: [`Format`](super::base::formats::Format), [`standard`](super::base::numbers::Mode), [`AppendsForm`](streamed::AppendsForm).
     type RemapsWhole;
-    /// Whether a number has no index space.
-    ///
-    /// ```text
-    /// abbrev pub has_none : Option IndexSpace → Bool
-    /// has_none None = true
-    /// has_none (Some space) = false
-    /// ```
-    type has_none;
-    /// Whether immediates of these types have no index, if the numbers among them are in these index spaces.
-    ///
-    /// ```text
-    /// abbrev pub have_none : Spaces → List Part → Bool
-    /// have_none s [] = true
-    /// have_none s (parts.Unsigned ∷ ps) = has_none s.0 && have_none (s.1, None) ps
-    /// have_none s (parts.Memory ∷ ps) = false
-    /// have_none s (parts.Block ∷ ps) = false
-    /// have_none s (parts.Heap ∷ ps) = false
-    /// have_none s (parts.Catches ∷ ps) = false
-    /// have_none s (parts.Types ∷ ps) = false
-    /// have_none s (parts.Handles ∷ ps) = false
-    /// have_none s (p ∷ ps) = have_none s ps
-    /// ```
-    ///
-    /// Definitions: [`Spaces`](spaces::Spaces), [`has_none`](streamed::has_none).
-    type have_none;
     /// Whether the number is in one of the ranges.
     ///
     /// ```text
