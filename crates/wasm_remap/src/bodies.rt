@@ -25,7 +25,8 @@ use crate::spaces::spaces_of;
 use crate::streamed::{Stopped, Streamed, append_many};
 use std::alloc::Allocator;
 use wasm_base::{
-    Encode, EncodeIn, ReadFault, Readable, Shorten, Standard, ValType, Walk, prefix_size_since,
+    Encode, EncodeIn, ReadFault, Readable, Refused, Shorten, Standard, ValType, Walk,
+    prefix_size_since,
 };
 use wasm_code::Body;
 use wasm_immediates::{BlockType, MemArg};
@@ -305,21 +306,23 @@ fn append_bodies<A: Allocator + Copy, M: Remap, B: Allocator>(
     }
 }
 
-/// Returns the error of the payload of a section.
+/// Returns the error of the payload of a section. A failed allocation is no error of the bytes.
 fn error_of<A: Allocator + Copy, E>(
     section: &Section<'_, A>,
     stopped: Stopped<E>,
 ) -> RemapError<E> {
-    match stopped {
-        Stopped::Read(error) => {
-            let left = section.payload().len().min(error.left() as usize);
-            RemapError::Read(ReadError {
-                cause: error.cause(),
-                offset: section.range().end - left,
-            })
-        }
-        Stopped::Append(error) => error,
+    let error = match stopped {
+        Stopped::Read(error) => error,
+        Stopped::Append(error) => return error,
+    };
+    if error.cause() == ReadFault::Memory {
+        return RemapError::Refused(Refused::Memory);
     }
+    let left = section.payload().len().min(error.left() as usize);
+    RemapError::Read(ReadError {
+        cause: error.cause(),
+        offset: section.range().end - left,
+    })
 }
 
 /// Appends the minimal encoding of the bodies of a code section with each index mapped. They are

@@ -6,7 +6,7 @@ use crate::remap::indexed::{Indexed, Remap, RemapError, mapped_number};
 use crate::remap::spaces::spaces_of;
 use crate::remap::streamed::{Stopped, Streamed, append_many};
 use crate::alloc::Allocator;
-use crate::base::{Encode, EncodeIn, ReadFault, Readable, Shorten, Standard, ValType, Walk, prefix_size_since};
+use crate::base::{Encode, EncodeIn, ReadFault, Readable, Refused, Shorten, Standard, ValType, Walk, prefix_size_since};
 use crate::code::Body;
 use crate::immediates::{BlockType, MemArg};
 use crate::insn::{Op, Operands, Plain, Shape, read_instruction};
@@ -257,21 +257,23 @@ fn append_bodies<A: Allocator + Copy, M: Remap, B: Sink>(
     }
 }
 
-/// Returns the error of the payload of a section.
+/// Returns the error of the payload of a section. A failed allocation is no error of the bytes.
 fn error_of<A: Allocator + Copy, E>(
     section: &Section<'_, A>,
     stopped: Stopped<E>,
 ) -> RemapError<E> {
-    match stopped {
-        Stopped::Read(error) => {
-            let left = section.payload().len().min(error.left() as usize);
-            RemapError::Read(ReadError {
-                cause: error.cause(),
-                offset: section.range().end - left,
-            })
-        }
-        Stopped::Append(error) => error,
+    let error = match stopped {
+        Stopped::Read(error) => error,
+        Stopped::Append(error) => return error,
+    };
+    if error.cause() == ReadFault::Memory {
+        return RemapError::Refused(Refused::Memory);
     }
+    let left = section.payload().len().min(error.left() as usize);
+    RemapError::Read(ReadError {
+        cause: error.cause(),
+        offset: section.range().end - left,
+    })
 }
 
 /// Appends the minimal encoding of the bodies of a code section with each index mapped. They are
