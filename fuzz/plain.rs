@@ -287,13 +287,14 @@ impl Follow for Plain<'_> {
         let size = self.unsigned(32)?;
         let framed = self.take(size as usize)?;
         let mut inner = Plain::mapping(framed, self.grammar, self.written, self.indices);
-        content(&mut inner)?;
+        let decoded = content(&mut inner);
+        self.rejected.append(&mut inner.rejected);
+        decoded?;
         if !inner.rest.is_empty() {
             return None;
         }
         put_unsigned(&mut self.encoding, inner.encoding.len() as u64);
         self.encoding.append(&mut inner.encoding);
-        self.rejected.append(&mut inner.rejected);
         Some(())
     }
 
@@ -325,20 +326,16 @@ pub fn shortened(
 }
 
 /// Returns the minimal encoding in the standard's grammar of the section of the kind at the front,
-/// with its indices mapped, and its length in bytes. `Err` has the indices that the map rejects.
+/// with its indices mapped, and its length in bytes. Also returns the indices that the map rejects:
+/// if no section decodes, those before the first wrong byte.
 #[allow(clippy::type_complexity)]
 pub fn remapped(
     bytes: &[u8],
     kind: &str,
     indices: Indices<'_>,
-) -> Option<(Result<Vec<u8>, Vec<(Space, u32)>>, usize)> {
+) -> (Option<(Vec<u8>, usize)>, Vec<(Space, u32)>) {
     let mut along = Plain::mapping(bytes, Grammar::Standard, Grammar::Standard, indices);
-    crate::grammar::section(&mut along, kind)?;
+    let decoded = crate::grammar::section(&mut along, kind);
     let taken = bytes.len() - along.rest.len();
-    let result = if along.rejected.is_empty() {
-        Ok(along.encoding)
-    } else {
-        Err(along.rejected)
-    };
-    Some((result, taken))
+    (decoded.map(|()| (along.encoding, taken)), along.rejected)
 }

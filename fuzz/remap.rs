@@ -196,12 +196,16 @@ impl Reencode for Methods<'_> {
 
 // ---- the plain remapper
 
+/// The id of code sections.
+const CODE: u8 = 10;
+
 /// The result for a module or a section.
 #[derive(Debug)]
 pub enum Answer {
     Remapped(Vec<u8>),
-    /// The bytes do not decode. The error is at one of these offsets.
-    Unread(RangeInclusive<usize>),
+    /// The bytes do not decode. The error is at one of these offsets, or is that of one of these
+    /// indices, which come before it and are rejected.
+    Unread(RangeInclusive<usize>, Vec<(Space, u32)>),
     /// The map rejects these indices.
     Rejected(Vec<(Space, u32)>),
     /// The section at this offset holds offsets.
@@ -211,23 +215,38 @@ pub enum Answer {
 /// The result for the size prefix and the payload of a section.
 fn remapped_section(section: &Section<'_>, map: &Map) -> Answer {
     let indices = |space, index| map.new_of(space, index);
-    match remapped(section.framed, section.kind(), &indices) {
-        Some((Ok(encoding), taken)) if taken == section.framed.len() => Answer::Remapped(encoding),
-        Some((Err(rejected), taken)) if taken == section.framed.len() => Answer::Rejected(rejected),
-        _ => Answer::Unread(section.offset..=section.offset + section.payload.len()),
+    let (decoded, mut rejected) = remapped(section.framed, section.kind(), &indices);
+    match decoded {
+        Some((encoding, taken)) if taken == section.framed.len() => {
+            if rejected.is_empty() {
+                Answer::Remapped(encoding)
+            } else {
+                Answer::Rejected(rejected)
+            }
+        }
+        _ => {
+            // Only code is mapped while it is decoded.
+            if section.id != CODE {
+                rejected.clear();
+            }
+            Answer::Unread(
+                section.offset..=section.offset + section.payload.len(),
+                rejected,
+            )
+        }
     }
 }
 
 /// The result for a module.
 pub fn remapped_module(bytes: &[u8], map: &Map, leaves_out: bool) -> Answer {
     if !bytes.starts_with(HEADER) {
-        return Answer::Unread(0..=bytes.len());
+        return Answer::Unread(0..=bytes.len(), Vec::new());
     }
     let mut module = HEADER.to_vec();
     let mut at = HEADER.len();
     while at < bytes.len() {
         let Some(section) = section(bytes, at) else {
-            return Answer::Unread(at..=bytes.len());
+            return Answer::Unread(at..=bytes.len(), Vec::new());
         };
         if section.holder().is_none() {
             match remapped_section(&section, map) {
@@ -250,13 +269,13 @@ pub fn remapped_module(bytes: &[u8], map: &Map, leaves_out: bool) -> Answer {
 /// Whether an error of the library is the one that is expected.
 fn is_same_error(given: &RemapError<(Space, u32)>, expected: &Answer, counts: &mut Counts) -> bool {
     match (given, expected) {
-        (RemapError::Read(error), Answer::Unread(offsets)) => {
+        (RemapError::Read(error), Answer::Unread(offsets, _)) => {
             let ReadError { cause, offset } = *error;
             counts.unread += 1;
             offsets.contains(&offset)
                 && ![ReadFault::Memory, ReadFault::NotShortest].contains(&cause)
         }
-        (RemapError::Index(index), Answer::Rejected(rejected)) => {
+        (RemapError::Index(index), Answer::Rejected(rejected) | Answer::Unread(_, rejected)) => {
             counts.rejected += 1;
             counts.later += u64::from(rejected.first() != Some(index));
             rejected.contains(index)
@@ -332,12 +351,13 @@ fn is_same_section(given: &reader::Section<'_>, map: &Map, counts: &mut Counts) 
                 && encode_items_in::<Standard, _, _, _>(Global, &items, &mut encoded).is_ok()
                 && encoded[..] == *payload
         }
-        (Err(RemapError::Read(error)), Answer::Unread(_)) => {
+        (Err(RemapError::Read(error)), Answer::Unread(..)) => {
             payload.is_empty() && given.items().err() == Some(error)
         }
-        (Err(RemapError::Index(index)), Answer::Rejected(rejected)) => {
-            payload.is_empty() && rejected.contains(&index)
-        }
+        (
+            Err(RemapError::Index(index)),
+            Answer::Rejected(rejected) | Answer::Unread(_, rejected),
+        ) => payload.is_empty() && rejected.contains(&index),
         _ => false,
     }
 }

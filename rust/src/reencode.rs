@@ -58,7 +58,9 @@ macro_rules! section_methods {
 ///
 /// A method of a section is called for each section of its kind, in the order of the module. If the
 /// module has none, the method gets an empty list or `None`, and a section is written if it adds
-/// something. It comes before the next section in the standard's order, or after the last one.
+/// something. It comes before the next section in the standard's order, or after the last one. A
+/// list that a method empties stays as an empty section. The methods are called while the module is
+/// decoded: before the error of a later section is returned.
 ///
 /// Without a method of a section, the bytes are those of
 /// [`remap_module`](crate::reader::remap::remap_module). The trait itself is tested, not proved.
@@ -160,7 +162,8 @@ pub trait Reencode {
         /// Edits the data segments.
         data_section<'a>(segments: Vec<Segment<'a>>);
         /// Edits the items of a custom section. Its name selects their kind, such as
-        /// [`Items::Names`]. The method cannot add a custom section, nor leave one out.
+        /// [`Items::Names`]. The method cannot add a custom section, nor leave one out, and must
+        /// keep the kind.
         custom_section<'a>(items: Items<'a>);
     }
 

@@ -30,7 +30,8 @@ enum dz_recipe_cause {
 
 /* The causes of an error in a section or a module. dz_cause returns their texts. No call sets
    DZ_NOT_SHORTEST, since padded LEB128 decodes. Only dz_shorten and dz_remap_module set DZ_NO_KIND.
-   Only the calls that write modules set DZ_OFFSETS, and those that map indices the causes below it. */
+   Only the calls that write modules set DZ_OFFSETS, and those that map indices DZ_NO_INDEX and
+   DZ_OVERLONG. */
 enum dz_fault {
     DZ_ENDED = 1,
     DZ_NOT_SHORTEST = 2,
@@ -181,8 +182,9 @@ enum dz_space {
    bytes. `indices` has the new index of each old one. All sections are encoded anew, in their
    minimal encoding.
 
-   An index behind `indices_len`, or whose new one is UINT32_MAX, is an error: `*cause` is
-   DZ_NO_INDEX, as for an entity that was removed. If `drop_offsets` is not 0, the custom sections
+   An index that is not below `indices_len`, or whose new one is UINT32_MAX, is an error: `*cause` is
+   DZ_NO_INDEX. A name in the section `name` is a use of its index too. For an unknown space,
+   `*cause` is DZ_NO_KIND. If `drop_offsets` is not 0, the custom sections
    that hold offsets, as dz_shorten_module lists them, are left out. If it is 0, such a section is an
    error: `*cause` is DZ_OFFSETS. If the bytes are no module, or a section does not decode,
    `*cause` is that of the decoder. If a section would be too long, it is DZ_OVERLONG. `*offset` is
@@ -194,7 +196,8 @@ uint64_t dz_remap_module(const uint8_t *module, size_t module_len, uint32_t spac
    module's size in bytes. The import is the first one, so that the function has index 0. Each other
    index of a function is one higher, wherever it is in the module.
 
-   If a name is not UTF-8, `*cause` is DZ_NOT_UTF8. Other errors are those of dz_remap_module. */
+   If a name is not UTF-8, `*cause` is DZ_NOT_UTF8. If an index would be more than UINT32_MAX, it is
+   DZ_NO_INDEX. Other errors are those of dz_remap_module. */
 uint64_t dz_insert_import(const uint8_t *module, size_t module_len, const uint8_t *module_name, size_t module_name_len, const uint8_t *name, size_t name_len, uint32_t type_index, uint32_t drop_offsets, uint8_t *out, size_t out_len, uint64_t *offset, uint32_t *cause);
 
 /* Writes the text of a number of dz_fault in ASCII, such as `Ended`, and returns its length in

@@ -7,7 +7,7 @@ use Rattle.wasm_c.specs.declared.TheConstants.{NO_ANSWER}
 -- The messages of errors in the bytes of sections and modules, in the order of their numbers.
 abbrev pub fault_texts : List (List ℕ)
 fault_texts =
-    codes "Ended" ∷ codes "NotShortest" ∷ codes "TooLarge" ∷ codes "UnknownTag" ∷ codes "UnknownOpcode" ∷ codes "NotUtf8" ∷ codes "SizeMismatch" ∷ codes "Memory" ∷ codes "NoKind" ∷ codes "Offsets" ∷ codes "NoIndex" ∷ codes "TooLong" ∷ []
+    codes "Ended" ∷ codes "NotShortest" ∷ codes "TooLarge" ∷ codes "UnknownTag" ∷ codes "UnknownOpcode" ∷ codes "NotUtf8" ∷ codes "SizeMismatch" ∷ codes "Memory" ∷ codes "NoKind" ∷ codes "Offsets" ∷ codes "NoIndex" ∷ codes "Overlong" ∷ []
 
 -- The messages of errors in a recipe, in the order of their numbers.
 abbrev pub recipe_texts : List (List ℕ)

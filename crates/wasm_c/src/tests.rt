@@ -487,7 +487,7 @@ const FAULT_TEXTS: [TextRow; 12] = [
     },
     TextRow {
         cause: 12,
-        text: b"TooLong",
+        text: b"Overlong",
     },
 ];
 

@@ -13,3 +13,7 @@ pub mod PlaceLaws
 pub mod InsertLaws
 pub mod ImportedLaws
 pub mod BegunLaws
+pub mod StreamLaws
+pub mod InstructionForms
+pub mod BodyLaws
+pub mod ContentLaws

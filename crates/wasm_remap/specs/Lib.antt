@@ -11,3 +11,4 @@ pub mod Places
 pub mod Inserted
 pub mod Imported
 pub mod Begun
+pub mod Streamed

@@ -16,24 +16,9 @@ use wasm_reader::{CodeBody, Section};
 
 /// Instructions that are inserted at the start of each body of a module.
 ///
-/// They end each block that they begin, and no other. Otherwise the labels of the body's own
-/// instructions would be those of other blocks. A proof owes this (`closed`), and so does code in
-/// Rust.
-///
-/// ```text
-/// /// Each body first calls function 0.
-/// struct Hit;
-///
-/// impl Prologue for Hit {
-///     ghost code = { λ _ _. calling 0 };
-///
-///     ghost closed = { λ _ _. refl };
-///
-///     fn append<A: Allocator>(&self, _body: u32, sink: &mut Vec<u8, A>) -> Result<()> {
-///         InstructionSink::new(sink).call(0)
-///     }
-/// }
-/// ```
+/// Close every block that you open, and no other. Otherwise the labels of the body's own
+/// instructions would be those of other blocks. The call does not check this. A proof owes it
+/// (`closed`).
 pub trait Prologue {
     /// The instructions for the body of each number. The first body of the code section has
     /// number 0.
@@ -113,13 +98,14 @@ fn code_of<P: Prologue, A: Allocator + Copy>(
 /// The bodies are those of the first code section. Their locals and other instructions keep their
 /// bytes, and all other sections their payloads. A module without code stays as it is.
 ///
-/// Instructions move, so that offsets in custom sections would become wrong: those for which
-/// [`Section::has_offsets`] is true.
+/// Sections that hold offsets into the code stay, and their offsets become wrong: remove them first
+/// ([`Section::has_offsets`]).
 ///
 /// # Errors
 ///
-/// Returns `Read` if the bytes are no module or the code section does not decode, and `Refused` if a
-/// section is too long or an allocation fails.
+/// Returns `Read` if the bytes are no module, or if the sizes or the locals of the bodies do not
+/// decode. Instructions are not decoded. Returns `Refused` if a section is too long or an
+/// allocation fails.
 pub fn insert_code<P: Prologue, A: Allocator + Copy>(
     bytes: &[u8],
     alloc: A,

@@ -27,12 +27,11 @@ fn space_of(ty: EntityType) -> IndexSpace
 /// Inserts an import before all others, and returns the new module.
 ///
 /// The imported function, table, memory, global or tag has index 0. The indices of all others of
-/// its space are one higher, in each place that [`remap_module`] maps. The index of a function's
-/// type is one of the module's types. A new type is inserted by [`insert_section`].
+/// its space are one higher, in each place that `remap_module` maps. For a function, `ty` is the
+/// index of a type that the module already has: `insert_section` inserts one.
 ///
-/// Custom sections that hold offsets are an error or are left out, as [`Offsets`] says.
-///
-/// [`insert_section`]: crate::insert_section
+/// All sections are encoded anew, in their minimal form. Custom sections that hold offsets are an
+/// error or are left out, as [`Offsets`] says.
 ///
 /// ```text
 /// let import = Import {
@@ -45,9 +44,9 @@ fn space_of(ty: EntityType) -> IndexSpace
 ///
 /// # Errors
 ///
-/// Returns `Index` if an index would pass 4294967295, `Offsets` for a section that holds offsets,
-/// `Read` if the bytes are no module or a section does not decode, and `Refused` if a section is too
-/// long or an allocation fails.
+/// Returns `Index` if an index would be more than 4294967295, `Offsets` for a section that holds
+/// offsets, `Read` if the bytes are no module or a section does not decode, and `Refused` if a
+/// section is too long or an allocation fails.
 pub fn insert_import<A: Allocator + Copy>(
     bytes: &[u8],
     alloc: A,

@@ -31,7 +31,7 @@ pub trait Remap {
         ensures err { IfErr result (λ e. rejects self.now space index e) };
 }
 
-/// Why indices are not mapped.
+/// Why a module is not edited.
 #[derive(Clone, Copy, PartialEq, Eq, Debug)]
 pub enum RemapError<E> {
     /// The section does not decode.

@@ -12,7 +12,7 @@ use std::alloc::Allocator;
 use wasm_base::{Encode, Module, RawSection, Readable, Refused, Section as NewSection, Standard};
 use wasm_reader::{ReadError, Section};
 
-/// Where members are inserted in a section.
+/// Where members are inserted in a section of the same id.
 #[derive(Clone, Copy, PartialEq, Eq, Debug)]
 pub enum Position {
     /// Before the old members.
@@ -116,16 +116,18 @@ pub(crate) fn module_of<S: NewSection, A: Allocator + Copy>(
 
 /// Inserts a section into a module, and returns the new module.
 ///
-/// If the module has a section of the same id, the first one gets the new members too, before or
-/// after its own, or in their place. The start function and the data count are no lists, and are
-/// replaced. If there is no such section, the new one is inserted as it is: behind the last section
-/// that comes before it in the standard's order. A custom section becomes the last one.
+/// If the module has a section of the same id, `First` and `Last` add the new members before or
+/// after those of the first such section, and `Instead` replaces its payload. The start function
+/// and the data count are no lists, and are replaced. If there is no such section, the new one is
+/// inserted as it is: behind the last section that comes before it in the standard's order. If
+/// there is none, it is behind the leading custom sections. A custom section, or one of an id that
+/// the standard lacks, becomes the last section.
 ///
-/// All other sections keep their payloads, and no index is mapped. [`remap_module`] does that: with a
-/// [`Shift`] it makes room for entities that are inserted before others.
-///
-/// [`remap_module`]: crate::remap_module
-/// [`Shift`]: crate::Shift
+/// All other sections keep their payloads. No index is mapped: before you insert entities in front
+/// of others, map the module with `remap_module` and a `Shift`. The data count stays when data
+/// segments are added. So do offsets and numbers of sections in custom sections, which become
+/// wrong:
+/// [`Section::has_offsets`] finds these.
 ///
 /// ```text
 /// let mut globals = GlobalSection::new(alloc);
@@ -135,9 +137,9 @@ pub(crate) fn module_of<S: NewSection, A: Allocator + Copy>(
 ///
 /// # Errors
 ///
-/// Returns `Read` if the bytes are no module, or if the section of this id does not begin with a
-/// count. If the new one does not, the offset is the module's length. Returns `Refused` if a count
-/// or a section is too long or an allocation fails.
+/// Returns `Read` if the bytes are no module. If members are added, it also returns `Read` if the
+/// old section or the new one does not begin with a count. Of the new one, the offset is the
+/// module's length. Returns `Refused` if a count or a section is too long or an allocation fails.
 pub fn insert_section<S: NewSection, A: Allocator + Copy>(
     bytes: &[u8],
     alloc: A,

@@ -1,14 +1,18 @@
 // The items of sections whose indices are mapped.
-ghost use Rattle.std.specs.Prelude.{◌≡◌, IfErr, OnOk, OnErr};
-ghost use Rattle.wasm_reader.specs.Kinds.{contents_of};
+ghost use Rattle.std.specs.Prelude.{◌≡◌, true, IfErr, OnOk, OnErr};
+ghost use Rattle.wasm_base.specs.Minimal.{both_grammars};
+ghost use Rattle.wasm_base.specs.Numbers.{admitted};
+ghost use Rattle.wasm_reader.specs.Kinds.{contents_of, grammars_of};
+ghost use Rattle.wasm_reader.specs.Sections.{AppendsContentIn};
 ghost use Rattle.wasm_remap.specs.Mapping.{ComesFrom};
 ghost use Rattle.wasm_remap.specs.Sections.{RemapsSection, remapped};
 
+use crate::bodies::remap_bodies;
 use crate::indexed::{Remap, RemapError, mapped, remap_each, remap_numbers};
 use crate::spaces::IndexSpace;
 use std::alloc::Allocator;
-use wasm_base::Standard;
-use wasm_reader::{Items, Section, encode_items_in};
+use wasm_base::{Refused, Standard};
+use wasm_reader::{Items, Section, SectionKind, encode_items, encode_items_in};
 
 /// Maps each index of the items of a section. After an error, some of them are mapped.
 ///
@@ -59,8 +63,45 @@ pub fn remap_items<A: Allocator + Copy, M: Remap>(
     }
 }
 
+/// Returns `true` if the encoding that builders write of items of this kind is minimal in the
+/// standard's grammar too.
+fn is_minimal_when_built(kind: SectionKind) -> bool
+    ensures { result ≡ true → grammars_of kind ≡ both_grammars }
+{
+    !matches!(
+        kind,
+        SectionKind::Bodies
+            | SectionKind::Segments
+            | SectionKind::Elements
+            | SectionKind::Globals
+            | SectionKind::Imports
+            | SectionKind::Tables
+            | SectionKind::Types
+    )
+}
+
+/// Appends the minimal encoding of the items in the standard's grammar. On an error, the sink is
+/// unchanged.
+fn append_items<A: Allocator + Copy, B: Allocator>(
+    items: &Items<'_, A>,
+    alloc: A,
+    sink: &mut Vec<u8, B>,
+) -> Result<(), Refused>
+    ensures ok { OnOk result (AppendsContentIn admitted (contents_of items.now) sink.old.items sink.new.items) }
+    ensures err { OnErr result (sink.new.items ≡ sink.old.items) }
+{
+    if is_minimal_when_built(items.kind()) {
+        encode_items(items, sink)?;
+    } else {
+        encode_items_in::<Standard, _, _, _>(alloc, items, sink)?;
+    }
+    Ok(())
+}
+
 /// Decodes the items of a section, maps each index, and appends the minimal encoding of the items
 /// as a payload. On an error, the sink is unchanged.
+///
+/// Bodies are decoded, mapped and appended instruction by instruction, and not kept.
 ///
 /// ```text
 /// let mut payload = Vec::new(alloc);
@@ -71,7 +112,8 @@ pub fn remap_items<A: Allocator + Copy, M: Remap>(
 /// # Errors
 ///
 /// Returns `Read` if the section does not decode, `Index` with the error of the map if it rejects an
-/// index, and `Refused` if an encoding is too long or an allocation fails.
+/// index, and `Refused` if an encoding is too long or an allocation fails. In a code section that
+/// does not decode, a rejected index before the first wrong byte is reported instead.
 #[tactic(auto, using(crate::proofs::MappedSections::section_remapped))]
 pub fn remap_section<A: Allocator + Copy, M: Remap, B: Allocator>(
     section: &Section<'_, A>,
@@ -82,8 +124,11 @@ pub fn remap_section<A: Allocator + Copy, M: Remap, B: Allocator>(
     ensures ok { OnOk result (RemapsSection (M.mapped indices.now) section.now.section sink.old.items sink.new.items) }
     ensures err { OnErr result (sink.new.items ≡ sink.old.items) }
 {
+    if let Some(SectionKind::Bodies) = section.kind() {
+        return remap_bodies(section, alloc, indices, sink);
+    }
     let mut items = section.items()?;
     remap_items(&mut items, alloc, indices)?;
-    encode_items_in::<Standard, _, _, _>(alloc, &items, sink)?;
+    append_items(&items, alloc, sink)?;
     Ok(())
 }

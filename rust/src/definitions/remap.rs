@@ -339,7 +339,7 @@ pub trait imported {
     /// room_in space = record { space = space; from = 0; by = 1 }
     /// ```
     type room_in;
-    /// The indices of the entity's space are one higher, and the first member of the imports is this one.
+    /// The indices of the entity's space are one higher, and the first member of the imports is this one. Its payload as a section alone decodes to it, if its names are UTF-8 and its numbers are in range.
     ///
     /// ```text
     /// pub record InsertsImport (x : Import) (offsets : Offsets) (bytes edited : List ℕ)
@@ -348,11 +348,12 @@ pub trait imported {
     ///   pub shifts : RemapsModule
     ///       (shifted (room_in (space_of x.ty))) offsets bytes shifted_bytes
     ///   pub payload : List ℕ
-    ///   pub decodes : vec import_format standard payload (import_item x ∷ [])
+    ///   pub decodes : IsImport (import_item x)
+    ///       → vec import_format standard payload (import_item x ∷ [])
     ///   pub inserts : InsertsSection First (number_of ids.Import) payload shifted_bytes edited
     /// ```
     ///
-    /// Definitions: [`RemapsModule`](sections::RemapsModule), [`shifted`](shifted::shifted), [`room_in`](imported::room_in), [`space_of`](imported::space_of), [`vec`](super::base::formats::vec), [`import_format`](super::sections::imports::import_format), [`standard`](super::base::numbers::Mode), [`import_item`](super::sections::imports::import_item), [`InsertsSection`](inserted::InsertsSection), [`number_of`](super::base::section_id::number_of).
+    /// Definitions: [`RemapsModule`](sections::RemapsModule), [`shifted`](shifted::shifted), [`room_in`](imported::room_in), [`space_of`](imported::space_of), [`IsImport`](super::sections::imports::IsImport), [`import_item`](super::sections::imports::import_item), [`vec`](super::base::formats::vec), [`import_format`](super::sections::imports::import_format), [`standard`](super::base::numbers::Mode), [`InsertsSection`](inserted::InsertsSection), [`number_of`](super::base::section_id::number_of).
     type InsertsImport;
 }
 
@@ -472,10 +473,10 @@ pub trait inserted {
     ///   pub after : List Section
     ///   pub payload : List ℕ
     ///   pub members :
-    ///     ((section : Section) × (olds ≡ before ++ section ∷ after) × (section.id ≡ id)
-    ///         × ((ys : List X) → vec F standard section.payload ys
-    ///             → vec F standard payload (joined_lists p xs ys)))
-    ///     ⊎ ((olds ≡ before ++ after) × vec F standard payload xs)
+    ///       ((section : Section) × (olds ≡ before ++ section ∷ after) × (section.id ≡ id)
+    ///           × ((ys : List X) → vec F standard section.payload ys
+    ///               → vec F standard payload (joined_lists p xs ys)))
+    ///       ⊎ ((olds ≡ before ++ after) × vec F standard payload xs)
     ///   pub decodes : DecodesWhole wasm_module edited (between before id payload after)
     /// ```
     ///
@@ -905,7 +906,7 @@ pub trait mapping {
 /// The places of sections in a module.
 ///
 /// - The standard's order: [`order`](places::order), [`rank_among`](places::rank_among), [`rank_of`](places::rank_of).
-/// - Places: [`lacks`](places::lacks), [`IsFound`](places::IsFound), [`IsAt`](places::IsAt), [`IsFree`](places::IsFree), [`ComesBefore`](places::ComesBefore), [`EndsBefore`](places::EndsBefore), [`BeginsPlaced`](places::BeginsPlaced), [`IsPlace`](places::IsPlace).
+/// - Places: [`lacks`](places::lacks), [`IsFound`](places::IsFound), [`IsFree`](places::IsFree), [`ComesBefore`](places::ComesBefore), [`EndsBefore`](places::EndsBefore), [`BeginsPlaced`](places::BeginsPlaced), [`IsPlace`](places::IsPlace).
 ///
 /// [How to read definitions](super). The file is [`Places.antt`](https://github.com/dolzhytik/dolzhytik/blob/main/crates/wasm_remap/specs/Places.antt).
 pub trait places {
@@ -989,16 +990,6 @@ pub trait places {
     ///
     /// Definitions: [`Section`](super::reader::outlines::Section), [`lacks`](places::lacks).
     type IsFound;
-    /// The first section of this id is at this place.
-    ///
-    /// ```text
-    /// abbrev pub IsAt : ℕ → ℕ → List Section → Type 0
-    /// IsAt id n all = (before : List Section) × (s : Section) × (after : List Section)
-    ///     × (length before ≡ n) × IsFound id before s after all
-    /// ```
-    ///
-    /// Definitions: [`Section`](super::reader::outlines::Section), [`IsFound`](places::IsFound).
-    type IsAt;
     /// The section has no place in the standard's order.
     ///
     /// ```text
@@ -1330,6 +1321,85 @@ pub trait spaces {
     ///
     /// Definitions: [`Spaces`](spaces::Spaces), [`or_none`](spaces::or_none), [`found_of`](spaces::found_of).
     type spaces_of;
+}
+
+/// The promises of calls that decode a value, map its indices and append it, in one pass over the bytes.
+///
+/// - Instructions without an index: [`is_within`](streamed::is_within), [`bytes_without_index`](streamed::bytes_without_index), [`HaveNoIndex`](streamed::HaveNoIndex).
+///
+/// [How to read definitions](super). The file is [`Streamed.antt`](https://github.com/dolzhytik/dolzhytik/blob/main/crates/wasm_remap/specs/Streamed.antt).
+pub trait streamed {
+    /// Some bytes decode to the value in the standard's grammar.
+    ///
+    /// ```text
+    /// abbrev pub HasForm : {X : Type 0} → Format X → X → Type 0
+    /// HasForm F x = (s : List ℕ) × F standard s x
+    /// ```
+    ///
+    /// Definitions: [`Format`](super::base::formats::Format), [`standard`](super::base::numbers::Mode).
+    type HasForm;
+    /// The buffer gains the minimal encoding of the value in the standard's grammar, if some bytes decode to the value there.
+    ///
+    /// ```text
+    /// pub record AppendsForm {X : Type 0} (F : Format X) (x : X) (old new : List ℕ)
+    ///     : Type 0 where
+    ///   pub encoding : List ℕ
+    ///   pub appended : new ≡ old ++ encoding
+    ///   pub encodes : HasForm F x → F standard_minimal encoding x
+    /// ```
+    ///
+    /// Definitions: [`Format`](super::base::formats::Format), [`HasForm`](streamed::HasForm), [`standard_minimal`](super::base::numbers::Mode).
+    type AppendsForm;
+    /// A value decodes from the front of the bytes, and `rest` follows it. The buffer gains `f` of the value.
+    ///
+    /// ```text
+    /// pub record Remaps {X : Type 0} (f : X → X) (F : Format X) (bytes rest old new : List ℕ)
+    ///     : Type 0 where
+    ///   pub value : X
+    ///   pub decoded : Decodes F standard bytes value rest
+    ///   pub appends : AppendsForm F (f value) old new
+    /// ```
+    ///
+    /// Definitions: [`Format`](super::base::formats::Format), [`Decodes`](super::base::decoding::Decodes), [`standard`](super::base::numbers::Mode), [`AppendsForm`](streamed::AppendsForm).
+    type Remaps;
+    /// As [`Remaps`](streamed::Remaps), for a value that occupies all of the bytes.
+    ///
+    /// ```text
+    /// pub record RemapsWhole {X : Type 0} (f : X → X) (F : Format X) (bytes old new : List ℕ)
+    ///     : Type 0 where
+    ///   pub value : X
+    ///   pub decoded : F standard bytes value
+    ///   pub appends : AppendsForm F (f value) old new
+    /// ```
+    ///
+    /// Definitions: [`Format`](super::base::formats::Format), [`standard`](super::base::numbers::Mode), [`AppendsForm`](streamed::AppendsForm).
+    type RemapsWhole;
+    /// Whether the number is in one of the ranges.
+    ///
+    /// ```text
+    /// abbrev pub is_within : List (ℕ × ℕ) → ℕ → Bool
+    /// is_within [] n = false
+    /// is_within (r ∷ rs) n = (nat_le r.0 n && nat_le n r.1) || is_within rs n
+    /// ```
+    type is_within;
+    /// One-byte opcodes without an index: of control and parametric instructions, of locals, and the numeric ones.
+    ///
+    /// ```text
+    /// abbrev pub bytes_without_index : List (ℕ × ℕ)
+    /// bytes_without_index = (0x00, 0x01) ∷ (0x05, 0x05) ∷ (0x0B, 0x0F) ∷ (0x1A, 0x1B)
+    ///     ∷ (0x20, 0x22) ∷ (0x41, 0xC4) ∷ []
+    /// ```
+    type bytes_without_index;
+    /// No map changes these operands, whatever opcode they follow.
+    ///
+    /// ```text
+    /// pub record HaveNoIndex (given : Operands) : Type 0 where
+    ///   pub stay : (m : Mapping) (s : Spaces) (xs : List Argument) → AreOperands given xs
+    ///       → remapped_arguments m s xs ≡ xs
+    /// ```
+    ///
+    /// Definitions: [`Mapping`](mapping::Mapping), [`Spaces`](spaces::Spaces), [`Argument`](super::insn::arguments::Argument), [`AreOperands`](super::insn::operands::AreOperands), [`remapped_arguments`](instructions::remapped_arguments).
+    type HaveNoIndex;
 }
 
 /// What a map of indices makes of the entries of a type section.

@@ -4,7 +4,7 @@
 use crate::vec::{Sink, Vec};
 use crate::remap::indexed::RemapError;
 use crate::remap::insert::module_of;
-use crate::remap::places::{found_at, sections_of};
+use crate::remap::places::{found, sections_of};
 use crate::remap::shift::IndexTooLarge;
 use crate::alloc::Allocator;
 use crate::base::{Refused, Result as Written};
@@ -13,24 +13,9 @@ use crate::reader::{CodeBody, Section};
 
 /// Instructions that are inserted at the start of each body of a module.
 ///
-/// They end each block that they begin, and no other. Otherwise the labels of the body's own
-/// instructions would be those of other blocks. A proof owes this (`closed`), and so does code in
-/// Rust.
-///
-/// ```text
-/// /// Each body first calls function 0.
-/// struct Hit;
-///
-/// impl Prologue for Hit {
-///     ghost code = { λ _ _. calling 0 };
-///
-///     ghost closed = { λ _ _. refl };
-///
-///     fn append<A: Allocator>(&self, _body: u32, code: &mut Vec<u8, A>) -> Result<()> {
-///         InstructionSink::new(code).call(0)
-///     }
-/// }
-/// ```
+/// Close every block that you open, and no other. Otherwise the labels of the body's own
+/// instructions would be those of other blocks. The call does not check this. A proof owes it
+/// (`closed`).
 ///
 /// # Defined
 ///
@@ -55,12 +40,11 @@ pub trait Prologue {
     /// After `Ok`: The bytes gain an encoding of these instructions.
     ///
     /// ```text
-    /// ensures { OnOk result (GainsCode (code self.now body) «code».old.items «code».new.items)
-    ///     }
+    /// ensures { OnOk result (GainsCode (code self.now body) sink.old.items sink.new.items) }
     /// ```
     ///
     /// Definitions: [`GainsCode`](crate::definitions::remap::begun::GainsCode). [How to read clauses](crate::definitions).
-    fn append<A: Sink>(&self, body: u32, code: &mut A) -> Written<()>;
+    fn append<A: Sink>(&self, body: u32, sink: &mut A) -> Written<()>;
 }
 
 /// Returns the locals, the new instructions and the old ones.
@@ -116,16 +100,17 @@ fn code_of<P: Prologue, A: Allocator + Copy>(
 
 /// Inserts instructions at the start of each body, and returns the new module.
 ///
-/// The bodies are those of the first code section. Their other instructions, their locals and all
-/// other sections keep their bytes. A module without code stays as it is.
+/// The bodies are those of the first code section. Their locals and other instructions keep their
+/// bytes, and all other sections their payloads. A module without code stays as it is.
 ///
-/// Instructions move, so that offsets in custom sections would become wrong: those for which
-/// [`Section::has_offsets`] is true.
+/// Sections that hold offsets into the code stay, and their offsets become wrong: remove them first
+/// ([`Section::has_offsets`]).
 ///
 /// # Errors
 ///
-/// Returns `Read` if the bytes are no module or the code section does not decode, and `Refused` if a
-/// section is too long or an allocation fails.
+/// Returns `Read` if the bytes are no module, or if the sizes or the locals of the bodies do not
+/// decode. Instructions are not decoded. Returns `Refused` if a section is too long or an
+/// allocation fails.
 ///
 /// # Proved
 ///
@@ -143,10 +128,9 @@ pub fn insert_code<P: Prologue, A: Allocator + Copy>(
     prologue: &P,
 ) -> Result<Vec<u8, A>, RemapError<IndexTooLarge>> {
     let sections = sections_of(bytes, alloc)?;
-    let Some(place) = found_at(&sections, 10) else {
+    let Some((before, old, after)) = found(&sections, 10) else {
         return Ok(Vec::from_slice(alloc, bytes)?);
     };
-    let code = code_of(&sections[place], prologue, alloc)?;
-    let (before, after) = (&sections[..place], &sections[place + 1..]);
+    let code = code_of(old, prologue, alloc)?;
     Ok(module_of(before, &code, after, alloc)?)
 }

@@ -41,7 +41,7 @@ pub trait Remap {
     fn index(&self, space: IndexSpace, index: u32) -> Result<u32, Self::Error>;
 }
 
-/// Why indices are not mapped.
+/// Why a module is not edited.
 #[derive(Clone, Copy, PartialEq, Eq, Debug)]
 #[non_exhaustive]
 pub enum RemapError<E> {

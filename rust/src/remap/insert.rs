@@ -3,13 +3,13 @@
 
 use crate::vec::Vec;
 use crate::remap::indexed::RemapError;
-use crate::remap::places::{append_copies, found_at, place_of, rank, sections_of};
+use crate::remap::places::{append_copies, found, place_of, rank, sections_of};
 use crate::remap::shift::IndexTooLarge;
 use crate::alloc::Allocator;
 use crate::base::{Encode, Module, RawSection, Readable, Refused, Section as NewSection, Standard};
 use crate::reader::{ReadError, Section};
 
-/// Where members are inserted in a section.
+/// Where members are inserted in a section of the same id.
 #[derive(Clone, Copy, PartialEq, Eq, Debug)]
 #[non_exhaustive]
 pub enum Position {
@@ -55,6 +55,14 @@ fn list_of<A: Allocator>(
     Ok(list)
 }
 
+/// Returns new members and old ones in their order in a list.
+fn in_order<'a>(position: Position, new: &'a [u8], old: &'a [u8]) -> (&'a [u8], &'a [u8]) {
+    match position {
+        Position::First => (new, old),
+        _ => (old, new),
+    }
+}
+
 /// Returns the payload of a list of the members of a new section and an old one. If the new section
 /// does not begin with a count, the error has this offset.
 fn joined<S: NewSection, A: Allocator + Copy>(
@@ -72,10 +80,8 @@ fn joined<S: NewSection, A: Allocator + Copy>(
     let Some(count) = new_count.checked_add(old_count) else {
         return Err(Refused::TooLong.into());
     };
-    Ok(match position {
-        Position::First => list_of(count, new_members, old_members, alloc)?,
-        _ => list_of(count, old_members, new_members, alloc)?,
-    })
+    let (front, back) = in_order(position, new_members, old_members);
+    Ok(list_of(count, front, back, alloc)?)
 }
 
 /// Returns a module of copies of sections, with a section between them.
@@ -94,16 +100,18 @@ pub(crate) fn module_of<S: NewSection, A: Allocator + Copy>(
 
 /// Inserts a section into a module, and returns the new module.
 ///
-/// If the module has a section of the same id, the first one gets the new members too, before or
-/// after its own, or in their place. The start function and the data count are no lists, and are
-/// replaced. If there is no such section, the new one is inserted as it is: behind the last section
-/// that comes before it in the standard's order. A custom section becomes the last one.
+/// If the module has a section of the same id, `First` and `Last` add the new members before or
+/// after those of the first such section, and `Instead` replaces its payload. The start function
+/// and the data count are no lists, and are replaced. If there is no such section, the new one is
+/// inserted as it is: behind the last section that comes before it in the standard's order. If
+/// there is none, it is behind the leading custom sections. A custom section, or one of an id that
+/// the standard lacks, becomes the last section.
 ///
-/// All else keeps its bytes, and no index is mapped. [`remap_module`] does that: with a [`Shift`] it
-/// makes room for entities that are inserted before others.
-///
-/// [`remap_module`]: crate::remap_module
-/// [`Shift`]: crate::Shift
+/// All other sections keep their payloads. No index is mapped: before you insert entities in front
+/// of others, map the module with `remap_module` and a `Shift`. The data count stays when data
+/// segments are added. So do offsets and numbers of sections in custom sections, which become
+/// wrong:
+/// [`Section::has_offsets`] finds these.
 ///
 /// ```text
 /// let mut globals = GlobalSection::new(alloc);
@@ -113,16 +121,20 @@ pub(crate) fn module_of<S: NewSection, A: Allocator + Copy>(
 ///
 /// # Errors
 ///
-/// Returns `Read` if the bytes are no module, or if the section of this id does not begin with a
-/// count. If the new one does not, the offset is the module's length. Returns `Refused` if a count
-/// or a section is too long or an allocation fails.
+/// Returns `Read` if the bytes are no module. If members are added, it also returns `Read` if the
+/// old section or the new one does not begin with a count. Of the new one, the offset is the
+/// module's length. Returns `Refused` if a count or a section is too long or an allocation fails.
 ///
 /// # Proved
 ///
+/// After `Ok`: `fits`, each count and length fits 32 bits.
+///
 /// ```text
-/// ensures { IfOk result (λ edited. (payload : List ℕ) → S.payload section.now payload
+/// ensures inserts { IfOk result
+///     (λ edited. (payload : List ℕ) → S.payload section.now payload
 ///         → InsertsSection position (S.id_of section.now) payload bytes.now edited.items)
 ///     }
+/// ensures fits { OnOk result (S.encodable section.now) }
 /// ```
 ///
 /// Definitions: [`InsertsSection`](crate::definitions::remap::inserted::InsertsSection). [How to read clauses](crate::definitions).
@@ -135,17 +147,17 @@ pub fn insert_section<S: NewSection, A: Allocator + Copy>(
     let sections = sections_of(bytes, alloc)?;
     let id = section.id();
     if rank(id) == 0 {
-        return Ok(module_of(&sections, section, &[], alloc)?);
+        let (before, after) = sections.split_at(sections.len());
+        return Ok(module_of(before, section, after, alloc)?);
     }
-    let Some(place) = found_at(&sections, id) else {
+    let Some((before, old, after)) = found(&sections, id) else {
         let (before, after) = sections.split_at(place_of(&sections, id));
         return Ok(module_of(before, section, after, alloc)?);
     };
-    let (before, after) = (&sections[..place], &sections[place + 1..]);
     if position == Position::Instead || is_number(id) {
         return Ok(module_of(before, section, after, alloc)?);
     }
-    let payload = joined(position, section, &sections[place], bytes.len(), alloc)?;
+    let payload = joined(position, section, old, bytes.len(), alloc)?;
     let section = RawSection {
         id,
         bytes: &payload,

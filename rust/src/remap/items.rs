@@ -2,11 +2,12 @@
 // The items of sections whose indices are mapped.
 
 use crate::vec::Sink;
+use crate::remap::bodies::remap_bodies;
 use crate::remap::indexed::{Remap, RemapError, mapped, remap_each, remap_numbers};
 use crate::remap::spaces::IndexSpace;
 use crate::alloc::Allocator;
-use crate::base::Standard;
-use crate::reader::{Items, Section, encode_items_in};
+use crate::base::{Refused, Standard};
+use crate::reader::{Items, Section, SectionKind, encode_items, encode_items_in};
 
 /// Maps each index of the items of a section. After an error, some of them are mapped.
 ///
@@ -66,8 +67,40 @@ pub fn remap_items<A: Allocator + Copy, M: Remap>(
     }
 }
 
+/// Returns `true` if the encoding that builders write of items of this kind is minimal in the
+/// standard's grammar too.
+fn is_minimal_when_built(kind: SectionKind) -> bool {
+    !matches!(
+        kind,
+        SectionKind::Bodies
+            | SectionKind::Segments
+            | SectionKind::Elements
+            | SectionKind::Globals
+            | SectionKind::Imports
+            | SectionKind::Tables
+            | SectionKind::Types
+    )
+}
+
+/// Appends the minimal encoding of the items in the standard's grammar. On an error, the sink is
+/// unchanged.
+fn append_items<A: Allocator + Copy, B: Sink>(
+    items: &Items<'_, A>,
+    alloc: A,
+    sink: &mut B,
+) -> Result<(), Refused> {
+    if is_minimal_when_built(items.kind()) {
+        encode_items(items, sink)?;
+    } else {
+        encode_items_in::<Standard, _, _, _>(alloc, items, sink)?;
+    }
+    Ok(())
+}
+
 /// Decodes the items of a section, maps each index, and appends the minimal encoding of the items
 /// as a payload. On an error, the sink is unchanged.
+///
+/// Bodies are decoded, mapped and appended instruction by instruction, and not kept.
 ///
 /// ```text
 /// let mut payload = Vec::new(alloc);
@@ -78,7 +111,8 @@ pub fn remap_items<A: Allocator + Copy, M: Remap>(
 /// # Errors
 ///
 /// Returns `Read` if the section does not decode, `Index` with the error of the map if it rejects an
-/// index, and `Refused` if an encoding is too long or an allocation fails.
+/// index, and `Refused` if an encoding is too long or an allocation fails. In a code section that
+/// does not decode, a rejected index before the first wrong byte is reported instead.
 ///
 /// # Proved
 ///
@@ -99,8 +133,11 @@ pub fn remap_section<A: Allocator + Copy, M: Remap, B: Sink>(
     indices: &M,
     sink: &mut B,
 ) -> Result<(), RemapError<M::Error>> {
+    if let Some(SectionKind::Bodies) = section.kind() {
+        return remap_bodies(section, alloc, indices, sink);
+    }
     let mut items = section.items()?;
     remap_items(&mut items, alloc, indices)?;
-    encode_items_in::<Standard, _, _, _>(alloc, &items, sink)?;
+    append_items(&items, alloc, sink)?;
     Ok(())
 }

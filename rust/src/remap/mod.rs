@@ -2,6 +2,7 @@
 //! The indices of a WebAssembly module, mapped: every place that refers to a function, a type, a
 //! table, a memory, a global, a tag, an element segment or a data segment.
 
+mod bodies;
 mod code;
 mod customs;
 mod imports;
@@ -15,6 +16,7 @@ mod recursive;
 mod sections;
 mod shift;
 mod spaces;
+mod streamed;
 mod types;
 
 pub use code::{Prologue, insert_code};

@@ -29,7 +29,11 @@ fn append_remapped<A: Allocator + Copy, M: Remap>(
 ///
 /// Every section is decoded, and encoded again in its minimal form. Custom sections that hold
 /// offsets would become wrong ([`Offsets`] lists them): with [`Offsets::Refuse`] such a section is
-/// an error, and with [`Offsets::LeaveOut`] it is left out. Other custom sections stay.
+/// an error, whatever the map is, and with [`Offsets::LeaveOut`] it is left out. Other custom
+/// sections stay.
+///
+/// A name is a use of its index. A map that rejects the index of an entity that was removed also
+/// rejects its name: remove the name first.
 ///
 /// # Errors
 ///

@@ -47,14 +47,24 @@ pub(crate) fn sections_of<'a, A: Allocator + Copy>(
     }
 }
 
-/// Returns the place of the first section of this id.
-pub(crate) fn found_at<A: Allocator + Copy>(sections: &[Section<'_, A>], id: u8) -> Option<usize> {
-    let mut place = 0;
-    while place < sections.len() {
-        if sections[place].id() == id {
-            return Some(place);
+/// Returns the sections before the first one of this id, that section, and those after it.
+pub(crate) fn found<'s, 'a, A: Allocator + Copy>(
+    sections: &'s [Section<'a, A>],
+    id: u8,
+) -> Option<
+    (
+        &'s [Section<'a, A>],
+        &'s Section<'a, A>,
+        &'s [Section<'a, A>],
+    ),
+> {
+    let mut at = 0;
+    while at < sections.len() {
+        let section = &sections[at];
+        if section.id() == id {
+            return Some((&sections[..at], section, &sections[at + 1..]));
         }
-        place += 1;
+        at += 1;
     }
     None
 }

@@ -229,6 +229,21 @@ fn spaces() {
     assert_eq!(spaces_of(Op::Prefixed(0xFB, 2)), (Some(Types), None));
 }
 
+/// Each way that an instruction of a body takes.
+#[test]
+fn instructions() {
+    check_section(
+        // A local of a nullable function reference, i32.const in two bytes, f64.const, a lane, a load
+        // of a lane, br_table, return_call, return_call_indirect of a type in two bytes, memory.copy,
+        // a typed select, and blocks of a reference and of a type.
+        "0a 34 01 32 01 01 6370  418000 440000000000000000 fd1500 fd54000000 0e010000 \
+            1200 13800000 fc0a0000 1c016370 0263700b 02000b 0b",
+        // Types and numbers in their minimal encoding, and memory 40 by a flag.
+        "0a 30 01 2e 01 01 70  4100 440000000000000000 fd1500 fd5440400000 0e010000 \
+            1210 132030 fc0a4040 1c0170 02700b 02200b 0b",
+    );
+}
+
 // ---- errors
 
 fn error(
@@ -280,4 +295,28 @@ fn bytes_that_do_not_decode() {
     assert_eq!((unread.cause, unread.offset), (ReadFault::Ended, 21));
     let no_module = error(same, &bytes_of("00"), Offsets::LeaveOut);
     assert!(matches!(no_module, RemapError::Read(_)));
+}
+
+/// Code is mapped while it is decoded.
+#[test]
+fn an_index_before_a_wrong_byte() {
+    let none = |space, index| (space != IndexSpace::Functions).then_some(index);
+    let rejected = error(
+        none,
+        &module(&["0a 06 01 04 00 1000 ff"]),
+        Offsets::LeaveOut,
+    );
+    assert_eq!(rejected, RemapError::Index((IndexSpace::Functions, 0)));
+    let wrong = [
+        ("0a 07 01 05 00 ff 1000 0b", ReadFault::UnknownOpcode, 13),
+        ("0a 07 01 04 00 01010b 0b", ReadFault::SizeMismatch, 16),
+        ("0a 05 02 03 00 010b", ReadFault::Ended, 15),
+        ("0a 04 01 02 0101", ReadFault::Ended, 14),
+    ];
+    for (section, cause, offset) in wrong {
+        let RemapError::Read(unread) = error(none, &module(&[section]), Offsets::LeaveOut) else {
+            panic!("{section}");
+        };
+        assert_eq!((unread.cause, unread.offset), (cause, offset), "{section}");
+    }
 }

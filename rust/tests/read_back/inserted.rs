@@ -77,8 +77,8 @@ pub struct CallsFirst;
 /// closed = { λ _ _. refl }
 /// ```
 impl Prologue for CallsFirst {
-    fn append<A: Sink>(&self, _body: u32, code: &mut A) -> Written<()> {
-        InstructionSink::new(code).call(0)
+    fn append<A: Sink>(&self, _body: u32, sink: &mut A) -> Written<()> {
+        InstructionSink::new(sink).call(0)
     }
 }
 

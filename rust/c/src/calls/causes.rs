@@ -24,7 +24,7 @@ fn fault_text(cause: u32) -> Option<&'static str> {
         9 => Some("NoKind"),
         10 => Some("Offsets"),
         11 => Some("NoIndex"),
-        12 => Some("TooLong"),
+        12 => Some("Overlong"),
         _ => None,
     }
 }

@@ -28,12 +28,14 @@ const NO_KIND: u32 = 9;
 const NONE: u32 = 4294967295;
 
 /// The indices of one space, and the new index of each. Those of other spaces stay.
+#[derive(Clone, Copy)]
 struct Listed<'a> {
     space: IndexSpace,
     indices: &'a [u32],
 }
 
 /// The list has no new index.
+#[derive(Clone, Copy)]
 struct NoIndex;
 
 /// # Defined
@@ -85,7 +87,7 @@ fn space_numbered(space: u32) -> Option<IndexSpace> {
 /// ensures offset { result.0 ≡ place_number error }
 /// ensures cause { result.1 ≡ cause_number error }
 /// ```
-fn cause_of<E>(error: RemapError<E>) -> (u64, u32) {
+fn cause_of<E: Copy>(error: RemapError<E>) -> (u64, u32) {
     match error {
         RemapError::Read(ReadError { cause, offset }) => (offset as u64, number_of(cause)),
         RemapError::Refused(Refused::Memory) => (0, number_of(ReadFault::Memory)),

@@ -348,10 +348,12 @@ fn modules_that_are_refused() {
 }
 
 /// A module of a function that calls itself.
-const CALLS: &[u8] = b"\0asm\x01\0\0\0\x01\x04\x01\x60\0\0\x03\x02\x01\0\x0A\x06\x01\x04\0\x10\0\x0B";
+const CALLS: &[u8] =
+    b"\0asm\x01\0\0\0\x01\x04\x01\x60\0\0\x03\x02\x01\0\x0A\x06\x01\x04\0\x10\0\x0B";
 
 /// The same where it is function 7.
-const SEVENTH: &[u8] = b"\0asm\x01\0\0\0\x01\x04\x01\x60\0\0\x03\x02\x01\0\x0A\x06\x01\x04\0\x10\x07\x0B";
+const SEVENTH: &[u8] =
+    b"\0asm\x01\0\0\0\x01\x04\x01\x60\0\0\x03\x02\x01\0\x0A\x06\x01\x04\0\x10\x07\x0B";
 
 /// Checks the result of a map of the indices of one space, and the content of `room` afterwards.
 fn check_remapped(
@@ -430,7 +432,8 @@ fn check_inserted(
 fn inserted_imports() {
     let rt = crate::host::HostRuntime;
     let alloc = rt.alloc();
-    let called = b"\0asm\x01\0\0\0\x01\x04\x01\x60\0\0\x02\x0C\x01\x04host\x03hit\0\0\x03\x02\x01\0\x0A\x06\x01\x04\0\x10\x01\x0B";
+    let called =
+        b"\0asm\x01\0\0\0\x01\x04\x01\x60\0\0\x02\x0C\x01\x04host\x03hit\0\0\x03\x02\x01\0\x0A\x06\x01\x04\0\x10\x01\x0B";
     let hit: (&[u8], &[u8]) = (CALLS, b"hit");
     check_inserted(&rt, alloc, hit, 0, &mut [9; 40], (40, 0, 0), called);
     check_inserted(&rt, alloc, hit, 0, &mut [9; 3], (40, 0, 0), &[9; 3]);
@@ -497,7 +500,7 @@ const FAULT_TEXTS: [TextRow; 12] = [
     },
     TextRow {
         cause: 12,
-        text: b"TooLong",
+        text: b"Overlong",
     },
 ];
 
