@@ -41,13 +41,15 @@ use Rattle.wasm_reader.specs.declared.kinds.Items.TheVariants as items
 use Rattle.wasm_reader.specs.Outlines.{IsNameOf, kind_at}
 use Rattle.wasm_reader.specs.Shortening.{contains_offsets}
 use Rattle.wasm_base.specs.declared.fault.ReadFault.TheVariants.{Memory}
+use Rattle.wasm_remap.specs.Begun.{AddsBody, EncodeBodies, GainsCode}
+use Rattle.wasm_remap.proofs.BegunLaws.{next_body, none_left, zip_push}
 use Rattle.examples.specs.declared.coverage.CoverageError.{CoverageError}
 use Rattle.examples.specs.declared.coverage.CoverageError.TheVariants as errors
 use Rattle.examples.specs.declared.coverage.Numbers.{Numbers}
 use Rattle.examples.specs.declared.coverage.imports.Space.{Space}
 use Rattle.examples.specs.declared.coverage.imports.Space.TheVariants as spaces
 use Rattle.examples.specs.Coverage.{counting, covered_body, covered_bodies, counter, counter_export, counter_exports, names_counter, has_counter, imported, imported_from, payloads_of, AreImports}
-use Rattle.examples.specs.Coverage.{DecodesOnly, IsKept, row, AreSectionsOf, IsSplit, GainsSections, GainsItems, IsExtended, GainsEncoding, IsJoined, EncodeBodies, AddsBody, KeepsSections, HasNumbers}
+use Rattle.examples.specs.Coverage.{DecodesOnly, IsKept, row, AreSectionsOf, IsSplit, GainsSections, GainsItems, IsExtended, GainsEncoding, KeepsSections, HasNumbers}
 use Rattle.examples.specs.Coverage.{IsMalformed, HasDecoding, IsDecodable, Others, Payloads, sections_of, HasNone, IsCoverable, IsCovered, IsUnfit}
 use Rattle.examples.specs.Coverage.{Follow, HasObstacle, IsReason, IsTaken, Parts}
 
@@ -200,12 +202,6 @@ concat_push : (groups : List (List ImportItem)) (last : List ImportItem) → fla
 concat_push [] last = append-nil last
 concat_push (g ∷ groups) last = ap (λ l. g ++ l) (concat_push groups last) ∙ sym (append_assoc g (flat_map (λ items. items) groups) last)
 
-zip_push : {X Y : Type 0} (R : X → Y → Type 0) (xs : List X) (ys : List Y) (x : X) (y : Y) → AllZip R xs ys → R x y → AllZip R (xs ++ x ∷ []) (ys ++ y ∷ [])
-zip_push R [] [] x y h g = (g, tt)
-zip_push R [] (z ∷ ys) x y h g = absurd h
-zip_push R (z ∷ xs) [] x y h g = absurd h
-zip_push R (z ∷ xs) (w ∷ ys) x y h g = (h.0, zip_push R xs ys x y h.1 g)
-
 pub imports_none : AreImports [] []
 imports_none = record { of_each = []; decode = tt; joined = refl }
 
@@ -331,7 +327,7 @@ counting_encodes index fits =
 
 -- The calls that append them.
 pub counting_gained : (index : ℕ) (old start first second third last new : List ℕ) (result : Result (Unit {0}) Refused) → index < 2 ^ 32 → start ≡ old → first ≡ start ++ utf8_of (GlobalGet index) → second ≡ first ++ utf8_of (I32Const (pos 1)) → third ≡ second ++ utf8_of (Numeric I32Add)
-    → last ≡ appended result third (utf8_of (GlobalSet index)) → new ≡ last → OnOk result (GainsEncoding (members (instruction table)) (counting index) old new)
+    → last ≡ appended result third (utf8_of (GlobalSet index)) → new ≡ last → OnOk result (GainsCode (counting index) old new)
 counting_gained index old start first second third last new (Ok u) fits same a b c d e =
     let get = utf8_of (GlobalGet index) in
     let one = utf8_of (I32Const (pos 1)) in
@@ -345,75 +341,9 @@ counting_gained index old start first second third last new (Ok u) fits same a b
     }
 counting_gained index old start first second third last new (Err f) fits same a b c d e = tt
 
--- The locals, these instructions and the code.
-pub joined_as : (locals : List ℕ) (index : ℕ) (code : List ℕ) {old between new : List ℕ} → old ≡ locals → GainsEncoding (members (instruction table)) (counting index) old between → new ≡ between ++ code → IsJoined locals index code new
-joined_as locals index code a h b = record { added = h.encoding; is = b ∙ ap (λ s. s ++ code) (h.added ∙ ap (λ s. s ++ h.encoding) a) ∙ append_assoc locals h.encoding code; encodes = h.encodes }
-
--- A body that begins with them.
-pub covered_encodes : (bytes locals rest : List ℕ) (runs : List Run) (index : ℕ) (new : List ℕ) (x : Body) → Decodes (vec (pair u32 val_type)) standard bytes runs rest → bytes ≡ locals ++ rest → IsJoined locals index rest new → body standard bytes x → body standard new (covered_body index x)
-covered_encodes bytes locals rest runs index new x d e j h =
-    let parts = h.2 in
-    let same = decodes_same runs_unambiguous d (record { front = parts.front; split = parts.joined; encodes = parts.first }) in
-    let front = append_cancel_right locals parts.front rest (sym e ∙ parts.joined ∙ ap (λ s. parts.front ++ s) (sym same.1)) in (
-      (h.0.0, counting index ++ h.0.1),
-      ap (covered_body index) h.1,
-      record {
-        front = parts.front;
-        back = j.added ++ parts.back;
-        joined = j.is ∙ ap₂ (λ a b. a ++ (j.added ++ b)) front same.1;
-        first = parts.first;
-        second = members_join (instruction table) standard j.added parts.back (counting index) h.0.1 j.encodes parts.second;
-      },
-    )
-
-groups_some : (s : List ℕ) → AreGroups s → 0 < length s
-groups_some [] h = absurd h
-groups_some (b ∷ s) h = omega arith
-
--- Size-prefixed bytes are not empty.
-prefixed_some : {X : Type 0} (F : Format X) (s : List ℕ) (x : X) → size_prefixed F standard s x → 0 < length s
-prefixed_some F s x h = omega (arith, ap length h.joined, length-append h.front h.content, groups_some h.front h.size.groups)
-
--- No bodies are left at the end.
-pub none_left : (bodies : List Body) → members (size_prefixed body) standard [] bodies → bodies ≡ []
-none_left [] h = refl
-none_left (x ∷ bodies) h = absurd (omega (arith, ap length h.2, length-append h.0 h.1, prefixed_some body h.0 x h.3))
-
--- A result of `next` that is an error, or a body.
+-- A result of `next` that is an error.
 pub given_error : {old new : Visiting} {r : Result LocatedBody ReadError} {e : ReadError} → r ≡ Err e → NextBody old (Some r) new → EndsBodies old e new
 given_error {old = old} {new = new} e h = subst (λ z. NextBody old (Some z) new) e h
-
-pub given_body : {old new : Visiting} {r : Result LocatedBody ReadError} {b : LocatedBody} → r ≡ Ok b → NextBody old (Some r) new → GivesBody old b new
-given_body {old = old} {new = new} e h = subst (λ z. NextBody old (Some z) new) e h
-
-given_some : {old new : Visiting} {b : LocatedBody} (g : GivesBody old b new) → 0 < length g.decodes.front
-given_some {b = b} g = prefixed_some any_bytes g.decodes.front b.bytes (size_prefixed_bytes_unambiguous.encodings.included padded standard tt g.decodes.front b.bytes g.decodes.encodes)
-
--- Fewer bytes are left after a body.
-pub body_shrinks : {old new : Visiting} {b : LocatedBody} → GivesBody old b new → length new.rest < length old.rest
-body_shrinks {new = new} g = omega (arith, ap length g.decodes.split, length-append g.decodes.front new.rest, given_some g)
-
--- The next of the bodies has the bytes that the iterator returns.
-pub record HasNext (todo : List Body) (bytes rest : List ℕ) : Type 0 where
-  pub x : Body
-  pub others : List Body
-  pub is : todo ≡ x ∷ others
-  pub decodes : body standard bytes x
-  pub left : members (size_prefixed body) standard rest others
-
-pub next_body : {old new : Visiting} {b : LocatedBody} (todo : List Body) → GivesBody old b new → members (size_prefixed body) standard old.rest todo → HasNext todo b.bytes new.rest
-next_body {old = old} {new = new} {b = b} [] g h = absurd (omega (arith, ap length (sym h ∙ g.decodes.split), length-append g.decodes.front new.rest, given_some g))
-next_body {old = old} {new = new} {b = b} (x ∷ others) g h =
-    let given = size_prefixed_bytes_unambiguous.encodings.included padded standard tt g.decodes.front b.bytes g.decodes.encodes in
-    let sized = h.3 in
-    let same = size_prefixed_bytes_unambiguous.unique standard h.0 g.decodes.front h.1 new.rest sized.content b.bytes (record { front = sized.front; content = sized.content; joined = sized.joined; size = sized.size; encodes = refl }) given (sym h.2 ∙ g.decodes.split) in
-    record {
-      x = x;
-      others = others;
-      is = refl;
-      decodes = subst (λ s. body standard s x) same.0 sized.encodes;
-      left = subst (λ s. members (size_prefixed body) standard s others) same.2 h.4;
-    }
 
 -- The iterator has returned some of the bodies, and the code section has these, covered.
 pub record HasCovered (first : ℕ) (bodies : List Body) (it : Visiting) (entries : List (List ℕ)) (next : ℕ) : Type 0 where

@@ -13,6 +13,7 @@ use Rattle.wasm_insn.specs.declared.numeric.Numeric.TheVariants.{I32Add}
 use Rattle.wasm_reader.specs.Iterating.{Located, end_of}
 use Rattle.wasm_reader.specs.Outlines.{IsSection, bytes_of}
 use Rattle.wasm_reader.specs.Shortening.{contains_offsets}
+use Rattle.wasm_remap.specs.Begun.{begun_body}
 use Rattle.wasm_sections.specs.Words.{ExportItem, export, GlobalItem, global_item, ImportItem, import_format}
 use Rattle.wasm_sections.specs.Imports.{Imported, single, named, alike}
 use Rattle.wasm_sections.specs.declared.import.EntityType.{EntityType}
@@ -36,7 +37,7 @@ counting index =
 
 -- The body with these instructions before its own.
 abbrev pub covered_body : ℕ → Body → Body
-covered_body index x = record { runs = x.runs; code = counting index ++ x.code }
+covered_body index x = begun_body (counting index) x
 
 -- The bodies, which count in `first` and the globals after it, one each.
 abbrev pub covered_bodies : ℕ → List Body → List Body
@@ -315,22 +316,6 @@ pub record GainsEncoding {X : Type 0} (F : Format X) (x : X) (old new : List ℕ
   pub encoding : List ℕ
   pub added : new ≡ old ++ encoding
   pub encodes : F standard encoding x
-
--- The entries of a code section encode these bodies, one each.
-abbrev pub EncodeBodies : List (List ℕ) → List Body → Type 0
-EncodeBodies entries bodies = AllZip (size_prefixed body standard) entries bodies
-
--- The code section gains this body.
-pub record AddsBody (x : Body) (old new : List (List ℕ)) : Type 0 where
-  pub entry : List ℕ
-  pub is : new ≡ old ++ entry ∷ []
-  pub encodes : size_prefixed body standard entry x
-
--- The new body is the locals, instructions that add 1 to the counter, and the code.
-pub record IsJoined (locals : List ℕ) (index : ℕ) (code new : List ℕ) : Type 0 where
-  pub added : List ℕ
-  pub is : new ≡ locals ++ (added ++ code)
-  pub encodes : members (instruction table) standard added (counting index)
 
 -- All sections are kept, and the module gains them.
 pub record KeepsSections (sections : List (ℕ × List ℕ)) (old new : List ℕ) : Type 0 where

@@ -46,7 +46,7 @@ prefixed_some : {X : Type 0} (F : Format X) (s : List ℕ) (x : X) → size_pref
 prefixed_some F s x h = omega (arith, ap length h.joined, length-append h.front h.content, groups_some h.front h.size.groups)
 
 -- No bodies are left at the end.
-none_left : (bodies : List Body) → members (size_prefixed body) standard [] bodies → bodies ≡ []
+pub none_left : (bodies : List Body) → members (size_prefixed body) standard [] bodies → bodies ≡ []
 none_left [] h = refl
 none_left (x ∷ bodies) h = absurd (omega (arith, ap length h.2, length-append h.0 h.1, prefixed_some body h.0 x h.3))
 
@@ -62,14 +62,14 @@ pub body_shrinks : {old new : Visiting} {b : LocatedBody} → GivesBody old b ne
 body_shrinks {new = new} g = omega (arith, ap length g.decodes.split, length-append g.decodes.front new.rest, given_some g)
 
 -- The next of the bodies has the bytes that the iterator returns.
-record HasNext (todo : List Body) (bytes rest : List ℕ) : Type 0 where
-  x : Body
-  others : List Body
-  is : todo ≡ x ∷ others
-  decodes : body standard bytes x
-  left : members (size_prefixed body) standard rest others
+pub record HasNext (todo : List Body) (bytes rest : List ℕ) : Type 0 where
+  pub x : Body
+  pub others : List Body
+  pub is : todo ≡ x ∷ others
+  pub decodes : body standard bytes x
+  pub left : members (size_prefixed body) standard rest others
 
-next_body : {old new : Visiting} {b : LocatedBody} (todo : List Body) → GivesBody old b new → members (size_prefixed body) standard old.rest todo → HasNext todo b.bytes new.rest
+pub next_body : {old new : Visiting} {b : LocatedBody} (todo : List Body) → GivesBody old b new → members (size_prefixed body) standard old.rest todo → HasNext todo b.bytes new.rest
 next_body {old = old} {new = new} {b = b} [] g h = absurd (omega (arith, ap length (sym h ∙ g.decodes.split), length-append g.decodes.front new.rest, given_some g))
 next_body {old = old} {new = new} {b = b} (x ∷ others) g h =
     let given = size_prefixed_bytes_unambiguous.encodings.included padded standard tt g.decodes.front b.bytes g.decodes.encodes in
@@ -91,7 +91,7 @@ begun_push code (y ∷ bodies) first x =
     let f : first + suc (length bodies) ≡ suc first + length bodies = omega arith in
     ap (λ l. begun_body (code first) y ∷ l) (ap (λ n. begun_bodies code (suc first) bodies ++ begun_body (code n) x ∷ []) f ∙ begun_push code bodies (suc first) x)
 
-zip_push : {X Y : Type 0} (R : X → Y → Type 0) (xs : List X) (ys : List Y) (x : X) (y : Y) → AllZip R xs ys → R x y → AllZip R (xs ++ x ∷ []) (ys ++ y ∷ [])
+pub zip_push : {X Y : Type 0} (R : X → Y → Type 0) (xs : List X) (ys : List Y) (x : X) (y : Y) → AllZip R xs ys → R x y → AllZip R (xs ++ x ∷ []) (ys ++ y ∷ [])
 zip_push R [] [] x y h g = (g, tt)
 zip_push R [] (z ∷ ys) x y h g = absurd h
 zip_push R (z ∷ xs) [] x y h g = absurd h

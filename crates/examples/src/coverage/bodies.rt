@@ -1,12 +1,11 @@
 // Bodies that count their calls.
 ghost use Rattle.std.specs.Prelude.{◌≡◌, List, IfOk, IfErr, OnOk};
 ghost use Rattle.wasm_base.specs.Continuing.{RejectsWhole};
-ghost use Rattle.wasm_base.specs.Formats.{members, size_prefixed, vec};
+ghost use Rattle.wasm_base.specs.Formats.{size_prefixed, vec};
 ghost use Rattle.wasm_base.specs.Numbers.{standard};
 ghost use Rattle.wasm_code.specs.Bodies.{Body, body as body_format};
-ghost use Rattle.wasm_insn.specs.Plain.{instruction};
-ghost use Rattle.wasm_insn.specs.Table.{table};
-ghost use Rattle.examples.specs.Coverage.{counting, covered_body, covered_bodies, AddsBody, EncodeBodies, GainsEncoding, IsJoined, IsMalformed, IsUnfit};
+ghost use Rattle.wasm_remap.specs.Begun.{AddsBody, EncodeBodies, GainsCode, IsBegun};
+ghost use Rattle.examples.specs.Coverage.{counting, covered_body, covered_bodies, IsMalformed, IsUnfit};
 
 use super::{CoverageError, memory_at};
 use std::alloc::Allocator;
@@ -17,7 +16,7 @@ use wasm_reader::{CodeBody, Section};
 
 /// Appends the instructions that add 1 to a counter.
 fn append_counting<A: Allocator>(counter: u32, code: &mut Vec<u8, A>) -> Encoded<()>
-    ensures { OnOk result (GainsEncoding (members (instruction table)) (counting counter) code.old.items code.new.items) }
+    ensures { OnOk result (GainsCode (counting counter) code.old.items code.new.items) }
 {
     let mut sink = InstructionSink::new(code);
     sink.global_get(counter)?;
@@ -28,7 +27,7 @@ fn append_counting<A: Allocator>(counter: u32, code: &mut Vec<u8, A>) -> Encoded
 
 /// Returns the locals, the instructions that add 1 to a counter, and the code.
 fn joined<A: Allocator>(locals: &[u8], counter: u32, code: &[u8], alloc: A) -> Encoded<Vec<u8, A>>
-    ensures { IfOk result (λ new. IsJoined locals.now counter code.now new.items) }
+    ensures { IfOk result (λ new. IsBegun locals.now (counting counter) code.now new.items) }
 {
     let mut new = Vec::from_slice(alloc, locals)?;
     append_counting(counter, &mut new)?;

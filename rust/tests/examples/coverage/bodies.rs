@@ -14,7 +14,7 @@ use dolzhytik::reader::{CodeBody, Section};
 /// # Proved
 ///
 /// ```text
-/// ensures { OnOk result (GainsEncoding (members (instruction table)) (counting counter) code.old.items code.new.items) }
+/// ensures { OnOk result (GainsCode (counting counter) code.old.items code.new.items) }
 /// ```
 fn append_counting<A: Sink>(counter: u32, code: &mut A) -> Encoded<()> {
     let mut sink = InstructionSink::new(code);
@@ -29,7 +29,7 @@ fn append_counting<A: Sink>(counter: u32, code: &mut A) -> Encoded<()> {
 /// # Proved
 ///
 /// ```text
-/// ensures { IfOk result (λ new. IsJoined locals.now counter code.now new.items) }
+/// ensures { IfOk result (λ new. IsBegun locals.now (counting counter) code.now new.items) }
 /// ```
 fn joined<A: Allocator>(locals: &[u8], counter: u32, code: &[u8], alloc: A) -> Encoded<Vec<u8, A>> {
     let mut new = Vec::from_slice(alloc, locals)?;
