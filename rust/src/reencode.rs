@@ -63,7 +63,8 @@ macro_rules! section_methods {
 /// decoded: before the error of a later section is returned.
 ///
 /// Without a method of a section, the bytes are those of
-/// [`remap_module`](crate::reader::remap::remap_module). The trait itself is tested, not proved.
+/// [`remap_module`](crate::reader::remap::remap_module). Of several errors, another one may be
+/// returned. The trait itself is tested, not proved.
 ///
 /// # Examples
 ///
