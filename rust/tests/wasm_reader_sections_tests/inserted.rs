@@ -195,6 +195,45 @@ fn places() {
     check_bytes(&rt, &fifth[12..], &[1, 1, 0, 13, 1, 0, 0, 2, 1, b'c']);
 }
 
+/// The first of two sections of an id, and ids that are not lists of the standard.
+#[test]
+fn sections_of_one_id() {
+    let rt = crate::host::HostRuntime;
+    let insert = |bytes: &[u8], section: &RawSection<'_>, position| {
+        insert_section(bytes, rt.alloc(), section, position).expect("a section")
+    };
+    let members = RawSection {
+        id: 1,
+        bytes: &[1, 7],
+    };
+    // Two type sections, the first with a padded size.
+    let two = [0, b'a', b's', b'm', 1, 0, 0, 0, 1, 0x82, 0, 1, 8, 1, 2, 1, 9];
+    let last = insert(&two, &members, Position::Last);
+    check_bytes(&rt, &last[8..], &[1, 3, 2, 8, 7, 1, 2, 1, 9]);
+    let instead = insert(&two, &members, Position::Instead);
+    check_bytes(&rt, &instead[8..], &[1, 2, 1, 7, 1, 2, 1, 9]);
+    let alone = insert(EMPTY, &members, Position::Instead);
+    check_bytes(&rt, &alone[8..], &[1, 2, 1, 7]);
+    // An id that the standard lacks, and a custom section: they have no members.
+    for id in [0, 14] {
+        let section = RawSection {
+            id,
+            bytes: &[1, b'c'],
+        };
+        let once = insert(&two[..13], &section, Position::Instead);
+        let twice = insert(&once, &section, Position::Instead);
+        check_bytes(&rt, &twice[12..], &[id, 2, 1, b'c', id, 2, 1, b'c']);
+    }
+    // The data count is a number, and other sections do not change it.
+    let count = RawSection {
+        id: 12,
+        bytes: &[5],
+    };
+    let counted = insert(EMPTY, &count, Position::First);
+    let counted = insert(&counted, &count, Position::Last);
+    check_bytes(&rt, &counted[8..], &[12, 1, 5]);
+}
+
 #[test]
 fn errors() {
     let rt = crate::host::HostRuntime;
