@@ -1,11 +1,10 @@
 // Written by tools/to-rust from tests/wasm_reader_sections_tests/src/inserted.rtt: change that.
 // Tests of sections and imports that are inserted, with each request for memory refused in turn.
 
-use crate::checks::check_bytes;
+use crate::checks::{check_bytes, is_want_of_memory};
 use crate::read_back::inserted::{with_calls, with_counter, with_hit, with_start};
 use crate::test_support::{MOST, Refusing};
 use dolzhytik::fallible::{RawSection, Refused};
-use dolzhytik::reader::ReadFault;
 use dolzhytik::reader::remap::{IndexTooLarge, Position, RemapError, insert_section};
 
 /// A module whose only function calls itself, is exported and is the start function.
@@ -45,15 +44,6 @@ const TWICE: &[u8] = &[
 const LAST: &[u8] = &[
     0, b'a', b's', b'm', 1, 0, 0, 0, 8, 5, 0xFF, 0xFF, 0xFF, 0xFF, 0x0F,
 ];
-
-/// Returns whether the error is that of a failed allocation.
-fn is_want_of_memory(error: &RemapError<IndexTooLarge>) -> bool {
-    match error {
-        RemapError::Refused(refused) => *refused == Refused::Memory,
-        RemapError::Read(error) => error.cause == ReadFault::Memory,
-        _ => false,
-    }
-}
 
 #[test]
 fn imports() {

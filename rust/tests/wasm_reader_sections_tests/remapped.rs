@@ -1,11 +1,9 @@
 // Written by tools/to-rust from tests/wasm_reader_sections_tests/src/remapped.rtt: change that.
 // Tests of maps of indices, with each request for memory refused in turn.
 
-use crate::checks::check_bytes;
+use crate::checks::{check_bytes, is_want_of_memory};
 use crate::read_back::remapped::{Last, NextFunction, loses_offsets, next_start, payload_with_room, spaces_of_table_copy, with_room};
 use crate::test_support::{MOST, Refusing};
-use dolzhytik::reader::ReadFault;
-use dolzhytik::fallible::Refused;
 use dolzhytik::reader::{Items, Offsets, Sections};
 use dolzhytik::reader::remap::{IndexSpace, RemapError, remap_module};
 
@@ -35,15 +33,6 @@ const NEXT: &[u8] = &[
 const LAST: &[u8] = &[
     0, b'a', b's', b'm', 1, 0, 0, 0, 8, 5, 0xFF, 0xFF, 0xFF, 0xFF, 0x0F,
 ];
-
-/// Returns whether the error is that of a failed allocation.
-fn is_want_of_memory(error: &RemapError<Last>) -> bool {
-    match error {
-        RemapError::Refused(refused) => *refused == Refused::Memory,
-        RemapError::Read(error) => error.cause == ReadFault::Memory,
-        _ => false,
-    }
-}
 
 #[test]
 fn modules() {
