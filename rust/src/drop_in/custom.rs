@@ -1,7 +1,7 @@
 //! Custom sections, and the lists that they hold.
 use super::bytes::append;
 use super::debug::{self, Before, debugged};
-use super::{Encode, copied, default, encoded, identified, section, taken};
+use super::{CustomSection, Encode, copied, default, encoded, identified, section, taken};
 use crate::base::{CowSlice, CowStr};
 use crate::custom::{self, joined};
 use crate::ending::Root;
@@ -9,15 +9,6 @@ use alloc_crate::borrow::Cow;
 use alloc_crate::string::String;
 use alloc_crate::vec::Vec;
 use core::fmt;
-
-#[doc = text!(CustomSection)]
-#[derive(Clone, Debug, PartialEq)]
-pub struct CustomSection<'a> {
-    /// The name of the section.
-    pub name: Cow<'a, str>,
-    /// The bytes after the name.
-    pub data: Cow<'a, [u8]>,
-}
 
 /// Encodes the size prefix, the name and the data.
 impl Encode for CustomSection<'_> {

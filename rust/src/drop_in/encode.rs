@@ -1,7 +1,7 @@
 //! The traits of values and sections that have an encoding.
 use super::bytes::append;
 use super::short::{put_number, put_short};
-use super::{done, identified};
+use super::{SectionId, done, identified};
 use crate::base;
 use crate::base::{AbstractHeapType, HeapType, RefType, ValType};
 use crate::custom::{CoreDumpValue, RawCustomSection};
@@ -9,7 +9,10 @@ use crate::ending::Growing;
 use crate::immediates::{
     BlockType, Catch, Handle, Ieee32, Ieee64, MemArg, MemArgOrdering, Ordering,
 };
-use crate::sections::{DataCountSection, GlobalType, MemoryType, StartSection, TableType};
+use crate::sections::{
+    DataCountSection, EntityType, ExportKind, GlobalType, MemoryType, StartSection, TableType,
+    TagType,
+};
 use crate::types::{ArrayType, ContType, FieldType, StorageType};
 use alloc_crate::vec::Vec;
 
@@ -26,7 +29,7 @@ pub trait Encode {
 
 #[doc = text!(Section)]
 pub trait Section: Encode {
-    /// Returns the id of the section: that of a [`SectionId`](super::SectionId), or another one.
+    /// Returns the id of the section: that of a [`SectionId`], or another one.
     fn id(&self) -> u8;
 
     /// Appends the id and the encoding.
@@ -57,7 +60,7 @@ macro_rules! hands_on {
 hands_on! { u8 u64 usize }
 hands_on! { AbstractHeapType HeapType RefType ValType StorageType FieldType ArrayType ContType }
 hands_on! { BlockType Catch Handle Ieee32 Ieee64 MemArg MemArgOrdering Ordering }
-hands_on! { GlobalType MemoryType TableType CoreDumpValue }
+hands_on! { EntityType ExportKind GlobalType MemoryType TableType TagType CoreDumpValue }
 hands_on! { RawCustomSection<'_> }
 
 /// Implements `Encode` of numbers, and of sections of one number, by the proved `encode`. A short
@@ -112,6 +115,21 @@ impl<T: Encode> Encode for Option<T> {
         if let Some(value) = self {
             value.encode(sink);
         }
+    }
+}
+
+impl From<SectionId> for u8 {
+    #[inline]
+    fn from(id: SectionId) -> u8 {
+        id as u8
+    }
+}
+
+/// Encodes the id as one byte.
+impl Encode for SectionId {
+    #[inline]
+    fn encode(&self, sink: &mut Vec<u8>) {
+        u8::from(*self).encode(sink);
     }
 }
 

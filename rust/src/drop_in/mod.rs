@@ -14,8 +14,9 @@
 //! items of any type. Nothing of this is proved; it is tested. Code by hand appends bytes by proved
 //! calls: `tools/drop-in` has the exceptions.
 //!
-//! Values that the proved calls take are the same types here. The enums of `kinds` and `imports`
-//! are not: they have the crate's cases and sizes, and `From` both ways.
+//! Values that the proved calls take are the same types here. Those that hold a list or a constant
+//! expression are not: they have the crate's lists, and are written from the proved types by
+//! `tools/root-types.tsv` (`own_types`).
 //!
 //! An error of a proved call ends here as in the crate: a panic where a count, run or length would
 //! pass 4294967295, and [`handle_alloc_error`] where an allocation fails. Sinks whose calls never
@@ -36,11 +37,12 @@ mod encode;
 mod imports;
 #[rustfmt::skip]
 mod instruction;
-mod kinds;
 mod later;
 mod module;
 #[rustfmt::skip]
 mod names;
+#[rustfmt::skip]
+mod own_types;
 #[rustfmt::skip]
 mod root_calls;
 mod sections;
@@ -175,58 +177,6 @@ macro_rules! by_proved {
     };
 }
 
-/// Implements the conversions between an enum and the proved one of its name, by pairs of cases. The
-/// numbers and the values of both are the same, so that a conversion compiles to nothing.
-macro_rules! same_cases {
-    ($($name:ident of $module:ident { $($case:ident $(($value:ident))? = $proved:ident),* })*) => {
-        $(
-            impl From<$name> for $module::$name {
-                #[inline]
-                fn from(value: $name) -> Self {
-                    match value {
-                        $($name::$case $(($value))? => Self::$proved $(($value.into()))?,)*
-                    }
-                }
-            }
-
-            impl From<$module::$name> for $name {
-                #[inline]
-                fn from(value: $module::$name) -> Self {
-                    match value {
-                        $($module::$name::$proved $(($value))? => Self::$case $(($value.into()))?,)*
-                    }
-                }
-            }
-        )*
-    };
-}
-
-/// Implements the conversions between a struct and the proved one of its name, which has the same
-/// fields: both, or the one `to` the proved struct.
-macro_rules! same_fields {
-    ([$($life:lifetime)?] $from:ty => $to:ty { $($field:ident),* }) => {
-        impl<$($life)?> From<$from> for $to {
-            #[inline]
-            fn from(value: $from) -> Self {
-                Self { $($field: value.$field.into()),* }
-            }
-        }
-    };
-    ($($name:ident to $module:ident $fields:tt)*) => {
-        $($crate::drop_in::same_fields! { [] $name => $module::$name $fields })*
-    };
-    ($($name:ident $(<$life:lifetime>)? of $module:ident $fields:tt)*) => {
-        $(
-            $crate::drop_in::same_fields! {
-                [$($life)?] $name $(<$life>)? => $module::$name $(<$life>)? $fields
-            }
-            $crate::drop_in::same_fields! {
-                [$($life)?] $module::$name $(<$life>)? => $name $(<$life>)? $fields
-            }
-        )*
-    };
-}
-
 /// Implements `Section` by the id of a section.
 macro_rules! identified {
     ($($name:ty: $id:ident),*) => {
@@ -290,7 +240,4 @@ macro_rules! listed {
     };
 }
 
-use {
-    by_proved, copied, default, encoded, identified, listed, same_cases, same_fields, section,
-    taken,
-};
+use {by_proved, copied, default, encoded, identified, listed, section, taken};

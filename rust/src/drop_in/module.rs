@@ -1,6 +1,6 @@
 //! Modules, and sections of raw bytes.
 use super::bytes::append;
-use super::{Encode, Section, copied, default};
+use super::{Encode, RawSection, Section, copied, default};
 use crate::base;
 use crate::code::const_expr::Stored;
 use crate::ending::Root;
@@ -79,15 +79,6 @@ impl From<base::Module> for Module {
             bytes: built.bytes.into_ending(),
         })
     }
-}
-
-#[doc = text!(RawSection)]
-#[derive(Clone, Copy, Debug)]
-pub struct RawSection<'a> {
-    /// The id of the section.
-    pub id: u8,
-    /// The payload of the section, without its size prefix.
-    pub data: &'a [u8],
 }
 
 impl<'a> RawSection<'a> {

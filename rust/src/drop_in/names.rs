@@ -43,7 +43,13 @@ pub use crate::immediates::MemArgTarget;
 pub use crate::immediates::Ordering;
 #[doc(alias = "bulk memory")]
 pub use crate::sections::DataCountSection;
+#[doc(alias = "externtype")]
+#[doc(alias = "extern type")]
+pub use crate::sections::EntityType;
+pub use crate::sections::ExportKind;
 pub use crate::sections::GlobalType;
+pub use crate::sections::Import;
+pub use crate::sections::ImportCompact;
 #[doc(alias = "memory64")]
 #[doc(alias = "custom page sizes")]
 #[doc(alias = "limits")]
@@ -52,6 +58,9 @@ pub use crate::sections::StartSection;
 #[doc(alias = "table64")]
 #[doc(alias = "limits")]
 pub use crate::sections::TableType;
+#[doc(alias = "exception handling")]
+pub use crate::sections::TagKind;
+pub use crate::sections::TagType;
 #[doc(alias = "gc")]
 pub use crate::types::ArrayType;
 #[doc(alias = "stack switching")]
@@ -87,10 +96,6 @@ pub use super::custom::CoreDumpSection;
 #[doc(alias = "coredump")]
 #[doc(alias = "backtrace")]
 pub use super::custom::CoreDumpStackSection;
-#[doc(alias = "metadata")]
-#[doc(alias = "dwarf")]
-#[doc(alias = "custom section")]
-pub use super::custom::CustomSection;
 #[doc(alias = "object file")]
 #[doc(alias = "linker")]
 #[doc(alias = "linking section")]
@@ -114,13 +119,6 @@ pub use super::encode::Encode;
 pub use super::encode::Section;
 pub use super::encode::encode_section;
 pub use super::encode::encode_vec;
-#[doc(alias = "externtype")]
-#[doc(alias = "extern type")]
-pub use super::imports::EntityType;
-#[doc(alias = "compact imports")]
-pub use super::imports::Imports;
-pub use super::imports::Import;
-pub use super::imports::ImportCompact;
 #[doc(alias = "opcode")]
 #[doc(alias = "operator")]
 #[doc(alias = "mnemonic")]
@@ -130,15 +128,29 @@ pub use super::imports::ImportCompact;
 #[doc(alias = "tail call")]
 #[doc(alias = "bulk memory")]
 pub use super::instruction::Instruction;
-#[doc(alias = "exception handling")]
-pub use super::kinds::TagKind;
-pub use super::kinds::ExportKind;
-pub use super::kinds::SectionId;
-pub use super::kinds::TagType;
 #[doc(alias = "wasm")]
 #[doc(alias = "encoder")]
 pub use super::module::Module;
-pub use super::module::RawSection;
+pub use super::own_types::CompositeInnerType;
+pub use super::own_types::CompositeType;
+#[doc(alias = "metadata")]
+#[doc(alias = "dwarf")]
+#[doc(alias = "custom section")]
+pub use super::own_types::CustomSection;
+pub use super::own_types::DataSegment;
+pub use super::own_types::DataSegmentMode;
+pub use super::own_types::ElementMode;
+pub use super::own_types::ElementSegment;
+pub use super::own_types::Elements;
+#[doc(alias = "compact imports")]
+pub use super::own_types::Imports;
+pub use super::own_types::RawSection;
+pub use super::own_types::SectionId;
+#[doc(alias = "gc")]
+pub use super::own_types::StructType;
+#[doc(alias = "gc")]
+#[doc(alias = "supertype")]
+pub use super::own_types::SubType;
 #[doc(alias = "data section")]
 pub use super::sections::DataSection;
 #[doc(alias = "elem")]
@@ -165,23 +177,11 @@ pub use super::sections::TableSection;
 #[doc(alias = "event")]
 #[doc(alias = "tag section")]
 pub use super::sections::TagSection;
-pub use super::sections::DataSegment;
-pub use super::sections::DataSegmentMode;
-pub use super::sections::ElementMode;
-pub use super::sections::ElementSegment;
-pub use super::sections::Elements;
 #[doc(alias = "signature")]
 #[doc(alias = "functype")]
 pub use super::types::FuncType;
 #[doc(alias = "gc")]
-pub use super::types::StructType;
-#[doc(alias = "gc")]
-#[doc(alias = "supertype")]
-pub use super::types::SubType;
-#[doc(alias = "gc")]
 #[doc(alias = "rectype")]
 #[doc(alias = "type section")]
 pub use super::types::TypeSection;
-pub use super::types::CompositeInnerType;
-pub use super::types::CompositeType;
 pub use super::types::CoreTypeEncoder;

@@ -15,7 +15,6 @@ use super::{
 use super::bytes::Bytes;
 use super::const_expr::encodings;
 use super::custom::MARK;
-use super::imports::Group;
 use super::later::Later;
 use super::sections::{Front, Given};
 use crate::{base, code, custom, types};
@@ -318,7 +317,7 @@ impl TagSection {
     ///
     /// Definitions: [`AddsTo`](crate::definitions::base::calls::AddsTo), [`tag_encoding`](crate::definitions::sections::tags::tag_encoding). [How to read clauses](crate::definitions).
     pub fn tag(&mut self, tag_type: TagType) -> &mut Self {
-        done(self.0.tag(tag_type.into()));
+        done(self.0.tag(tag_type));
         self
     }
 }
@@ -475,7 +474,7 @@ impl ExportSection {
     ///
     /// Definitions: [`AddsTo`](crate::definitions::base::calls::AddsTo), [`size_prefixed_encoding`](crate::definitions::base::encodings::size_prefixed_encoding), [`kind_code`](crate::definitions::sections::exports::kind_code), [`unsigned_encoding`](crate::definitions::base::numbers::unsigned_encoding), [`HasEncodableSize`](crate::definitions::base::encodings::HasEncodableSize). [How to read clauses](crate::definitions).
     pub fn export(&mut self, name: &str, kind: ExportKind, index: u32) -> &mut Self {
-        done(self.0.export(name, kind.into(), index));
+        done(self.0.export(name, kind, index));
         self
     }
 }
@@ -526,9 +525,9 @@ impl ImportSection {
     /// # Proved
     ///
     /// The contract of
-    /// [`fallible::ImportSection::imports`](crate::fallible::ImportSection#method.imports). This
-    /// call does the same, as tests show. Where that returns an error, this call panics. In the
-    /// clauses, `S` is [`Entries`](crate::fallible::Entries).
+    /// [`fallible::ImportSection::imports`](crate::fallible::ImportSection#method.imports), which
+    /// this call makes. Where that returns an error, this call panics. In the clauses, `S` is
+    /// [`Entries`](crate::fallible::Entries).
     ///
     /// The builder gains one entry with this encoding, or the call returns an error and changes nothing. A full builder, with 2^32 - 1 entries, returns `TooLong`.
     ///
@@ -539,7 +538,7 @@ impl ImportSection {
     ///
     /// Definitions: [`AddsTo`](crate::definitions::base::calls::AddsTo), [`import_encoding`](crate::definitions::sections::imports::import_encoding), [`imports_item`](crate::definitions::sections::imports::imports_item), [`IsEncodableImport`](crate::definitions::sections::imports::IsEncodableImport). [How to read clauses](crate::definitions).
     pub fn imports<'a>(&mut self, imports: Imports<'a>) -> &mut Self {
-        done(self.0.add_record(&Group(imports)));
+        done(self.0.imports(imports.into()));
         self
     }
 
@@ -555,9 +554,9 @@ impl ImportSection {
     /// # Proved
     ///
     /// The contract of
-    /// [`fallible::ImportSection::import`](crate::fallible::ImportSection#method.import). This call
-    /// does the same, as tests show. Where that returns an error, this call panics. In the clauses,
-    /// `S` is [`Entries`](crate::fallible::Entries).
+    /// [`fallible::ImportSection::import`](crate::fallible::ImportSection#method.import), which
+    /// this call makes. Where that returns an error, this call panics. In the clauses, `S` is
+    /// [`Entries`](crate::fallible::Entries).
     ///
     /// The builder gains one entry with this encoding, or the call returns an error and changes nothing. A full builder, with 2^32 - 1 entries, returns `TooLong`.
     ///
@@ -572,7 +571,10 @@ impl ImportSection {
     /// Definitions: [`AddsTo`](crate::definitions::base::calls::AddsTo), [`size_prefixed_encoding`](crate::definitions::base::encodings::size_prefixed_encoding), [`entity_encoding`](crate::definitions::sections::imports::entity_encoding), [`HasEncodableSize`](crate::definitions::base::encodings::HasEncodableSize). [How to read clauses](crate::definitions).
     #[inline]
     pub fn import(&mut self, module: &str, name: &str, ty: impl Into<EntityType>) -> &mut Self {
-        self.single(module, name, ty.into());
+        fn add(of: &mut ImportSection, module: &str, name: &str, ty: EntityType) {
+            done(of.0.import(module, name, ty));
+        }
+        add(self, module, name, ty.into());
         self
     }
 }

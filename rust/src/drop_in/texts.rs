@@ -308,55 +308,6 @@ ConstExpr::global_get(0).with_i32_const(8).with_i32_add().encode(&mut bytes);
 assert_eq!(bytes, [0x23, 0x00, 0x41, 0x08, 0x6A, 0x0B]);
 ```"##
     };
-    (EntityType) => {
-        r##"The type of an imported item, which [`ImportSection::import`](super::ImportSection::import) takes.
-
-[`TableType`](super::TableType), [`MemoryType`](super::MemoryType), [`GlobalType`](super::GlobalType) and [`TagType`](super::TagType) convert to it, so that the call takes them too. The core specification defines it as `externtype`, in Types, External Types.
-
-```
-use dolzhytik::{Encode, EntityType, ImportSection, TagKind, TagType};
-
-let mut imports = ImportSection::new();
-imports.import("m", "f", EntityType::Function(5));
-imports.import("m", "t", TagType { kind: TagKind::Exception, func_type_idx: 6 });
-let mut bytes = Vec::new();
-imports.encode(&mut bytes);
-// Size 14, two imports: "m", "f", a function (00) of type 5; "m", "t", a tag (04 00) of type 6.
-assert_eq!(bytes, *b"\x0E\x02\x01m\x01f\0\x05\x01m\x01t\x04\0\x06");
-```"##
-    };
-    (Import) => {
-        r##"An import: the names of a module and of an item, and the item's type. It is a case of [`Imports`](super::Imports).
-
-[`ImportSection::import`](super::ImportSection::import) takes the fields instead.
-
-```
-use dolzhytik::{Encode, EntityType, Import, ImportSection, Imports};
-
-let mut imports = ImportSection::new();
-let import = Import { module: "m", name: "f", ty: EntityType::Function(5) };
-imports.imports(Imports::Single(import));
-let mut bytes = Vec::new();
-imports.encode(&mut bytes);
-// Size 7, one import: "m", "f", a function (00) of type 5.
-assert_eq!(bytes, *b"\x07\x01\x01m\x01f\0\x05");
-```"##
-    };
-    (ImportCompact) => {
-        r##"An item of [`Imports::Compact1`](super::Imports::Compact1): its name, and its type.
-
-```
-use dolzhytik::{Encode, EntityType, ImportCompact, ImportSection, Imports};
-
-let mut imports = ImportSection::new();
-let items = vec![ImportCompact { name: "f", ty: EntityType::Function(5) }];
-imports.imports(Imports::Compact1 { module: "m", items: items.into() });
-let mut bytes = Vec::new();
-imports.encode(&mut bytes);
-// Size 10, one entry: "m", an empty name and 7F, one item: "f", a function (00) of type 5.
-assert_eq!(bytes, *b"\x0A\x01\x01m\0\x7F\x01\x01f\0\x05");
-```"##
-    };
     (Imports) => {
         r##"An entry of the import section, which [`ImportSection::imports`](super::ImportSection::imports) takes: one import, or several of one module.
 
@@ -388,44 +339,6 @@ use dolzhytik::SectionId::{self, *};
 assert_eq!(Type as u8, 1);
 assert_eq!(u8::from(SectionId::DataCount), 12);
 assert!([Import, Function].iter().all(|id| *id < Code));
-```"##
-    };
-    (ExportKind) => {
-        r##"The kind of an exported item, which [`ExportSection::export`](super::ExportSection::export) takes.
-
-Core specification, Modules, Export Section.
-
-```
-use dolzhytik::ExportKind;
-
-assert_eq!(ExportKind::Memory as u8, 2);
-```"##
-    };
-    (TagKind) => {
-        r##"The kind of a tag, a field of [`TagType`](super::TagType). Exceptions are the only kind.
-
-```
-use dolzhytik::{Encode, TagKind, TagSection, TagType};
-
-let mut tags = TagSection::new();
-tags.tag(TagType { kind: TagKind::Exception, func_type_idx: 5 });
-let mut bytes = Vec::new();
-tags.encode(&mut bytes);
-// Size 3, one tag: an exception (00) of type 5.
-assert_eq!(bytes, [3, 1, 0x00, 5]);
-```"##
-    };
-    (TagType) => {
-        r##"The type of a tag, which [`TagSection::tag`](super::TagSection::tag) takes, and [`EntityType::Tag`](super::EntityType::Tag) for an imported one.
-
-Core specification, Types, Tag Types.
-
-```
-use dolzhytik::{TagKind, TagSection, TagType};
-
-let mut tags = TagSection::new();
-tags.tag(TagType { kind: TagKind::Exception, func_type_idx: 0 });
-assert_eq!(tags.len(), 1);
 ```"##
     };
     (ImportSection) => {

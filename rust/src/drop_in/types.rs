@@ -1,12 +1,11 @@
 //! The type section, and the types that a module defines.
-use super::{NONE, by_proved, copied, encoded, listed, same_fields, taken};
+use super::{CompositeInnerType, CompositeType, NONE, StructType, SubType};
+use super::{by_proved, copied, encoded, listed, taken};
 use crate::base::Entries;
 use crate::ending::Root;
 use crate::types;
 use crate::types::joined;
 use crate::types::type_section::{CoreTypeEncoderIn, TypeSectionIn};
-use crate::types::{ArrayType, ContType, FieldType};
-use alloc_crate::boxed::Box;
 use core::fmt;
 use core::hash::{Hash, Hasher};
 
@@ -41,50 +40,6 @@ impl Hash for FuncType {
     }
 }
 
-#[doc = text!(StructType)]
-#[derive(Clone, Debug, PartialEq, Eq, Hash)]
-pub struct StructType {
-    /// The types of its fields.
-    pub fields: Box<[FieldType]>,
-}
-
-#[doc = text!(CompositeInnerType)]
-#[derive(Clone, Debug, PartialEq, Eq, Hash)]
-pub enum CompositeInnerType {
-    /// A function type, byte 60.
-    Func(FuncType),
-    /// An array type, byte 5E.
-    Array(ArrayType),
-    /// A structure type, byte 5F.
-    Struct(StructType),
-    /// A continuation type, byte 5D, by the stack switching proposal.
-    Cont(ContType),
-}
-
-#[doc = text!(CompositeType)]
-#[derive(Clone, Debug, PartialEq, Eq, Hash)]
-pub struct CompositeType {
-    /// The function, array, structure or continuation type.
-    pub inner: CompositeInnerType,
-    /// Whether threads share its values, by the shared-everything threads proposal.
-    pub shared: bool,
-    /// The index of the type that describes it, by the custom descriptors proposal.
-    pub descriptor: Option<u32>,
-    /// The index of the type that it describes, by the custom descriptors proposal.
-    pub describes: Option<u32>,
-}
-
-#[doc = text!(SubType)]
-#[derive(Clone, Debug, PartialEq, Eq, Hash)]
-pub struct SubType {
-    /// Whether it is final, so that it can have no subtypes.
-    pub is_final: bool,
-    /// The index of its supertype.
-    pub supertype_idx: Option<u32>,
-    /// The composite type.
-    pub composite_type: CompositeType,
-}
-
 // Conversions to the types that the proved calls take. Nothing is copied.
 
 impl From<StructType> for types::StructType {
@@ -104,11 +59,6 @@ impl From<CompositeInnerType> for types::CompositeInnerType {
             CompositeInnerType::Cont(ty) => types::CompositeInnerType::Cont(ty),
         }
     }
-}
-
-same_fields! {
-    CompositeType to types { inner, shared, descriptor, describes }
-    SubType to types { is_final, supertype_idx, composite_type }
 }
 
 by_proved! { types: StructType CompositeInnerType CompositeType SubType }

@@ -36,9 +36,8 @@ pub type ExportSection<A = Global> = CountedSection<ExportItems, Pieces<A>>;
 #[derive(Clone, Copy, Debug)]
 pub struct ExportItems;
 
-/// The kind of an exported item.
-///
-/// [`ExportKind`](crate::ExportKind) of the root converts from it and to it.
+/// [`ExportSection::export`](crate::ExportSection::export) takes it. Core specification,
+/// Modules, Export Section.
 ///
 /// # Examples
 ///

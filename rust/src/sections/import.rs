@@ -41,10 +41,8 @@ pub type ImportSection<A = Global> = CountedSection<ImportItems, Pieces<A>>;
 #[derive(Clone, Copy, Debug)]
 pub struct ImportItems;
 
-/// The type of an imported item.
-///
-/// [`ImportSection::import`](crate::fallible::ImportSection) takes it.
-/// [`EntityType`](crate::EntityType) of the root converts from it and to it.
+/// [`ImportSection::import`](crate::ImportSection::import) takes it. The types of tables,
+/// memories, globals and tags convert to it. Core specification, Types, External Types.
 ///
 /// # Examples
 ///
@@ -151,8 +149,6 @@ impl Encode for EntityType {
     }
 }
 
-/// An import: the names of a module and of an item in it, and the item's type.
-///
 /// # Examples
 ///
 /// ```
@@ -175,8 +171,6 @@ pub struct Import<'a> {
     pub ty: EntityType,
 }
 
-/// An item of a group of imports, which names the module once.
-///
 /// It is an item of [`Imports::Compact1`](crate::fallible::Imports::Compact1).
 ///
 /// # Examples

@@ -36,8 +36,6 @@ pub type TagSection<A = Global> = CountedSection<TagItems, Pieces<A>>;
 #[derive(Clone, Copy, Debug)]
 pub struct TagItems;
 
-/// The kind of a tag. The standard has exceptions only.
-///
 /// It is a field of [`TagType`](crate::fallible::TagType).
 ///
 /// # Examples
@@ -52,13 +50,12 @@ pub struct TagItems;
 /// # Ok::<(), dolzhytik::fallible::Refused>(())
 /// ```
 #[derive(Clone, Copy, PartialEq, Eq, Debug)]
+#[repr(u8)]
 pub enum TagKind {
     /// An exception: 00.
     Exception,
 }
 
-/// The type of a tag.
-///
 /// [`TagSection`](crate::fallible::TagSection) takes it in `tag`, and
 /// [`Items::Tags`](crate::reader::Items::Tags) has them.
 ///

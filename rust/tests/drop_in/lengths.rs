@@ -148,19 +148,16 @@ fn sections_come_of_proved_ones() -> Result<()> {
     comes_of!(memories => MemorySection);
     let mut tags = fallible::TagSection::new(Global);
     let kind = TagKind::Exception;
-    tags.tag(
-        TagType {
-            kind,
-            func_type_idx: 9,
-        }
-        .into(),
-    )?;
+    tags.tag(TagType {
+        kind,
+        func_type_idx: 9,
+    })?;
     comes_of!(tags => TagSection);
     let mut globals = fallible::GlobalSection::new(Global);
     globals.global(GLOBAL, &init)?;
     comes_of!(globals => GlobalSection);
     let mut exports = fallible::ExportSection::new(Global);
-    exports.export("f", ExportKind::Func.into(), 300)?;
+    exports.export("f", ExportKind::Func, 300)?;
     comes_of!(exports => ExportSection);
     let mut elements = fallible::ElementSection::new(Global);
     elements.passive(fallible::Elements::<Global>::Functions(vec_of(&[1, 2])))?;

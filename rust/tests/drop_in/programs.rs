@@ -199,6 +199,7 @@ mod beside_proved_values {
         assert_eq!(T::from(proved), value);
     }
 
+    /// Conversions of values that are the same at the root keep their names too.
     #[test]
     fn conversions_keep_the_case() {
         both_ways(SectionId::Type, fallible::SectionId::Types);
@@ -220,31 +221,25 @@ mod beside_proved_values {
             },
             proved,
         );
-        both_ways(
-            EntityType::Tag(proved.into()),
-            fallible::EntityType::Tag(proved),
-        );
+        both_ways(EntityType::Tag(proved), fallible::EntityType::Tag(proved));
         let import = fallible::Import {
             module: "m",
             name: "t",
             ty: proved.into(),
         };
-        let Import { module, name, ty } = import.into();
-        assert_eq!(
-            (module, name, ty),
-            ("m", "t", EntityType::Tag(proved.into()))
-        );
+        let Import { module, name, ty } = import;
+        assert_eq!((module, name, ty), ("m", "t", EntityType::Tag(proved)));
         let item = fallible::ImportCompact {
             name: "t",
             ty: proved.into(),
         };
-        let ImportCompact { name, ty } = item.into();
-        assert_eq!((name, ty), ("t", EntityType::Tag(proved.into())));
+        let ImportCompact { name, ty } = item;
+        assert_eq!((name, ty), ("t", EntityType::Tag(proved)));
     }
 
     /// Both have the same ids, and a conversion keeps the id.
     #[test]
-    fn all_ids_and_kinds_are_the_same() {
+    fn all_ids_are_the_same() {
         use SectionId::*;
         let ids = [
             Custom, Type, Import, Function, Table, Memory, Global, Export, Start, Element, Code,
@@ -254,17 +249,6 @@ mod beside_proved_values {
         for id in ids {
             let proved = fallible::SectionId::from(id);
             assert_eq!((proved as u8, SectionId::from(proved)), (id as u8, id));
-        }
-        let kinds = [
-            ExportKind::Func,
-            ExportKind::Table,
-            ExportKind::Memory,
-            ExportKind::Global,
-            ExportKind::Tag,
-        ];
-        for kind in kinds {
-            let proved = fallible::ExportKind::from(kind);
-            assert_eq!((proved as u8, ExportKind::from(proved)), (kind as u8, kind));
         }
     }
 }

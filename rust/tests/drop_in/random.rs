@@ -304,7 +304,7 @@ fn records() -> Result<()> {
     same::<ImportSection, _>(it, fallible::ImportSection::new, |it, root, proved| {
         let (module, name, ty) = (it.name(), it.name(), it.entity_type());
         root.import(&module, &name, ty);
-        proved.import(&module, &name, ty.into())
+        proved.import(&module, &name, ty)
     })?;
     same::<FunctionSection, _>(it, fallible::FunctionSection::new, |it, root, proved| {
         let index = it.next();
@@ -319,12 +319,12 @@ fn records() -> Result<()> {
     same::<TagSection, _>(it, fallible::TagSection::new, |it, root, proved| {
         let ty = it.tag_type();
         root.tag(ty);
-        proved.tag(ty.into())
+        proved.tag(ty)
     })?;
     same::<ExportSection, _>(it, fallible::ExportSection::new, |it, root, proved| {
         let (name, index) = (it.name(), it.next());
         root.export(&name, ExportKind::Global, index);
-        proved.export(&name, ExportKind::Global.into(), index)
+        proved.export(&name, ExportKind::Global, index)
     })
 }
 

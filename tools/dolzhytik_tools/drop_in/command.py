@@ -10,12 +10,13 @@ from ..errors import Stop
 from ..instructions.table import TABLE
 from ..repository import TOP, text_of
 from ..to_rust.beside import parsed
-from . import exports, root_table
+from . import exports, own_types, root_table
 from .calls_file import calls_file
 from .cases import proved_calls, read
 from .enum_file import instruction_file
 from .own_bytes import check_writes
-from .proved import SOURCES, Layer, layer
+from .own_types import own_types_file
+from .proved import MODULES, SOURCES, Layer, layer
 from .root_file import root_file
 from .root_table import calls_of
 from .test_file import test_file
@@ -37,8 +38,11 @@ def root_files(top: pathlib.Path) -> dict[str, str]:
     root = frozenset(it.name for it in named)
     rows = root_table.read(text_of(top / root_table.TABLE), root)
     known = {(it.owner.name, it.name) for text in by_hand(top).values() for it in Layer([text]).calls}
+    folders = {it: [text_of(path) for path in sorted((top / SOURCES / it).glob("*.rs"))] for it in MODULES}
+    own = own_types.read(text_of(top / own_types.TABLE))
     return {
         "rust/src/drop_in/names.rs": exports.names_file(named),
+        "rust/src/drop_in/own_types.rs": own_types_file(own, folders, root),
         "rust/src/drop_in/root_calls.rs": root_file(calls_of(rows, layer(top), known), texts, root),
         "rust/src/drop_in/texts.rs": exports.texts_file(named, texts),
     }

@@ -138,8 +138,28 @@ def signature(row: Row) -> str:
     return line + "\n    where\n%s    {\n" % "".join("        %s,\n" % it for it in row.bounds)
 
 
+def converting(row: Row) -> list[Parameter]:
+    """Returns the parameters of a call by `&mut self` that it converts by `into()`."""
+    return [it for it in row.parameters if row.receiver == "&mut self" and it.ty.startswith("impl Into<")]
+
+
+def body_once(row: Row) -> str:
+    """Returns the body of a call that converts: the rest is a function of its own, which is compiled
+    in the package, and not for each type in the user's crate."""
+    expression = row.expression.replace("self.", "of.")
+    types = {it.name: it.ty[len("impl Into<") : -1] for it in converting(row)}
+    for name in types:
+        expression = expression.replace(name + ".into()", name)
+    given = "".join(", %s: %s" % (it.name, types.get(it.name, it.ty)) for it in row.parameters)
+    passed = "".join(", %s%s" % (it.name, ".into()" * (it.name in types)) for it in row.parameters)
+    inner = "        fn add(of: &mut %s%s) {\n            %s;\n        }\n" % (row.of, given, expression)
+    return "%s        add(self%s);\n        self\n" % (inner, passed)
+
+
 def body(row: Row) -> str:
     """Returns the body of a call."""
+    if converting(row):
+        return body_once(row)
     if row.returns == "&mut Self":
         return "        %s;\n        self\n" % row.expression
     return "        %s\n" % row.expression
@@ -176,7 +196,6 @@ ELSEWHERE = {
     "First": "crate::code::first",
     "Front": "super::sections",
     "Given": "super::sections",
-    "Group": "super::imports",
     "Global": "crate::alloc",
     "Later": "super::later",
     "Lent": "crate::base",

@@ -9,12 +9,13 @@ import tempfile
 
 from ..drop_in.calls_file import documentation as documentation_of_call
 from ..drop_in.cases import Case, proved_calls, read
-from ..drop_in import exports, root_table
+from ..drop_in import exports, own_types, root_table
 from ..drop_in.command import SINK, by_hand, root_files
 from ..drop_in.command import main as main_of_tool
 from ..drop_in.effects import effect_of
 from ..drop_in.enum_file import documentation, instruction_file
 from ..drop_in.own_bytes import ALLOWED, check_writes
+from ..drop_in.own_types import own_types_file
 from ..drop_in.proved import MODULES, SOURCES, Layer, layer
 from ..drop_in.root_file import root_file
 from ..drop_in.root_table import Call, calls_of, head_of
@@ -252,6 +253,84 @@ def exports_trouble() -> str | None:
     return None
 
 
+# A proved type and an enum, and the types of the root of their names.
+OWNED = """/// Parts.
+#[derive(Debug)]
+pub struct Parts<'a, A: Allocator = Global> {
+    /// The kind.
+    pub kind: Kind,
+    /// The bytes.
+    pub bytes: CowSlice<'a, u8, A>,
+    pub name: CowStr<'a, A>,
+    pub fields: Vec<FieldType, A>,
+}
+
+pub enum Kind {
+    #[doc(alias = "word")]
+    Types = 0,
+}
+"""
+OWN = """#[doc = text!(Parts)]
+#[derive(Clone)]
+pub struct Parts<'a> {
+    /// The kind.
+    pub kind: Kind,
+    /// The bytes.
+    pub data: Cow<'a, [u8]>,
+    pub name: Cow<'a, str>,
+    pub fields: Box<[FieldType]>,
+}
+
+impl From<Parts> for base::Parts {
+    #[inline]
+    fn from(value: Parts) -> Self {
+        Self {
+            kind: value.kind.into(),
+            bytes: value.data,
+            name: value.name,
+            fields: value.fields,
+        }
+    }
+}
+
+#[doc = text!(Kind)]
+#[derive(Copy)]
+#[repr(u8)]
+pub enum Kind {
+    Type = 0,
+}
+
+impl From<base::Kind> for Kind {
+    #[inline]
+    fn from(value: base::Kind) -> Self {
+        match value {
+            base::Kind::Types => Self::Type,
+        }
+    }
+}
+"""
+
+
+def own_types_trouble() -> str | None:
+    """A type of the root has the members of the proved one, without its allocator. A row that fits
+    no proved type stops the tool, with the line."""
+    table = own_types.HEAD + "\nParts\tbase\tClone\tbytes=data\tto\nKind\tbase\tCopy\tTypes=Type\tfrom\n"
+    written = lambda table: own_types_file(own_types.read(table), {"base": [OWNED]}, frozenset({"FieldType", "Kind"}))
+    text = written(table)
+    heads = "use super::FieldType;\nuse crate::base;\nuse alloc_crate::boxed::Box;\nuse alloc_crate::borrow::Cow;\n\n"
+    if not text.endswith(heads + OWN):
+        return f"another file: {text}"
+    for old, new, message in (("Kind", "Kinds", "0 definitions"), ("Types=Type", "Type=Types", "no member Type becomes"), ("from", "into", "unknown"), ("\tCopy", "", "no names"), ("type\t", "", "columns")):
+        try:
+            written(table.replace(old, new))
+        except Stop as stop:
+            if message not in str(stop):
+                return f"it stopped with: {stop}"
+        else:
+            return f"it was not stopped at {new}"
+    return None
+
+
 # Lines that write bytes. None is in the list of those that may.
 PLANTED = (
     "sink.push(0);", "sink.push_reserved(id);", "self.bytes.extend(bytes);", "dst.extend_from_slice(&data);", "self.count += 1;",
@@ -292,7 +371,7 @@ def own_bytes_trouble() -> str | None:
 
 def copy_inputs(top: pathlib.Path) -> None:
     """Copies what the tool reads."""
-    paths = [TABLE, SINK, root_table.TABLE, exports.TABLE, exports.TEXTS, *by_hand(TOP)]
+    paths = [TABLE, SINK, root_table.TABLE, exports.TABLE, exports.TEXTS, own_types.TABLE, *by_hand(TOP)]
     paths += [it.relative_to(TOP).as_posix() for module in MODULES for it in (TOP / SOURCES / module).glob("*.rs")]
     for path in paths:
         (top / path).parent.mkdir(parents=True, exist_ok=True)
@@ -315,6 +394,6 @@ def main() -> int:
     """Runs the tests."""
     troubles = {
         "touched files": check_trouble, "the proved sink": proved_trouble, "matches": match_trouble, "doc comments": said_trouble,
-        "the proved layer": layer_trouble, "rows of calls at the root": rows_trouble, "contracts at the root": contract_trouble, "names of the root": exports_trouble, "bytes by hand": own_bytes_trouble,
+        "the proved layer": layer_trouble, "rows of calls at the root": rows_trouble, "contracts at the root": contract_trouble, "names of the root": exports_trouble, "types of the root": own_types_trouble, "bytes by hand": own_bytes_trouble,
     }
     return end([report("drop-in-test", name, trouble()) for name, trouble in troubles.items()])

@@ -186,6 +186,8 @@ PLACES = [
     Place('wasm_immediates/src/floats.rt', 'fn bits(self) -> u64', 'const fn bits(self) -> u64'),
     Place('wasm_sections/src/memory.rt', 'fn page_size_log2(&self)', 'const fn page_size_log2(&self)'),
     Place('wasm_sections/src/memory.rt', 'fn page_size(&self)', 'const fn page_size(&self)'),
+    # An enum of one case has the size of a byte.
+    Place('wasm_sections/src/tag.rt', 'pub enum TagKind {', '#[repr(u8)]\npub enum TagKind {'),
     # Rattle's formatter has the type of its writer.
     Place('wasm_base/src/fault.rt', 'fmt<W: fmt::Write>(&self, f: &mut fmt::Formatter<W>)', "fmt(&self, f: &mut fmt::Formatter<'_>)"),
     # A clone of an allocator cannot fail.
