@@ -30,7 +30,7 @@ use crate::alloc::Allocator;
 /// // any: 6E.
 /// assert_eq!(bytes, [0x6E]);
 /// ```
-#[derive(Clone, Copy, PartialEq, Eq, Hash, Debug)]
+#[derive(Clone, Copy, PartialEq, Eq, Hash, Debug, PartialOrd, Ord)]
 pub enum AbstractHeapType {
     /// `func` (70): functions.
     Func = 0x70,
@@ -126,7 +126,7 @@ impl HeapType {
 /// // funcref: 70. A reference to eq (6D) that is not null: 64 6D.
 /// assert_eq!(bytes, [0x70, 0x64, 0x6D]);
 /// ```
-#[derive(Clone, Copy, PartialEq, Eq, Hash, Debug)]
+#[derive(Clone, Copy, PartialEq, Eq, Hash, Debug, PartialOrd, Ord)]
 pub struct RefType {
     /// Whether null is a value of the type.
     pub nullable: bool,
@@ -164,7 +164,7 @@ impl RefType {
 /// // Three types: 7F, 7C, 70.
 /// assert_eq!(bytes, [3, 0x7F, 0x7C, 0x70]);
 /// ```
-#[derive(Clone, Copy, PartialEq, Eq, Hash, Debug)]
+#[derive(Clone, Copy, PartialEq, Eq, Hash, Debug, PartialOrd, Ord)]
 pub enum ValType {
     /// An integer of 32 bits: 7F.
     I32,

@@ -34,7 +34,7 @@ use crate::base::{DecodeError, Encode, Grammar, Kind, Layout, Pieces, Readable, 
 /// Contracts model it as its data: the byte 00, and the name of the process.
 #[derive(Debug)]
 pub struct CoreDumpSection<A: Allocator = Global> {
-    data: Vec<u8, A>,
+    pub(crate) data: Vec<u8, A>,
 }
 
 impl<A: Allocator> CoreDumpSection<A> {

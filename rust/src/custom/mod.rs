@@ -32,7 +32,7 @@ mod item_walks;
 pub mod joined;
 pub mod laws;
 mod link_walks;
-mod linking;
+pub(crate) mod linking;
 mod lists;
 mod marked;
 mod minimize;

@@ -1,14 +1,13 @@
 //! Functions, the code section, and the named calls for instructions.
 use super::bytes::{append, append_once};
 use super::short::{EMPTY_BLOCK, Short, put_short};
-use super::{NONE, copied, done, encoded, listed};
+use super::{NONE, done};
 use crate::base::{self, Encode as _, Result, vec_of};
 use crate::code::{CodeSectionIn, joined};
 use crate::ending::{Growing, Root, grow};
 use crate::immediates::BlockType;
 use crate::{code, insn};
 use alloc_crate::vec::Vec;
-use core::fmt;
 
 #[doc = text!(InstructionSink)]
 #[derive(Debug)]
@@ -137,27 +136,11 @@ impl<'a> InstructionSink<'a> {
 #[derive(PartialEq, Eq)]
 pub struct Function(pub(super) code::Function<Root>);
 
-copied!(Function);
-encoded!(Function);
+implement!(Function Clone);
+implement!(Function Encode);
+implement!(Function From code |built| code::Function { bytes: built.bytes.into_ending() });
 
-/// Converts a body built by the calls of [`fallible::Function`](crate::fallible::Function).
-impl From<code::Function> for Function {
-    fn from(built: code::Function) -> Self {
-        Function(code::Function {
-            bytes: built.bytes.into_ending(),
-        })
-    }
+builders! {
+    code, (const fn) = CodeSectionIn { entries: NONE };
+    CodeSection { Clone } { Default } { Section Code } { Debug bytes num_added }
 }
-
-impl fmt::Debug for Function {
-    fn fmt(&self, f: &mut fmt::Formatter<'_>) -> fmt::Result {
-        f.debug_struct("Function")
-            .field("bytes", &self.0.bytes)
-            .finish()
-    }
-}
-
-#[doc = text!(CodeSection)]
-pub struct CodeSection(pub(super) joined::CodeSection<Root>);
-
-listed!(CodeSection of code Code: CodeSectionIn { entries: NONE });

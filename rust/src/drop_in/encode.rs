@@ -1,7 +1,7 @@
 //! The traits of values and sections that have an encoding.
 use super::bytes::append;
 use super::short::{put_number, put_short};
-use super::{SectionId, done, identified};
+use super::{CustomSection, SectionId, done};
 use crate::base;
 use crate::base::{AbstractHeapType, HeapType, RefType, ValType};
 use crate::custom::{CoreDumpValue, RawCustomSection};
@@ -133,7 +133,22 @@ impl Encode for SectionId {
     }
 }
 
-identified!(StartSection: Start, DataCountSection: DataCount, RawCustomSection<'_>: Custom);
+/// Implements `Section` by the id of a section.
+macro_rules! identified {
+    ($($name:ty: $id:ident)*) => {
+        $(
+            impl Section for $name {
+                #[inline]
+                fn id(&self) -> u8 {
+                    SectionId::$id.into()
+                }
+            }
+        )*
+    };
+}
+
+identified! { StartSection: Start DataCountSection: DataCount }
+identified! { RawCustomSection<'_>: Custom CustomSection<'_>: Custom }
 
 #[doc = text!(encode_section)]
 pub fn encode_section(sink: &mut Vec<u8>, count: u32, bytes: &[u8]) {

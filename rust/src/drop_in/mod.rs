@@ -23,6 +23,8 @@
 //! fail (`ending`) leave the proved encoders no path for an error.
 
 #[macro_use]
+mod builders;
+#[macro_use]
 #[rustfmt::skip]
 mod texts;
 
@@ -52,9 +54,9 @@ mod values;
 
 pub use names::*;
 
-use crate::base::{self, Entries, Pieces, Refused, Result};
+use crate::base::{Entries, Pieces, Refused, Result};
 use crate::ending::Root;
-use crate::vec::{self, Sink};
+use crate::vec;
 use alloc_crate::alloc::{Layout, handle_alloc_error};
 
 /// Ends a call that the proved one returned an error for. The size of a failed allocation is not
@@ -92,152 +94,3 @@ impl From<Pieces> for Entries<Root> {
         }
     }
 }
-
-/// Encodes a value. With items its encoding ends with the number of none, which is one byte, and
-/// the items are encoded in its place.
-#[inline(always)]
-fn encode_with<V, A: Sink>(value: &impl base::Encode, items: Option<V>, sink: &mut A) -> Result<()>
-where
-    V: IntoIterator<Item: base::Encode, IntoIter: ExactSizeIterator>,
-{
-    value.encode(sink)?;
-    if let Some(items) = items {
-        sink.truncate(sink.len() - 1);
-        base::encode_vec(items, sink)?;
-    }
-    Ok(())
-}
-
-/// Implements `Default` by `new`.
-macro_rules! default {
-    ($($name:ident),*) => {
-        $(
-            impl Default for $name {
-                fn default() -> Self {
-                    $name::new()
-                }
-            }
-        )*
-    };
-}
-
-/// Implements the conversion from the proved builder, whose calls return errors.
-macro_rules! taken {
-    ($($name:ident of $module:ident),*) => {
-        $(
-            #[doc = concat!("Converts a value built by the calls of [`fallible::", stringify!($name), "`](crate::fallible::", stringify!($name), ").")]
-            impl From<$crate::$module::$name> for $name {
-                fn from(built: $crate::$module::$name) -> Self {
-                    $name(built)
-                }
-            }
-        )*
-    };
-}
-
-/// Implements `Clone` over a proved builder.
-macro_rules! copied {
-    ($($name:ident),*) => {
-        $(
-            impl Clone for $name {
-                fn clone(&self) -> Self {
-                    $name($crate::drop_in::done(self.0.clone()))
-                }
-            }
-        )*
-    };
-}
-
-/// Implements `Encode` over a proved builder.
-macro_rules! encoded {
-    ($($name:ident),*) => {
-        $(
-            impl $crate::drop_in::Encode for $name {
-                #[inline]
-                fn encode(&self, sink: &mut alloc_crate::vec::Vec<u8>) {
-                    $crate::drop_in::bytes::append(&self.0, sink)
-                }
-            }
-        )*
-    };
-}
-
-/// Implements `Encode` by the proved type, to which a copy is converted.
-macro_rules! by_proved {
-    ($module:ident: $($name:ident)*) => {
-        $(
-            impl $crate::drop_in::Encode for $name {
-                #[inline]
-                fn encode(&self, sink: &mut alloc_crate::vec::Vec<u8>) {
-                    let proved = $crate::$module::$name::from(self.clone());
-                    $crate::drop_in::bytes::append(&proved, sink)
-                }
-            }
-        )*
-    };
-}
-
-/// Implements `Section` by the id of a section.
-macro_rules! identified {
-    ($($name:ty: $id:ident),*) => {
-        $(
-            impl $crate::drop_in::Section for $name {
-                #[inline]
-                fn id(&self) -> u8 {
-                    $crate::SectionId::$id.into()
-                }
-            }
-        )*
-    };
-}
-
-/// Implements `Section` and `Encode` over a proved section.
-macro_rules! section {
-    ($($name:ident of $id:ident),*) => {
-        $crate::drop_in::encoded!($($name),*);
-        $(
-            impl $crate::drop_in::Section for $name {
-                #[inline]
-                fn id(&self) -> u8 {
-                    $crate::SectionId::$id.into()
-                }
-
-                fn append_to(&self, dst: &mut alloc_crate::vec::Vec<u8>) {
-                    let mut sink = $crate::ending::Growing(dst);
-                    $crate::drop_in::done($crate::base::Section::append_to(&self.0, &mut sink))
-                }
-            }
-        )*
-    };
-}
-
-/// Implements what all sections of counted entries have: `new`, `Encode`, `Section`, `Clone`,
-/// `Debug`, and the conversion from the proved section of the same name, which also keeps where its
-/// entries end.
-macro_rules! listed {
-    ($name:ident of $module:ident $id:ident: $new:expr) => {
-        impl $name {
-            /// Creates a section without entries.
-            pub const fn new() -> Self {
-                $name($new)
-            }
-        }
-
-        $crate::drop_in::default!($name);
-        $crate::drop_in::copied!($name);
-        $crate::drop_in::section!($name of $id);
-
-        #[doc = concat!("Converts a section built by the calls of [`fallible::", stringify!($name), "`](crate::fallible::", stringify!($name), ").")]
-        impl From<$crate::$module::$name> for $name {
-            fn from(built: $crate::$module::$name) -> Self {
-                let mut section = $name::new();
-                section.0.entries = built.entries.into();
-                section
-            }
-        }
-
-        $crate::drop_in::debug::debugged!($name(bytes, num_added));
-    };
-}
-
-use {by_proved, copied, default, encoded, identified, listed, section, taken};

@@ -1,17 +1,18 @@
 //! Modules, and sections of raw bytes.
 use super::bytes::append;
-use super::{Encode, RawSection, Section, copied, default};
+use super::{Encode, RawSection, Section};
 use crate::base;
 use crate::code::const_expr::Stored;
 use crate::ending::Root;
 use crate::reader;
 use alloc_crate::vec::Vec;
-use core::fmt;
 
 #[doc = text!(Module)]
 pub struct Module(pub(super) base::Module<Root>);
 
-copied!(Module);
+implement!(Module Clone);
+implement!(Module Default);
+implement!(Module From base |built| base::Module { bytes: built.bytes.into_ending() });
 
 #[allow(clippy::len_without_is_empty, reason = "a module has a header")]
 impl Module {
@@ -52,32 +53,6 @@ impl Module {
     /// Returns the length of the module so far in bytes, header included.
     pub fn len(&self) -> usize {
         self.0.bytes.len()
-    }
-
-    /// Returns the bytes of the module, without a copy.
-    #[doc(alias = "bytes")]
-    #[doc(alias = "into_bytes")]
-    pub fn finish(self) -> Vec<u8> {
-        self.0.finish().into()
-    }
-}
-
-default!(Module);
-
-impl fmt::Debug for Module {
-    fn fmt(&self, f: &mut fmt::Formatter<'_>) -> fmt::Result {
-        f.debug_struct("Module")
-            .field("bytes", &self.0.bytes)
-            .finish()
-    }
-}
-
-/// Converts a module built by the calls of [`fallible::Module`](crate::fallible::Module).
-impl From<base::Module> for Module {
-    fn from(built: base::Module) -> Self {
-        Module(base::Module {
-            bytes: built.bytes.into_ending(),
-        })
     }
 }
 

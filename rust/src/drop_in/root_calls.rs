@@ -2370,6 +2370,26 @@ impl Module {
     pub fn new() -> Self {
         Module(done(base::Module::new(Root)))
     }
+
+    /// Returns the bytes of the module.
+    ///
+    /// Nothing is copied.
+    ///
+    /// # Proved
+    ///
+    /// The contract of [`fallible::Module::finish`](crate::fallible::Module#method.finish), which
+    /// this call makes.
+    ///
+    /// ```text
+    /// ensures { result.items ≡ self }
+    /// ```
+    ///
+    /// [How to read clauses](crate::definitions).
+    #[doc(alias = "bytes")]
+    #[doc(alias = "into_bytes")]
+    pub fn finish(self) -> Vec<u8> {
+        self.0.finish().into()
+    }
 }
 
 impl NameMap {

@@ -1,7 +1,6 @@
 //! The sections of counted items.
-use super::{DataSegmentMode, ElementMode, Elements, NONE, encode_with, listed};
-use crate::base::{CowSlice, Encode, Lent, Result};
-use crate::ending::Root;
+use super::{DataSegmentMode, ElementMode, Elements, NONE};
+use crate::base::{CowSlice, Encode, Lent, Result, encode_vec};
 use crate::sections;
 use crate::sections::CountedSection;
 use crate::sections::data::{ACTIVE, ACTIVE_IN_MEMORY, PASSIVE};
@@ -9,34 +8,32 @@ use crate::sections::joined;
 use crate::vec::Sink;
 use core::marker::PhantomData;
 
-/// Defines a section whose entries are encoded by the proved calls.
-macro_rules! sections {
-    ($($name:ident of $id:ident)*) => {
-        $(
-            #[doc = text!($name)]
-            #[doc = concat!("\n\n[`Module::section`](super::Module::section) takes the section. Its calls are those of the proved [`fallible::joined::", stringify!($name), "`](crate::fallible::joined::", stringify!($name), ").")]
-            ///
-            /// # Panics
-            ///
-            /// Its calls panic where the number of entries, or a count or length in one, would pass
-            /// 4294967295. A failed allocation ends the program.
-            pub struct $name(pub(super) joined::$name<Root>);
-
-            listed!($name of sections $id: CountedSection { entries: NONE, kind: PhantomData });
-        )*
-    };
+builders! {
+    sections, (const fn) = CountedSection { entries: NONE, kind: PhantomData };
+    ImportSection { Clone } { Default } { Section Import } { Debug bytes num_added }
+    FunctionSection { Clone } { Default } { Section Function } { Debug bytes num_added }
+    TableSection { Clone } { Default } { Section Table } { Debug bytes num_added }
+    MemorySection { Clone } { Default } { Section Memory } { Debug bytes num_added }
+    TagSection { Clone } { Default } { Section Tag } { Debug bytes num_added }
+    GlobalSection { Clone } { Default } { Section Global } { Debug bytes num_added }
+    ExportSection { Clone } { Default } { Section Export } { Debug bytes num_added }
+    ElementSection { Clone } { Default } { Section Element } { Debug bytes num_added }
+    DataSection { Clone } { Default } { Section Data } { Debug bytes num_added }
 }
 
-sections! {
-    ImportSection of Import
-    FunctionSection of Function
-    TableSection of Table
-    MemorySection of Memory
-    TagSection of Tag
-    GlobalSection of Global
-    ExportSection of Export
-    ElementSection of Element
-    DataSection of Data
+/// Encodes a value. With items its encoding ends with the number of none, which is one byte, and
+/// the items are encoded in its place.
+#[inline(always)]
+fn encode_with<V, A: Sink>(value: &impl Encode, items: Option<V>, sink: &mut A) -> Result<()>
+where
+    V: IntoIterator<Item: Encode, IntoIter: ExactSizeIterator>,
+{
+    value.encode(sink)?;
+    if let Some(items) = items {
+        sink.truncate(sink.len() - 1);
+        encode_vec(items, sink)?;
+    }
+    Ok(())
 }
 
 /// The mode and the elements of a segment, as the proved call encodes them. Expressions are encoded

@@ -106,7 +106,7 @@ impl Sink for Exact {
 }
 
 /// The bytes of spare capacity with which the proved encoder of a number does not count them first.
-const MOST_OF_A_NUMBER: usize = 10;
+const NUMBER: usize = 10;
 
 /// Immediates of which some values have an encoding of [`SIZE`](Short::SIZE) bytes: one byte for a
 /// number.
@@ -170,43 +170,15 @@ fn put_tight<P: Short>(number: P, list: &mut Vec<u8>) {
     done(number.long().encode(&mut Growing(list)));
 }
 
-/// Implements [`Short`] for types all of whose values have encodings of one size.
-macro_rules! fixed {
-    ($($ty:ty: $size:literal)*) => {
+/// Implements [`Short`] for types: the sizes, which values are short, a value after that test, of
+/// which the compiler knows it, and any value.
+macro_rules! short {
+    ($($({$($generics:tt)*})? $ty:ty: $size:expr, $most:expr, |$value:pat_param| $is_short:expr => $short:expr, $long:expr;)*) => {
         $(
-            impl Short for $ty {
+            #[allow(unused_variables, reason = "all values of some types are short")]
+            impl $(<$($generics)*>)? Short for $ty {
                 const SIZE: usize = $size;
-                const MOST: usize = $size;
-
-                #[inline(always)]
-                fn is_short(self) -> bool {
-                    true
-                }
-
-                #[inline(always)]
-                fn short(self) -> impl Encode {
-                    self
-                }
-
-                #[inline(always)]
-                fn long(self) -> impl Encode {
-                    self
-                }
-            }
-        )*
-    };
-}
-
-fixed! { Lane: 1 Ordering: 1 Ieee32: 4 Ieee64: 8 [u8; 16]: 16 }
-
-/// Implements [`Short`] for types with values of so many bytes: a test of it, and the value after
-/// the test, of which the compiler knows it.
-macro_rules! tested {
-    ($($ty:ty: $size:literal, |$value:ident| $is_short:expr => $short:expr;)*) => {
-        $(
-            impl Short for $ty {
-                const SIZE: usize = $size;
-                const MOST: usize = MOST_OF_A_NUMBER;
+                const MOST: usize = $most;
 
                 #[inline(always)]
                 fn is_short(self) -> bool {
@@ -222,98 +194,50 @@ macro_rules! tested {
 
                 #[inline(always)]
                 fn long(self) -> impl Encode {
-                    self
+                    let $value = self;
+                    $long
                 }
             }
         )*
     };
 }
 
-tested! {
-    u32: 1, |number| number < 0x80 => number;
-    i32: 1, |number| (-0x40..0x40).contains(&number) => number;
-    i64: 1, |number| (-0x40..0x40).contains(&number) => number;
-    StartSection: 2, |section| section.function_index < 0x80 => section;
-    DataCountSection: 2, |section| section.count < 0x80 => section;
-    HeapType: 1, |ty| matches!(ty, HeapType::Abstract { shared: false, .. }) => match ty {
+short! {
+    Lane: 1, 1, |it| true => it, it;
+    Ordering: 1, 1, |it| true => it, it;
+    Ieee32: 4, 4, |it| true => it, it;
+    Ieee64: 8, 8, |it| true => it, it;
+    [u8; 16]: 16, 16, |it| true => it, it;
+    u32: 1, NUMBER, |it| it < 0x80 => it, it;
+    i32: 1, NUMBER, |it| (-0x40..0x40).contains(&it) => it, it;
+    i64: 1, NUMBER, |it| (-0x40..0x40).contains(&it) => it, it;
+    StartSection: 2, NUMBER, |it| it.function_index < 0x80 => it, it;
+    DataCountSection: 2, NUMBER, |it| it.count < 0x80 => it, it;
+    HeapType: 1, NUMBER, |it| matches!(it, HeapType::Abstract { shared: false, .. }) => match it {
         HeapType::Abstract { ty, .. } => ty,
         _ => AbstractHeapType::Func,
-    };
-    ValType: 1, |ty| !matches!(ty, ValType::Ref(_)) => match ty {
+    }, it;
+    ValType: 1, NUMBER, |it| !matches!(it, ValType::Ref(_)) => match it {
         ValType::I32 => ValType::I32,
         ValType::I64 => ValType::I64,
         ValType::F32 => ValType::F32,
         ValType::F64 => ValType::F64,
         ValType::V128 | ValType::Ref(_) => ValType::V128,
-    };
-}
-
-impl Short for &MemArg {
-    const SIZE: usize = 2;
-    const MOST: usize = 4 * MOST_OF_A_NUMBER;
-
-    #[inline(always)]
-    fn is_short(self) -> bool {
-        self.align < 0x80
-            && self.offset < 0x80
-            && matches!(self.target, MemArgTarget::Memory(0))
-            && self.ordering.is_none()
-    }
-
-    #[inline(always)]
-    fn short(self) -> impl Encode {
-        MemArg {
-            offset: self.offset,
-            align: self.align,
-            target: MemArgTarget::Memory(0),
-            ordering: None,
-        }
-    }
-
-    #[inline(always)]
-    fn long(self) -> impl Encode {
-        Lent(self)
-    }
-}
-
-impl<A: Short, B: Short> Short for (A, B) {
-    const SIZE: usize = A::SIZE + B::SIZE;
-    const MOST: usize = A::MOST + B::MOST;
-
-    #[inline(always)]
-    fn is_short(self) -> bool {
-        self.0.is_short() && self.1.is_short()
-    }
-
-    #[inline(always)]
-    fn short(self) -> impl Encode {
-        (self.0.short(), self.1.short())
-    }
-
-    #[inline(always)]
-    fn long(self) -> impl Encode {
-        (self.0.long(), self.1.long())
-    }
-}
-
-impl<A: Short, B: Short, C: Short> Short for (A, B, C) {
-    const SIZE: usize = A::SIZE + B::SIZE + C::SIZE;
-    const MOST: usize = A::MOST + B::MOST + C::MOST;
-
-    #[inline(always)]
-    fn is_short(self) -> bool {
-        self.0.is_short() && self.1.is_short() && self.2.is_short()
-    }
-
-    #[inline(always)]
-    fn short(self) -> impl Encode {
-        (self.0.short(), self.1.short(), self.2.short())
-    }
-
-    #[inline(always)]
-    fn long(self) -> impl Encode {
-        (self.0.long(), self.1.long(), self.2.long())
-    }
+    }, it;
+    &MemArg: 2, 4 * NUMBER, |it| it.align < 0x80
+        && it.offset < 0x80
+        && matches!(it.target, MemArgTarget::Memory(0))
+        && it.ordering.is_none() => MemArg {
+        offset: it.offset,
+        align: it.align,
+        target: MemArgTarget::Memory(0),
+        ordering: None,
+    }, Lent(it);
+    {A: Short, B: Short} (A, B): A::SIZE + B::SIZE, A::MOST + B::MOST,
+        |(a, b)| a.is_short() && b.is_short() => (a.short(), b.short()), (a.long(), b.long());
+    {A: Short, B: Short, C: Short} (A, B, C): <(A, (B, C))>::SIZE, <(A, (B, C))>::MOST,
+        |(a, b, c)| a.is_short() && b.is_short() && c.is_short()
+            => (a.short(), b.short(), c.short()), (a.long(), b.long(), c.long());
 }
 
 #[cfg(test)]
@@ -322,23 +246,28 @@ mod tests {
     use crate::base::RefType;
     use crate::immediates::MemArgOrdering;
 
-    /// The encoding is short exactly if it has `SIZE` bytes. The call on the stack appends the same.
-    fn strict<P: Short>(values: impl IntoIterator<Item = P>) {
-        for value in values {
-            assert_eq!(value.is_short(), encoding(value).len() == P::SIZE);
-            same(value);
-        }
+    /// Numbers at the borders of the lengths of encodings.
+    const BORDERS: [u32; 10] = [
+        0,
+        1,
+        0x3F,
+        0x40,
+        0x7F,
+        0x80,
+        0x3FFF,
+        0x4000,
+        u32::MAX - 1,
+        u32::MAX,
+    ];
+
+    /// Returns numbers at each border of the lengths of encodings.
+    fn numbers() -> impl Iterator<Item = i64> {
+        let powers = (0..64).flat_map(|bits| [1_u64 << bits, (1 << bits) - 1]);
+        powers.flat_map(|it| [it, !it]).map(u64::cast_signed)
     }
 
-    /// If the encoding is said to be short, the call on the stack appends the same. None is longer
-    /// than `MOST`.
-    fn same<P: Short>(value: P) {
-        let bytes = encoding(value);
-        assert!(bytes.len() <= P::MOST);
-        if value.is_short() {
-            let exact = Exact::of(&value.short(), P::SIZE);
-            assert_eq!(&exact.expect("the bytes are as many")[..], bytes);
-        }
+    fn pairs() -> impl Iterator<Item = (u32, u32)> {
+        BORDERS.into_iter().flat_map(|a| BORDERS.map(|b| (a, b)))
     }
 
     fn encoding<P: Short>(value: P) -> Vec<u8> {
@@ -347,78 +276,71 @@ mod tests {
         bytes
     }
 
-    const UNSIGNED: [u32; 8] = [0, 1, 0x7F, 0x80, 0x3FFF, 0x4000, u32::MAX - 1, u32::MAX];
-    const SIGNED: [i32; 12] = [
-        i32::MIN,
-        -0x2001,
-        -0x2000,
-        -0x41,
-        -0x40,
-        -1,
-        0,
-        0x3F,
-        0x40,
-        0x1FFF,
-        0x2000,
-        i32::MAX,
-    ];
-
-    #[test]
-    fn numbers_are_short_up_to_the_border() {
-        strict(UNSIGNED);
-        strict(SIGNED);
-        strict(SIGNED.map(i64::from));
-        strict([i64::MIN, i64::MAX]);
-        strict(UNSIGNED.map(|function_index| StartSection { function_index }));
-        strict(UNSIGNED.map(|count| DataCountSection { count }));
-        strict(UNSIGNED.into_iter().flat_map(|a| UNSIGNED.map(|b| (a, b))));
-        strict(UNSIGNED.map(|a| (Ordering::SeqCst, a)));
-        strict(
-            UNSIGNED
-                .into_iter()
-                .flat_map(|a| UNSIGNED.map(|b| (Ordering::AcqRel, a, b))),
-        );
+    /// An encoding that is said to be short has `SIZE` bytes, and is the same on the stack. None is
+    /// longer than `MOST`. If `strict`, each of `SIZE` bytes is said to be short.
+    fn check<P: Short>(strict: bool, values: impl IntoIterator<Item = P>) {
+        for value in values {
+            let bytes = encoding(value);
+            assert!(bytes.len() <= P::MOST);
+            assert!(!strict || value.is_short() == (bytes.len() == P::SIZE));
+            if value.is_short() {
+                let exact = Exact::of(&value.short(), P::SIZE);
+                assert_eq!(&exact.expect("the bytes are as many")[..], bytes);
+            }
+        }
     }
 
     #[test]
-    fn values_of_one_size_are_short() {
-        strict([0, 0x7F, 0x80, 0xFF_u8]);
-        strict([Ordering::SeqCst, Ordering::AcqRel]);
-        strict([Ieee32::new(0), Ieee32::new(u32::MAX)]);
-        strict([Ieee64::new(0), Ieee64::new(u64::MAX)]);
-        strict([[0; 16], [0xFF; 16]]);
+    fn values_are_short_up_to_the_border() {
+        check(true, numbers());
+        check(true, numbers().map(|it| it as i32));
+        check(true, numbers().map(|it| it as u32));
+        check(
+            true,
+            BORDERS.map(|function_index| StartSection { function_index }),
+        );
+        check(true, BORDERS.map(|count| DataCountSection { count }));
+        check(true, pairs());
+        check(true, pairs().map(|(a, b)| (Ordering::AcqRel, a, b)));
+        check(true, [0, 0x7F, 0x80, 0xFF_u8]);
+        check(true, [Ordering::SeqCst, Ordering::AcqRel]);
+        check(true, [Ieee32::new(0), Ieee32::new(u32::MAX)]);
+        check(true, [Ieee64::new(0), Ieee64::new(u64::MAX)]);
+        check(true, [[0; 16], [0xFF; 16]]);
     }
 
     #[test]
     fn types_said_to_be_short_are_short() {
-        for ty in [
-            AbstractHeapType::Func,
-            AbstractHeapType::Cont,
-            AbstractHeapType::NoExn,
-        ] {
-            strict([true, false].map(|shared| HeapType::Abstract { shared, ty }));
+        use AbstractHeapType::{Cont, Func, NoExn};
+
+        for ty in [Func, Cont, NoExn] {
+            check(
+                true,
+                [true, false].map(|shared| HeapType::Abstract { shared, ty }),
+            );
         }
-        let indices = UNSIGNED.into_iter().chain([0x3F, 0x40]);
-        indices
-            .clone()
-            .for_each(|index| same(HeapType::Concrete(index)));
-        indices
-            .clone()
-            .for_each(|index| same(HeapType::Exact(index)));
-        strict([
-            ValType::I32,
-            ValType::I64,
-            ValType::F32,
-            ValType::F64,
-            ValType::V128,
-        ]);
-        for heap_type in indices.map(HeapType::Exact).chain([HeapType::FUNC]) {
-            for nullable in [true, false] {
-                same(ValType::Ref(RefType {
-                    nullable,
-                    heap_type,
-                }));
-            }
+        check(false, BORDERS.map(HeapType::Concrete));
+        check(false, BORDERS.map(HeapType::Exact));
+        check(
+            true,
+            [
+                ValType::I32,
+                ValType::I64,
+                ValType::F32,
+                ValType::F64,
+                ValType::V128,
+            ],
+        );
+        for heap_type in BORDERS
+            .into_iter()
+            .map(HeapType::Exact)
+            .chain([HeapType::FUNC])
+        {
+            let references = [true, false].map(|nullable| RefType {
+                nullable,
+                heap_type,
+            });
+            check(false, references.map(ValType::Ref));
         }
     }
 
@@ -428,7 +350,7 @@ mod tests {
         let targets = targets.into_iter().chain([MemArgTarget::Array(0)]);
         let orderings = [None, Some(MemArgOrdering::Rmw(Ordering::SeqCst))];
         for (target, ordering) in targets.flat_map(|target| orderings.map(|it| (target, it))) {
-            for (align, offset) in UNSIGNED.into_iter().flat_map(|a| UNSIGNED.map(|b| (a, b))) {
+            for (align, offset) in pairs() {
                 for offset in [u64::from(offset), u64::from(offset) << 32 | 1] {
                     let memarg = MemArg {
                         offset,
@@ -436,8 +358,8 @@ mod tests {
                         target,
                         ordering,
                     };
-                    strict([&memarg]);
-                    strict([(&memarg, 0xFF_u8)]);
+                    check(true, [&memarg]);
+                    check(true, [(&memarg, 0xFF_u8)]);
                 }
             }
         }
@@ -446,9 +368,8 @@ mod tests {
     /// Numbers of all lengths, to each spare capacity, have the bytes of the proved `encode`.
     #[test]
     fn numbers_are_appended_to_any_spare_capacity() {
-        let numbers = (0..64).flat_map(|bits| [1_u64 << bits, (1 << bits) - 1]);
-        let numbers = numbers.flat_map(|it| [it, !it]).map(u64::cast_signed);
-        for (number, spare) in numbers.flat_map(|it| (0..2 * BLOCK).map(move |spare| (it, spare))) {
+        for (number, spare) in numbers().flat_map(|it| (0..2 * BLOCK).map(move |spare| (it, spare)))
+        {
             let mut list = Vec::with_capacity(spare);
             put_number(number, &mut list);
             put_number(number as u32, &mut list);

@@ -1,29 +1,21 @@
 //! The type section, and the types that a module defines.
-use super::{CompositeInnerType, CompositeType, NONE, StructType, SubType};
-use super::{by_proved, copied, encoded, listed, taken};
+use super::bytes::append;
+use super::{CompositeInnerType, CompositeType, Encode, NONE, StructType, SubType};
 use crate::base::Entries;
 use crate::ending::Root;
 use crate::types;
 use crate::types::joined;
 use crate::types::type_section::{CoreTypeEncoderIn, TypeSectionIn};
+use alloc_crate::vec::Vec;
 use core::fmt;
 use core::hash::{Hash, Hasher};
 
 #[doc = text!(FuncType)]
 pub struct FuncType(pub(super) types::FuncType);
 
-copied!(FuncType);
-encoded!(FuncType);
-taken!(FuncType of types);
-
-impl fmt::Debug for FuncType {
-    fn fmt(&self, f: &mut fmt::Formatter<'_>) -> fmt::Result {
-        f.debug_struct("FuncType")
-            .field("params_results", &[self.params(), self.results()].concat())
-            .field("len_params", &self.params().len())
-            .finish()
-    }
-}
+implement!(FuncType Clone);
+implement!(FuncType Encode);
+implement!(FuncType From types |built| built);
 
 impl PartialEq for FuncType {
     fn eq(&self, other: &Self) -> bool {
@@ -61,12 +53,27 @@ impl From<CompositeInnerType> for types::CompositeInnerType {
     }
 }
 
-by_proved! { types: StructType CompositeInnerType CompositeType SubType }
+/// Implements `Encode` by the proved type, to which a copy is converted.
+macro_rules! by_proved {
+    ($($name:ident)*) => {
+        $(
+            impl Encode for $name {
+                #[inline]
+                fn encode(&self, sink: &mut Vec<u8>) {
+                    let proved = types::$name::from(self.clone());
+                    append(&proved, sink)
+                }
+            }
+        )*
+    };
+}
 
-#[doc = text!(TypeSection)]
-pub struct TypeSection(pub(super) joined::TypeSection<Root>);
+by_proved! { StructType CompositeInnerType CompositeType SubType }
 
-listed!(TypeSection of types Type: TypeSectionIn { entries: NONE });
+builders! {
+    types, (const fn) = TypeSectionIn { entries: NONE };
+    TypeSection { Clone } { Default } { Section Type } { Debug bytes num_added }
+}
 
 #[doc = text!(CoreTypeEncoder)]
 pub struct CoreTypeEncoder<'a>(pub(super) CoreTypeEncoderIn<'a, Entries<Root>>);

@@ -4,40 +4,26 @@ use crate::immediates::{Ieee32, Ieee64};
 use crate::types::StorageType;
 use core::cmp::Ordering;
 
-impl From<f32> for Ieee32 {
-    fn from(value: f32) -> Self {
-        Ieee32::new(value.to_bits())
-    }
+/// Implements the conversions between floats and their bits, and those of types to what has them.
+macro_rules! conversions {
+    ($($from:ty => $to:ty: |$value:ident| $converted:expr;)*) => {
+        $(
+            impl From<$from> for $to {
+                fn from($value: $from) -> Self {
+                    $converted
+                }
+            }
+        )*
+    };
 }
 
-impl From<Ieee32> for f32 {
-    fn from(value: Ieee32) -> Self {
-        f32::from_bits(value.bits())
-    }
-}
-
-impl From<f64> for Ieee64 {
-    fn from(value: f64) -> Self {
-        Ieee64::new(value.to_bits())
-    }
-}
-
-impl From<Ieee64> for f64 {
-    fn from(value: Ieee64) -> Self {
-        f64::from_bits(value.bits())
-    }
-}
-
-impl From<RefType> for ValType {
-    fn from(ty: RefType) -> Self {
-        ValType::Ref(ty)
-    }
-}
-
-impl From<ValType> for StorageType {
-    fn from(ty: ValType) -> Self {
-        StorageType::Val(ty)
-    }
+conversions! {
+    f32 => Ieee32: |value| Ieee32::new(value.to_bits());
+    Ieee32 => f32: |value| f32::from_bits(value.bits());
+    f64 => Ieee64: |value| Ieee64::new(value.to_bits());
+    Ieee64 => f64: |value| f64::from_bits(value.bits());
+    RefType => ValType: |ty| ValType::Ref(ty);
+    ValType => StorageType: |ty| StorageType::Val(ty);
 }
 
 impl RefType {
@@ -86,40 +72,19 @@ impl StorageType {
     }
 }
 
-/// Implements a total order by a key.
-macro_rules! ordered {
-    ($($name:ident by |$value:ident| $key:expr;)*) => {
-        $(
-            impl Ord for $name {
-                fn cmp(&self, other: &Self) -> Ordering {
-                    let key = |$value: &$name| $key;
-                    key(self).cmp(&key(other))
-                }
-            }
-
-            impl PartialOrd for $name {
-                fn partial_cmp(&self, other: &Self) -> Option<Ordering> {
-                    Some(self.cmp(other))
-                }
-            }
-        )*
-    };
+impl Ord for HeapType {
+    fn cmp(&self, other: &Self) -> Ordering {
+        let key = |ty: &HeapType| match *ty {
+            HeapType::Abstract { shared, ty } => (0, u32::from(ty as u8), shared),
+            HeapType::Concrete(index) => (1, index, false),
+            HeapType::Exact(index) => (2, index, false),
+        };
+        key(self).cmp(&key(other))
+    }
 }
 
-ordered! {
-    AbstractHeapType by |ty| *ty as u8;
-    HeapType by |ty| match *ty {
-        HeapType::Abstract { shared, ty } => (0, u32::from(ty as u8), shared),
-        HeapType::Concrete(index) => (1, index, false),
-        HeapType::Exact(index) => (2, index, false),
-    };
-    RefType by |ty| (ty.nullable, ty.heap_type);
-    ValType by |ty| match *ty {
-        ValType::I32 => (0, None),
-        ValType::I64 => (1, None),
-        ValType::F32 => (2, None),
-        ValType::F64 => (3, None),
-        ValType::V128 => (4, None),
-        ValType::Ref(ty) => (5, Some(ty)),
-    };
+impl PartialOrd for HeapType {
+    fn partial_cmp(&self, other: &Self) -> Option<Ordering> {
+        Some(self.cmp(other))
+    }
 }

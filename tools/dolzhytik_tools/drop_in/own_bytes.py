@@ -34,7 +34,6 @@ ALLOWED = {
     ("tools/root-calls.tsv", "Function::raw"): "bytes of the caller",
     ("rust/src/drop_in/module.rs", "HEADER"): "a constant of the crate, which the root does not write",
     ("rust/src/drop_in/custom.rs", "MARK"): "the proved calls have this byte in place",
-    ("rust/src/drop_in/debug.rs", "number"): "decodes a number of an encoding, to print what is behind it",
 }
 
 

@@ -4,7 +4,7 @@ from __future__ import annotations
 from ..rattle.lexer import is_word
 from .errors import display
 from .source import Source
-from .tables import BORDERS, CLONED, COPIED, ERASED_ATTRIBUTES, ERASED_DERIVES, EXHAUSTIVE, KEPT_ATTRIBUTES, KEPT_DERIVES, LIBRARIES, SHOWN, SHOWN_BY_HAND
+from .tables import BORDERS, CLONED, COPIED, ERASED_ATTRIBUTES, ERASED_DERIVES, EXHAUSTIVE, KEPT_ATTRIBUTES, KEPT_DERIVES, LIBRARIES, ORDERED, SHOWN, SHOWN_BY_HAND
 
 
 def erase_attributes(source: Source) -> None:
@@ -46,6 +46,8 @@ def turn_derive(source: Source, place: int, bracket: int, end: int) -> None:
         kept.insert(1, 'Copy')
     if derived_for in SHOWN:
         kept.append('Debug')
+    if derived_for in ORDERED:
+        kept += ['PartialOrd', 'Ord']
     if 'Error' in names:
         source.errors.append(display(source, end))
     if kept != names:

@@ -115,6 +115,8 @@ CLONED = {'Catch', 'CoreDumpValue', 'DataSymbolDefinition', 'Handle', 'RawCustom
 # Enums of instructions, for which rustc derives `Debug`: a proof of it takes minutes, and says nothing
 # of what is printed.
 SHOWN = {'Aggregate', 'Atomic', 'Instruction', 'Numeric', 'PrefixedNumeric', 'Vector', 'VectorImmediate'}
+# Types that have an order at the root of the package: that of their numbers, fields and cases.
+ORDERED = {'AbstractHeapType', 'RefType', 'ValType'}
 # Structs whose `Debug` is in rust/src/drop_in/debug.rs: those of the Rust crate have an unnamed field.
 SHOWN_BY_HAND = {'Ieee32', 'Ieee64'}
 # Public enums of the libraries that a `match` may list in full, and why. All others may get variants
@@ -248,6 +250,8 @@ PLACES = [
     Place('wasm_base/src/pieces.rt', 'bytes: Vec<u8, A>, ends: Vec<usize, A>,', 'pub(crate) bytes: Vec<u8, A>, pub(crate) ends: Vec<usize, A>,'),
     Place('wasm_custom/src/entries.rt', 'entries: S, kind: PhantomData<K>,', 'pub(crate) entries: S, pub(crate) kind: PhantomData<K>,'),
     Place('wasm_custom/src/lists.rt', 'entries: S, kind: PhantomData<K>,', 'pub(crate) entries: S, pub(crate) kind: PhantomData<K>,'),
+    Place('wasm_custom/src/lib.rt', 'mod linking;', 'pub(crate) mod linking;'),
+    Place('wasm_custom/src/core_dumps.rt', 'data: Vec<u8, A>,', 'pub(crate) data: Vec<u8, A>,'),
     Place('wasm_base/src/store.rt', 'bytes: Vec<u8, A>, count: u32,', 'pub(crate) bytes: Vec<u8, A>, pub(crate) count: u32,'),
     Place('wasm_code/src/function.rt', 'bytes: Vec<u8, A>,', 'pub(crate) bytes: Vec<u8, A>,'),
     # A list of bytes of the root begins with less.
