@@ -87,7 +87,7 @@ macro_rules! builders {
         ///
         /// Its calls panic where a count or length would pass 4294967295. A failed allocation ends
         /// the program.
-        pub struct $name(pub(super) joined::$name<$crate::ending::Root>);
+        pub struct $name(pub(super) $crate::fallible::joined::$name<$crate::ending::Root>);
 
         #[allow(clippy::new_without_default, reason = "two sections of core dumps have no default")]
         impl $name {

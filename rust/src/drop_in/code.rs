@@ -3,7 +3,6 @@ use super::bytes::{append, append_once};
 use super::short::{EMPTY_BLOCK, Short, put_short};
 use super::{NONE, done};
 use crate::base::{self, Encode as _, Result, vec_of};
-use crate::code::{CodeSectionIn, joined};
 use crate::ending::{Growing, Root, grow};
 use crate::immediates::BlockType;
 use crate::{code, insn};
@@ -141,6 +140,6 @@ implement!(Function Encode);
 implement!(Function From code |built| code::Function { bytes: built.bytes.into_ending() });
 
 builders! {
-    code, (const fn) = CodeSectionIn { entries: NONE };
+    code, (const fn) = code::CodeSectionIn { entries: NONE };
     CodeSection { Clone } { Default } { Section Code } { Debug bytes num_added }
 }

@@ -6,11 +6,10 @@ use crate::code;
 use crate::code::const_expr::{Stored, function_at_front};
 use crate::code::expression::END;
 use crate::code::first::First;
-use crate::ending::{FEW, Growing};
+use crate::ending::FEW;
 use crate::insn::InstructionSink;
 use crate::vec::Sink;
 use alloc_crate::vec::Vec;
-use core::fmt;
 
 #[doc = text!(ConstExpr)]
 #[derive(Clone)]
@@ -45,22 +44,6 @@ impl base::Encode for ConstExpr {
     }
 }
 
-/// Encodes the instructions and `end`.
-impl Encode for ConstExpr {
-    fn encode(&self, sink: &mut Vec<u8>) {
-        done(base::Encode::encode(self, &mut Growing(sink)))
-    }
-}
-
-impl fmt::Debug for ConstExpr {
-    fn fmt(&self, f: &mut fmt::Formatter<'_>) -> fmt::Result {
-        let mut bytes = Vec::new();
-        Encode::encode(self, &mut bytes);
-        let _end = bytes.pop();
-        f.debug_struct("ConstExpr").field("bytes", &bytes).finish()
-    }
-}
-
 /// Returns the encodings of instructions.
 #[inline]
 pub fn encodings<'a>(instructions: impl IntoIterator<Item = Instruction<'a>>) -> Bytes {
@@ -84,13 +67,6 @@ impl ConstExpr {
         ConstExpr(Instructions::One(instruction))
     }
 
-    /// Appends an instruction of a number or a type by its proved `encode`.
-    pub(super) fn with_first(self, instruction: First) -> Self {
-        let mut bytes = self.into_bytes();
-        done(base::Encode::encode(&instruction, &mut bytes));
-        ConstExpr(Instructions::Encoded(bytes))
-    }
-
     /// Appends by a proved call.
     pub(super) fn with(
         self,
@@ -103,7 +79,7 @@ impl ConstExpr {
 
     /// Returns the encoding of the instructions.
     #[inline]
-    fn into_bytes(self) -> Bytes {
+    pub(super) fn into_bytes(self) -> Bytes {
         match self.0 {
             Instructions::One(first) => {
                 let mut bytes = Bytes::new();

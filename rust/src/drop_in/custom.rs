@@ -1,39 +1,10 @@
 //! Custom sections, and the lists that they hold.
-use super::bytes::append;
-use super::{CustomSection, Encode, NONE};
+use super::{CustomSection, NONE};
 use crate::base::{CowSlice, CowStr};
 use crate::custom::{self, CountedList, CustomEntries, joined};
 use crate::ending::Root;
 use alloc_crate::borrow::Cow;
-use alloc_crate::vec::Vec;
 use core::marker::PhantomData;
-
-/// Encodes the size prefix, the name and the data.
-impl Encode for CustomSection<'_> {
-    fn encode(&self, sink: &mut Vec<u8>) {
-        let section: custom::CustomSection = custom::CustomSection {
-            name: CowStr::Borrowed(&self.name),
-            bytes: CowSlice::Borrowed(&self.data),
-        };
-        append(&section, sink)
-    }
-}
-
-/// Converts a section of the proved calls. Only an owned name is copied.
-impl<'a> From<custom::CustomSection<'a>> for CustomSection<'a> {
-    fn from(section: custom::CustomSection<'a>) -> Self {
-        CustomSection {
-            name: match section.name {
-                CowStr::Borrowed(name) => Cow::Borrowed(name),
-                CowStr::Owned(name) => Cow::Owned(name.as_str().into()),
-            },
-            data: match section.bytes {
-                CowSlice::Borrowed(bytes) => Cow::Borrowed(bytes),
-                CowSlice::Owned(bytes) => Cow::Owned(bytes.into()),
-            },
-        }
-    }
-}
 
 builders! {
     custom, (fn) = CountedList { entries: NONE, kind: PhantomData };
@@ -51,6 +22,22 @@ builders! {
     BranchHints { Default } { Section Custom } { Debug bytes num_hints }
     CoreDumpModulesSection { Section Custom } { Debug num_added bytes }
     CoreDumpInstancesSection { Section Custom } { Debug num_added bytes }
+}
+
+/// Converts a section of the proved calls. Only an owned name is copied.
+impl<'a> From<custom::CustomSection<'a>> for CustomSection<'a> {
+    fn from(section: custom::CustomSection<'a>) -> Self {
+        CustomSection {
+            name: match section.name {
+                CowStr::Borrowed(name) => Cow::Borrowed(name),
+                CowStr::Owned(name) => Cow::Owned(name.as_str().into()),
+            },
+            data: match section.bytes {
+                CowSlice::Borrowed(bytes) => Cow::Borrowed(bytes),
+                CowSlice::Owned(bytes) => Cow::Owned(bytes.into()),
+            },
+        }
+    }
 }
 
 /// The first byte of an entry of a core dump.

@@ -1,7 +1,8 @@
 //! `Debug` as the Rust crate derives it: a builder is a struct of the bytes of its entries and mostly
 //! their number, and a float a tuple of its bits.
 use super::bytes::append;
-use super::{CoreDumpSection, CoreDumpStackSection, FuncType, Function, LinkingSection, Module};
+use super::{ConstExpr, CoreDumpSection, CoreDumpStackSection, FuncType, Function};
+use super::{LinkingSection, Module};
 use crate::alloc::Global;
 use crate::base::{Padded, Readable};
 use crate::code::const_expr::Stored;
@@ -33,6 +34,15 @@ fields! {
     LinkingSection |it| { bytes: versioned(&it.entries.bytes) }
     CoreDumpSection |it| { name: name_in(&it.data) }
     CoreDumpStackSection |it| { frame_bytes: it.frames.bytes, count: it.frames.count, name: name_in(&it.front) }
+}
+
+impl fmt::Debug for ConstExpr {
+    fn fmt(&self, f: &mut fmt::Formatter<'_>) -> fmt::Result {
+        let bytes = self.clone().into_bytes();
+        f.debug_struct("ConstExpr")
+            .field("bytes", &&bytes[..])
+            .finish()
+    }
 }
 
 /// Returns the version of a linking section before its entries: it is a part of the bytes.

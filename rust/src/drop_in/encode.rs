@@ -1,19 +1,24 @@
 //! The traits of values and sections that have an encoding.
 use super::bytes::append;
 use super::short::{put_number, put_short};
-use super::{CustomSection, SectionId, done};
-use crate::base;
-use crate::base::{AbstractHeapType, HeapType, RefType, ValType};
-use crate::custom::{CoreDumpValue, RawCustomSection};
+use super::{
+    CompositeInnerType, CompositeType, ConstExpr, CustomSection, RawSection, SectionId, StructType,
+    SubType, done,
+};
+use crate::alloc::Global;
+use crate::base::{self, AbstractHeapType, CowSlice, CowStr, HeapType, RefType, ValType};
+use crate::code::const_expr::Stored;
+use crate::custom::{self, CoreDumpValue, RawCustomSection};
 use crate::ending::Growing;
 use crate::immediates::{
     BlockType, Catch, Handle, Ieee32, Ieee64, MemArg, MemArgOrdering, Ordering,
 };
+use crate::reader;
 use crate::sections::{
     DataCountSection, EntityType, ExportKind, GlobalType, MemoryType, StartSection, TableType,
     TagType,
 };
-use crate::types::{ArrayType, ContType, FieldType, StorageType};
+use crate::types::{self, ArrayType, ContType, FieldType, StorageType};
 use alloc_crate::vec::Vec;
 
 #[doc = text!(Encode)]
@@ -43,25 +48,43 @@ pub trait Section: Encode {
     }
 }
 
-/// Implements `Encode` by the proved `encode`.
-macro_rules! hands_on {
-    ($($type:ty)*) => {
-        $(
+/// Implements `Encode` of types by the proved `encode` of a value, which is made of one of the type.
+macro_rules! encoded {
+    ($($($type:ty)* => $doc:literal, |$value:ident| $proved:expr;)*) => {
+        $($(
+            #[doc = $doc]
             impl Encode for $type {
                 #[inline]
                 fn encode(&self, sink: &mut Vec<u8>) {
-                    append(self, sink)
+                    let $value = self;
+                    append($proved, sink)
                 }
             }
-        )*
+        )*)*
     };
 }
 
-hands_on! { u8 u64 usize }
-hands_on! { AbstractHeapType HeapType RefType ValType StorageType FieldType ArrayType ContType }
-hands_on! { BlockType Catch Handle Ieee32 Ieee64 MemArg MemArgOrdering Ordering }
-hands_on! { EntityType ExportKind GlobalType MemoryType TableType TagType CoreDumpValue }
-hands_on! { RawCustomSection<'_> }
+encoded! {
+    u8 u64 usize AbstractHeapType HeapType RefType ValType StorageType FieldType ArrayType ContType
+    BlockType Catch Handle Ieee32 Ieee64 MemArg MemArgOrdering Ordering EntityType ExportKind
+    GlobalType MemoryType TableType TagType CoreDumpValue RawCustomSection<'_> ConstExpr
+        => "Encodes the value by its proved `encode`.", |it| it;
+    str => "Encodes a name: its length in bytes, and its bytes.", |name| &name;
+    SectionId => "Encodes the id as one byte.", |id| &u8::from(*id);
+    CustomSection<'_> => "Encodes the size prefix, the name and the data.",
+        |section| &custom::CustomSection::<'_, Global> {
+            name: CowStr::Borrowed(&section.name),
+            bytes: CowSlice::Borrowed(&section.data),
+        };
+    reader::Section<'_> => "Copies the bytes of the section after its id, also a padded size prefix.",
+        |section| &Stored(&section.bytes()[1..]);
+    StructType => "Encodes a copy that is converted.", |ty| &types::StructType::from(ty.clone());
+    CompositeInnerType => "Encodes a copy that is converted.",
+        |ty| &types::CompositeInnerType::from(ty.clone());
+    CompositeType => "Encodes a copy that is converted.",
+        |ty| &types::CompositeType::from(ty.clone());
+    SubType => "Encodes a copy that is converted.", |ty| &types::SubType::from(ty.clone());
+}
 
 /// Implements `Encode` of numbers, and of sections of one number, by the proved `encode`. A short
 /// encoding is appended without a call.
@@ -82,21 +105,17 @@ macro_rules! numbers {
 
 numbers! { u32 i32 i64 StartSection DataCountSection }
 
-/// Encodes a name: its length in bytes, and its bytes.
-impl Encode for str {
-    #[inline]
-    fn encode(&self, sink: &mut Vec<u8>) {
-        append(&self, sink)
-    }
-}
-
 /// Encodes a vector: the number of items, and the items.
 impl<T: Encode> Encode for [T] {
     fn encode(&self, sink: &mut Vec<u8>) {
-        self.len().encode(sink);
-        for item in self {
-            item.encode(sink);
-        }
+        encode_vec(self, sink);
+    }
+}
+
+/// Encodes the size prefix and the payload.
+impl Encode for RawSection<'_> {
+    fn encode(&self, sink: &mut Vec<u8>) {
+        append(&base::RawSection::from(*self), sink)
     }
 }
 
@@ -125,30 +144,29 @@ impl From<SectionId> for u8 {
     }
 }
 
-/// Encodes the id as one byte.
-impl Encode for SectionId {
-    #[inline]
-    fn encode(&self, sink: &mut Vec<u8>) {
-        u8::from(*self).encode(sink);
-    }
-}
-
 /// Implements `Section` by the id of a section.
 macro_rules! identified {
-    ($($name:ty: $id:ident)*) => {
+    ($($type:ty => |$section:pat_param| $id:expr;)*) => {
         $(
-            impl Section for $name {
+            impl Section for $type {
                 #[inline]
                 fn id(&self) -> u8 {
-                    SectionId::$id.into()
+                    let $section = self;
+                    $id
                 }
             }
         )*
     };
 }
 
-identified! { StartSection: Start DataCountSection: DataCount }
-identified! { RawCustomSection<'_>: Custom CustomSection<'_>: Custom }
+identified! {
+    StartSection => |_| SectionId::Start.into();
+    DataCountSection => |_| SectionId::DataCount.into();
+    RawCustomSection<'_> => |_| SectionId::Custom.into();
+    CustomSection<'_> => |_| SectionId::Custom.into();
+    RawSection<'_> => |section| section.id;
+    reader::Section<'_> => |section| reader::Section::id(section);
+}
 
 #[doc = text!(encode_section)]
 pub fn encode_section(sink: &mut Vec<u8>, count: u32, bytes: &[u8]) {

@@ -23,10 +23,10 @@
 //! fail (`ending`) leave the proved encoders no path for an error.
 
 #[macro_use]
-mod builders;
-#[macro_use]
 #[rustfmt::skip]
 mod texts;
+#[macro_use]
+mod builders;
 
 mod bytes;
 #[rustfmt::skip]
@@ -36,10 +36,8 @@ mod const_expr;
 mod custom;
 mod debug;
 mod encode;
-mod imports;
 #[rustfmt::skip]
 mod instruction;
-mod later;
 mod module;
 #[rustfmt::skip]
 mod names;

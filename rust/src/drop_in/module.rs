@@ -1,11 +1,7 @@
-//! Modules, and sections of raw bytes.
-use super::bytes::append;
-use super::{Encode, RawSection, Section};
+//! Modules.
+use super::Section;
 use crate::base;
-use crate::code::const_expr::Stored;
 use crate::ending::Root;
-use crate::reader;
-use alloc_crate::vec::Vec;
 
 #[doc = text!(Module)]
 pub struct Module(pub(super) base::Module<Root>);
@@ -53,41 +49,5 @@ impl Module {
     /// Returns the length of the module so far in bytes, header included.
     pub fn len(&self) -> usize {
         self.0.bytes.len()
-    }
-}
-
-impl<'a> RawSection<'a> {
-    /// Converts the section for the proved calls.
-    fn proved(self) -> base::RawSection<'a> {
-        base::RawSection {
-            id: self.id,
-            bytes: self.data,
-        }
-    }
-}
-
-/// Encodes the size prefix and the payload.
-impl Encode for RawSection<'_> {
-    fn encode(&self, sink: &mut Vec<u8>) {
-        append(&self.proved(), sink)
-    }
-}
-
-impl Section for RawSection<'_> {
-    fn id(&self) -> u8 {
-        self.id
-    }
-}
-
-/// Copies the bytes of the section after its id, also a padded size prefix.
-impl Encode for reader::Section<'_> {
-    fn encode(&self, sink: &mut Vec<u8>) {
-        append(&Stored(&self.bytes()[1..]), sink)
-    }
-}
-
-impl Section for reader::Section<'_> {
-    fn id(&self) -> u8 {
-        reader::Section::id(self)
     }
 }

@@ -91,25 +91,25 @@ pub use super::custom::BranchHints;
 pub use super::custom::CoreDumpInstancesSection;
 #[doc(alias = "coredump")]
 pub use super::custom::CoreDumpModulesSection;
+pub use super::custom::IndirectNameMap;
+#[doc(alias = "object file")]
+#[doc(alias = "linker")]
+#[doc(alias = "linking section")]
+pub use super::custom::LinkingSection;
+pub use super::custom::NameMap;
+#[doc(alias = "debug names")]
+#[doc(alias = "name section")]
+pub use super::custom::NameSection;
+pub use super::custom::ProducersField;
+#[doc(alias = "producers section")]
+pub use super::custom::ProducersSection;
+#[doc(alias = "symtab")]
+pub use super::custom::SymbolTable;
 #[doc(alias = "coredump")]
 pub use super::custom::CoreDumpSection;
 #[doc(alias = "coredump")]
 #[doc(alias = "backtrace")]
 pub use super::custom::CoreDumpStackSection;
-#[doc(alias = "object file")]
-#[doc(alias = "linker")]
-#[doc(alias = "linking section")]
-pub use super::custom::LinkingSection;
-#[doc(alias = "debug names")]
-#[doc(alias = "name section")]
-pub use super::custom::NameSection;
-#[doc(alias = "producers section")]
-pub use super::custom::ProducersSection;
-#[doc(alias = "symtab")]
-pub use super::custom::SymbolTable;
-pub use super::custom::IndirectNameMap;
-pub use super::custom::NameMap;
-pub use super::custom::ProducersField;
 #[doc(alias = "leb128")]
 #[doc(alias = "varint")]
 #[doc(alias = "uleb128")]
@@ -177,11 +177,11 @@ pub use super::sections::TableSection;
 #[doc(alias = "event")]
 #[doc(alias = "tag section")]
 pub use super::sections::TagSection;
-#[doc(alias = "signature")]
-#[doc(alias = "functype")]
-pub use super::types::FuncType;
 #[doc(alias = "gc")]
 #[doc(alias = "rectype")]
 #[doc(alias = "type section")]
 pub use super::types::TypeSection;
+#[doc(alias = "signature")]
+#[doc(alias = "functype")]
+pub use super::types::FuncType;
 pub use super::types::CoreTypeEncoder;

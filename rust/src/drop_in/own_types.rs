@@ -95,6 +95,16 @@ pub struct RawSection<'a> {
     pub data: &'a [u8],
 }
 
+impl<'a> From<RawSection<'a>> for base::RawSection<'a> {
+    #[inline]
+    fn from(value: RawSection<'a>) -> Self {
+        Self {
+            id: value.id,
+            bytes: value.data,
+        }
+    }
+}
+
 #[doc = text!(CustomSection)]
 #[derive(Clone, Debug, PartialEq)]
 pub struct CustomSection<'a> {

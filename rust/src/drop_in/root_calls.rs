@@ -15,8 +15,7 @@ use super::{
 use super::bytes::Bytes;
 use super::const_expr::encodings;
 use super::custom::MARK;
-use super::later::Later;
-use super::sections::{Front, Given};
+use super::sections::{Front, Given, Later};
 use crate::{base, code, custom, types};
 use crate::alloc::Global;
 use crate::base::{Lent, Store, bytes_of};
@@ -1516,7 +1515,7 @@ impl ConstExpr {
     ///
     /// Definitions: [`Stores`](crate::definitions::code::expressions::Stores). [How to read clauses](crate::definitions).
     pub fn with_global_get(self, index: u32) -> Self {
-        self.with_first(First::GlobalGet(index))
+        self.with(|sink| sink.global_get(index))
     }
 
     /// Returns the expression of `RefNull` alone.
@@ -1560,7 +1559,7 @@ impl ConstExpr {
     ///
     /// Definitions: [`Stores`](crate::definitions::code::expressions::Stores). [How to read clauses](crate::definitions).
     pub fn with_ref_null(self, ty: HeapType) -> Self {
-        self.with_first(First::RefNull(ty))
+        self.with(|sink| sink.ref_null(ty))
     }
 
     /// Returns the expression of `RefFunc` alone.
@@ -1605,7 +1604,7 @@ impl ConstExpr {
     ///
     /// Definitions: [`Stores`](crate::definitions::code::expressions::Stores). [How to read clauses](crate::definitions).
     pub fn with_ref_func(self, func: u32) -> Self {
-        self.with_first(First::RefFunc(func))
+        self.with(|sink| sink.ref_func(func))
     }
 
     /// Returns the expression of `I32Const` alone.
@@ -1649,7 +1648,7 @@ impl ConstExpr {
     ///
     /// Definitions: [`Stores`](crate::definitions::code::expressions::Stores). [How to read clauses](crate::definitions).
     pub fn with_i32_const(self, value: i32) -> Self {
-        self.with_first(First::I32Const(value))
+        self.with(|sink| sink.i32_const(value))
     }
 
     /// Returns the expression of `I64Const` alone.
@@ -1693,7 +1692,7 @@ impl ConstExpr {
     ///
     /// Definitions: [`Stores`](crate::definitions::code::expressions::Stores). [How to read clauses](crate::definitions).
     pub fn with_i64_const(self, value: i64) -> Self {
-        self.with_first(First::I64Const(value))
+        self.with(|sink| sink.i64_const(value))
     }
 
     /// Returns the expression of `F32Const` alone.
@@ -1737,7 +1736,7 @@ impl ConstExpr {
     ///
     /// Definitions: [`Stores`](crate::definitions::code::expressions::Stores). [How to read clauses](crate::definitions).
     pub fn with_f32_const(self, value: Ieee32) -> Self {
-        self.with_first(First::F32Const(value))
+        self.with(|sink| sink.f32_const(value))
     }
 
     /// Returns the expression of `F64Const` alone.
@@ -1781,7 +1780,7 @@ impl ConstExpr {
     ///
     /// Definitions: [`Stores`](crate::definitions::code::expressions::Stores). [How to read clauses](crate::definitions).
     pub fn with_f64_const(self, value: Ieee64) -> Self {
-        self.with_first(First::F64Const(value))
+        self.with(|sink| sink.f64_const(value))
     }
 
     /// Returns the expression of `V128Const` alone.

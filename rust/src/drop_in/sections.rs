@@ -1,11 +1,11 @@
-//! The sections of counted items.
-use super::{DataSegmentMode, ElementMode, Elements, NONE};
-use crate::base::{CowSlice, Encode, Lent, Result, encode_vec};
-use crate::sections;
-use crate::sections::CountedSection;
+//! Entries of sections as the proved calls take them.
+use super::{DataSegmentMode, ElementMode, Elements, Imports, NONE};
+use crate::base::{CowSlice, Encode, EncodeOnce, Lent, Result, encode_vec, vec_of};
+use crate::ending::Root;
 use crate::sections::data::{ACTIVE, ACTIVE_IN_MEMORY, PASSIVE};
-use crate::sections::joined;
-use crate::vec::Sink;
+use crate::sections::{self, CountedSection};
+use crate::vec::{self, Sink};
+use alloc_crate::borrow::Cow;
 use core::marker::PhantomData;
 
 builders! {
@@ -21,19 +21,44 @@ builders! {
     DataSection { Clone } { Default } { Section Data } { Debug bytes num_added }
 }
 
-/// Encodes a value. With items its encoding ends with the number of none, which is one byte, and
-/// the items are encoded in its place.
-#[inline(always)]
-fn encode_with<V, A: Sink>(value: &impl Encode, items: Option<V>, sink: &mut A) -> Result<()>
+/// A vector of the items of an iterator, which is made and measured when the vector is encoded, and
+/// not before: an iterator may share its state with one that is finished first.
+pub struct Later<V>(pub V);
+
+impl<V> EncodeOnce for Later<V>
 where
     V: IntoIterator<Item: Encode, IntoIter: ExactSizeIterator>,
 {
-    value.encode(sink)?;
-    if let Some(items) = items {
-        sink.truncate(sink.len() - 1);
-        encode_vec(items, sink)?;
+    #[inline(always)]
+    fn encode_once<A: Sink>(self, sink: &mut A) -> Result<()> {
+        vec_of(self.0)?.encode_once(sink)
     }
-    Ok(())
+}
+
+/// Converts a list for the proved calls, without a copy.
+pub fn listed<T: Clone>(list: Cow<'_, [T]>) -> CowSlice<'_, T, Root> {
+    match list {
+        Cow::Borrowed(items) => CowSlice::Borrowed(items),
+        Cow::Owned(items) => CowSlice::Owned(vec::Vec::from(items).into_ending()),
+    }
+}
+
+/// Converts an entry for the proved calls, without a copy.
+impl<'a> From<Imports<'a>> for sections::Imports<'a, Root> {
+    fn from(imports: Imports<'a>) -> Self {
+        match imports {
+            Imports::Single(import) => Self::Single(import),
+            Imports::Compact1 { module, items } => Self::Compact1 {
+                module,
+                items: listed(items),
+            },
+            Imports::Compact2 { module, ty, names } => Self::Compact2 {
+                module,
+                ty,
+                names: listed(names),
+            },
+        }
+    }
 }
 
 /// The mode and the elements of a segment, as the proved call encodes them. Expressions are encoded
@@ -63,8 +88,12 @@ impl Encode for Given<'_> {
                 (none, Some(expressions.iter().map(Lent)))
             }
         };
-        let segment = sections::ElementSegment { mode, elements };
-        encode_with(&segment, expressions, sink)
+        sections::ElementSegment { mode, elements }.encode(sink)?;
+        if let Some(expressions) = expressions {
+            sink.truncate(sink.len() - 1);
+            encode_vec(expressions, sink)?;
+        }
+        Ok(())
     }
 }
 

@@ -246,28 +246,10 @@ mod tests {
     use crate::base::RefType;
     use crate::immediates::MemArgOrdering;
 
-    /// Numbers at the borders of the lengths of encodings.
-    const BORDERS: [u32; 10] = [
-        0,
-        1,
-        0x3F,
-        0x40,
-        0x7F,
-        0x80,
-        0x3FFF,
-        0x4000,
-        u32::MAX - 1,
-        u32::MAX,
-    ];
-
     /// Returns numbers at each border of the lengths of encodings.
     fn numbers() -> impl Iterator<Item = i64> {
         let powers = (0..64).flat_map(|bits| [1_u64 << bits, (1 << bits) - 1]);
         powers.flat_map(|it| [it, !it]).map(u64::cast_signed)
-    }
-
-    fn pairs() -> impl Iterator<Item = (u32, u32)> {
-        BORDERS.into_iter().flat_map(|a| BORDERS.map(|b| (a, b)))
     }
 
     fn encoding<P: Short>(value: P) -> Vec<u8> {
@@ -278,88 +260,72 @@ mod tests {
 
     /// An encoding that is said to be short has `SIZE` bytes, and is the same on the stack. None is
     /// longer than `MOST`. If `strict`, each of `SIZE` bytes is said to be short.
-    fn check<P: Short>(strict: bool, values: impl IntoIterator<Item = P>) {
-        for value in values {
-            let bytes = encoding(value);
-            assert!(bytes.len() <= P::MOST);
-            assert!(!strict || value.is_short() == (bytes.len() == P::SIZE));
-            if value.is_short() {
-                let exact = Exact::of(&value.short(), P::SIZE);
-                assert_eq!(&exact.expect("the bytes are as many")[..], bytes);
+    fn check<P: Short>(strict: bool, value: P) {
+        let bytes = encoding(value);
+        assert!(bytes.len() <= P::MOST);
+        assert!(!strict || value.is_short() == (bytes.len() == P::SIZE));
+        if value.is_short() {
+            let exact = Exact::of(&value.short(), P::SIZE);
+            assert_eq!(&exact.expect("the bytes are as many")[..], bytes);
+        }
+    }
+
+    #[test]
+    fn numbers_are_short_up_to_the_border() {
+        for number in numbers() {
+            let index = number as u32;
+            check(true, number);
+            check(true, number as i32);
+            check(true, index);
+            check(true, Ieee64::new(number as u64));
+            check(true, Ieee32::new(index));
+            check(true, [index as u8; 16]);
+            check(true, index as Lane);
+            #[rustfmt::skip]
+            check(true, StartSection { function_index: index });
+            check(true, DataCountSection { count: index });
+            check(true, (number, Ordering::SeqCst));
+            check(true, (Ordering::AcqRel, number as i32, index));
+            check(false, HeapType::Concrete(index));
+            check(false, HeapType::Exact(index));
+        }
+    }
+
+    #[test]
+    fn types_said_to_be_short_are_short() {
+        for number in [ValType::I32, ValType::I64, ValType::F32, ValType::F64] {
+            check(true, number);
+        }
+        check(true, ValType::V128);
+        for index in numbers().map(|it| it as u32) {
+            let heap_type = HeapType::Exact(index);
+            #[rustfmt::skip]
+            check(false, ValType::Ref(RefType { nullable: true, heap_type }));
+        }
+        for ty in [AbstractHeapType::Func, AbstractHeapType::NoExn] {
+            for shared in [true, false] {
+                check(true, HeapType::Abstract { shared, ty });
+                check(false, ValType::Ref(RefType::new_abstract(ty, true, shared)));
+                check(
+                    false,
+                    ValType::Ref(RefType::new_abstract(ty, false, shared)),
+                );
             }
         }
     }
 
     #[test]
-    fn values_are_short_up_to_the_border() {
-        check(true, numbers());
-        check(true, numbers().map(|it| it as i32));
-        check(true, numbers().map(|it| it as u32));
-        check(
-            true,
-            BORDERS.map(|function_index| StartSection { function_index }),
-        );
-        check(true, BORDERS.map(|count| DataCountSection { count }));
-        check(true, pairs());
-        check(true, pairs().map(|(a, b)| (Ordering::AcqRel, a, b)));
-        check(true, [0, 0x7F, 0x80, 0xFF_u8]);
-        check(true, [Ordering::SeqCst, Ordering::AcqRel]);
-        check(true, [Ieee32::new(0), Ieee32::new(u32::MAX)]);
-        check(true, [Ieee64::new(0), Ieee64::new(u64::MAX)]);
-        check(true, [[0; 16], [0xFF; 16]]);
-    }
-
-    #[test]
-    fn types_said_to_be_short_are_short() {
-        use AbstractHeapType::{Cont, Func, NoExn};
-
-        for ty in [Func, Cont, NoExn] {
-            check(
-                true,
-                [true, false].map(|shared| HeapType::Abstract { shared, ty }),
-            );
-        }
-        check(false, BORDERS.map(HeapType::Concrete));
-        check(false, BORDERS.map(HeapType::Exact));
-        check(
-            true,
-            [
-                ValType::I32,
-                ValType::I64,
-                ValType::F32,
-                ValType::F64,
-                ValType::V128,
-            ],
-        );
-        for heap_type in BORDERS
-            .into_iter()
-            .map(HeapType::Exact)
-            .chain([HeapType::FUNC])
-        {
-            let references = [true, false].map(|nullable| RefType {
-                nullable,
-                heap_type,
-            });
-            check(false, references.map(ValType::Ref));
-        }
-    }
-
-    #[test]
     fn memory_arguments_are_short_up_to_the_border() {
-        let targets = [0, 1, u32::MAX].map(MemArgTarget::Memory);
-        let targets = targets.into_iter().chain([MemArgTarget::Array(0)]);
         let orderings = [None, Some(MemArgOrdering::Rmw(Ordering::SeqCst))];
-        for (target, ordering) in targets.flat_map(|target| orderings.map(|it| (target, it))) {
-            for (align, offset) in pairs() {
-                for offset in [u64::from(offset), u64::from(offset) << 32 | 1] {
-                    let memarg = MemArg {
-                        offset,
-                        align,
-                        target,
-                        ordering,
-                    };
-                    check(true, [&memarg]);
-                    check(true, [(&memarg, 0xFF_u8)]);
+        let targets = [0, 1, u32::MAX].map(MemArgTarget::Memory);
+        for target in targets.into_iter().chain([MemArgTarget::Array(0)]) {
+            for (offset, align) in numbers().flat_map(|it| [(it, 0x7F), (it, 0x80), (0x7F, it)]) {
+                for ordering in orderings {
+                    let (offset, align) = (offset as u64, align as u32);
+                    #[rustfmt::skip]
+                    let memarg = MemArg { offset, align, target, ordering };
+                    check(true, &memarg);
+                    check(true, (&memarg, 0xFF_u8));
                 }
             }
         }

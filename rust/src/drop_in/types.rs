@@ -1,12 +1,9 @@
 //! The type section, and the types that a module defines.
-use super::bytes::append;
-use super::{CompositeInnerType, CompositeType, Encode, NONE, StructType, SubType};
+use super::{CompositeInnerType, NONE, StructType};
 use crate::base::Entries;
 use crate::ending::Root;
 use crate::types;
-use crate::types::joined;
 use crate::types::type_section::{CoreTypeEncoderIn, TypeSectionIn};
-use alloc_crate::vec::Vec;
 use core::fmt;
 use core::hash::{Hash, Hasher};
 
@@ -52,23 +49,6 @@ impl From<CompositeInnerType> for types::CompositeInnerType {
         }
     }
 }
-
-/// Implements `Encode` by the proved type, to which a copy is converted.
-macro_rules! by_proved {
-    ($($name:ident)*) => {
-        $(
-            impl Encode for $name {
-                #[inline]
-                fn encode(&self, sink: &mut Vec<u8>) {
-                    let proved = types::$name::from(self.clone());
-                    append(&proved, sink)
-                }
-            }
-        )*
-    };
-}
-
-by_proved! { StructType CompositeInnerType CompositeType SubType }
 
 builders! {
     types, (const fn) = TypeSectionIn { entries: NONE };

@@ -100,7 +100,9 @@ def converted(source: str, target: str, names: dict[str, str], proved: Definitio
         own = {old for old in names for line in proved.lines if re.match(r"    pub %s: (?:%s)\b" % (old, "|".join(rows)), line)}
         fields = "".join("            %s: value.%s%s,\n" % (new, old, ".into()" * (old in own)) for old, new in names.items())
         body = "        Self {\n%s        }\n" % fields
-    head = "impl From<%s> for %s {\n    #[inline]\n    fn from(value: %s) -> Self {\n" % (source, target, source)
+    generics = proved.generics
+    head = "impl%s From<%s%s> for %s%s {\n    #[inline]\n" % (generics, source, generics, target, generics)
+    head += "    fn from(value: %s%s) -> Self {\n" % (source, generics)
     return head + body + "    }\n}\n\n"
 
 

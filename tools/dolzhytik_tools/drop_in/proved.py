@@ -133,7 +133,7 @@ def calls_in(lines: list[str], named: dict[str, Owner]) -> Iterator[Proved]:
     for place, line in enumerate(lines):
         if line.startswith(("pub trait", "pub(crate) trait")):
             owner = FREE
-        elif line.startswith("impl"):
+        elif re.match(r"impl\b", line):
             head = whole(lines, place, ("{", "{}"))[len("impl") :].rstrip(" {}")
             end = group_end(head) if head.startswith("<") else 0
             ty = head[end:].partition(" where ")[0].strip()

@@ -197,7 +197,7 @@ ELSEWHERE = {
     "Front": "super::sections",
     "Given": "super::sections",
     "Global": "crate::alloc",
-    "Later": "super::later",
+    "Later": "super::sections",
     "Lent": "crate::base",
     "MARK": "super::custom",
     "Root": "crate::ending",

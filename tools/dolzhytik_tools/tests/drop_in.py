@@ -281,9 +281,9 @@ pub struct Parts<'a> {
     pub fields: Box<[FieldType]>,
 }
 
-impl From<Parts> for base::Parts {
+impl<'a> From<Parts<'a>> for base::Parts<'a> {
     #[inline]
-    fn from(value: Parts) -> Self {
+    fn from(value: Parts<'a>) -> Self {
         Self {
             kind: value.kind.into(),
             bytes: value.data,
