@@ -853,6 +853,7 @@ fn until_end<G: Follow>(g: &mut G, item: fn(&mut G) -> Option<()>) -> Option<()>
 // ---- sections
 
 /// The kinds of sections, in the order of their numbers.
+// begin: written by tools/kinds
 pub const KINDS: [&str; 29] = [
     "Bodies",
     "Segments",
@@ -884,6 +885,7 @@ pub const KINDS: [&str; 29] = [
     "Dylink",
     "Relocations",
 ];
+// end: written by tools/kinds
 
 fn content<G: Follow>(g: &mut G, kind: &str) -> Option<()> {
     match kind {

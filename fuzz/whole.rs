@@ -59,19 +59,20 @@ impl Section<'_> {
     /// The kind that it is decoded as.
     pub fn kind(&self) -> &'static str {
         match (self.id, self.name) {
+            // begin: written by tools/kinds
             (0, Some("name")) => "Names",
             (0, Some("linking")) => "Linking",
             (0, Some("producers")) => "Producers",
-            (0, Some("target_features")) => "TargetFeatures",
-            (0, Some("sourceMappingURL")) => "SourceMappingUrl",
-            (0, Some("external_debug_info")) => "ExternalDebugInfo",
-            (0, Some("build_id")) => "BuildId",
-            (0, Some("dylink.0")) => "Dylink",
             (0, Some("metadata.code.branch_hint")) => "Hints",
             (0, Some("core")) => "Core",
             (0, Some("coremodules")) => "CoreModules",
             (0, Some("coreinstances")) => "CoreInstances",
             (0, Some("corestack")) => "CoreStack",
+            (0, Some("target_features")) => "TargetFeatures",
+            (0, Some("sourceMappingURL")) => "SourceMappingUrl",
+            (0, Some("external_debug_info")) => "ExternalDebugInfo",
+            (0, Some("build_id")) => "BuildId",
+            (0, Some("dylink.0")) => "Dylink",
             (0, Some(name)) if name.starts_with("reloc.") => "Relocations",
             (0, _) => "Custom",
             (1, _) => "Types",
@@ -87,6 +88,7 @@ impl Section<'_> {
             (11, _) => "Segments",
             (12, _) => "DataCount",
             (13, _) => "Tags",
+            // end: written by tools/kinds
             _ => "Raw",
         }
     }

@@ -50,6 +50,7 @@ enum dz_fault {
 /* The kinds of sections, which select how dz_shorten decodes a payload. DZ_CUSTOM decodes a custom
    section as its name and data, and DZ_RAW any section as bytes. */
 enum dz_kind {
+    /* begin: written by tools/kinds */
     DZ_BODIES,
     DZ_SEGMENTS,
     DZ_DATA_COUNT,
@@ -79,6 +80,7 @@ enum dz_kind {
     DZ_BUILD_ID,
     DZ_DYLINK,
     DZ_RELOCATIONS
+    /* end: written by tools/kinds */
 };
 
 /* A section that dz_list returns: the number of its items, the size of its payload in bytes, and

@@ -147,6 +147,7 @@ content_built kinds.Globals s x e short h = let a = (mapped_built _ (vec_built g
 content_built kinds.Imports s x e short h = let a = (mapped_built _ (vec_built import_built)).form s x h in (a.0, a.1)
 content_built kinds.Tables s x e short h = let a = (mapped_built _ (vec_built table_built)).form s x h in (a.0, a.1)
 content_built kinds.Types s x e short h = let a = (mapped_built _ (vec_built type_built)).form s x h in (a.0, a.1)
+-- begin: written by tools/kinds
 content_built kinds.DataCount s x e short h = absurd (not_alone e)
 content_built kinds.Exports s x e short h = absurd (not_alone e)
 content_built kinds.Functions s x e short h = absurd (not_alone e)
@@ -169,6 +170,8 @@ content_built kinds.ExternalDebugInfo s x e short h = absurd (not_alone e)
 content_built kinds.BuildId s x e short h = absurd (not_alone e)
 content_built kinds.Dylink s x e short h = absurd (not_alone e)
 content_built kinds.Relocations s x e short h = absurd (not_alone e)
+
+-- end: written by tools/kinds
 
 -- ---- contents that builders encode
 

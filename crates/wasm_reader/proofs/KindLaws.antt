@@ -21,13 +21,16 @@ use Rattle.wasm_sections.specs.declared.memory.MemoryType.{MemoryType}
 use Rattle.wasm_sections.specs.declared.tag.TagType.{TagType}
 use Rattle.wasm_sections.proofs.WalkItems.{export_canonical, memory_canonical, tag_canonical}
 use Rattle.wasm_types.proofs.Words.{type_item, types_section}
-use Rattle.wasm_custom.proofs.Words.{core_name, modules_name, instances_name, stack_name, hints_name, linking_name}
-use Rattle.wasm_custom.proofs.Words.{name_name, producers_name, core_whole, modules_section, instances_section, stack_whole, hints_section}
-use Rattle.wasm_custom.proofs.Words.{linking_section, names_section, producers_section, named_payload, features_name, features_section}
-use Rattle.wasm_custom.proofs.Words.{source_map_name, debug_file_name, build_id_name, source_map_whole, debug_file_whole, build_id_whole}
-use Rattle.wasm_custom.proofs.Words.{dylink_name, dylink_section, begins_with, relocations_prefix, relocations_whole}
+-- begin: written by tools/kinds
+use Rattle.wasm_custom.proofs.Words.{names_section, name_name, linking_section, linking_name, producers_section, producers_name, hints_section, hints_name, core_whole, core_name, modules_section}
+use Rattle.wasm_custom.proofs.Words.{modules_name, instances_section, instances_name, stack_whole, stack_name, features_section, features_name, source_map_whole, source_map_name, debug_file_whole}
+use Rattle.wasm_custom.proofs.Words.{debug_file_name, build_id_whole, build_id_name, dylink_section, dylink_name, relocations_whole}
+use Rattle.wasm_reader.specs.{Bodies, Segments, DataCount, Elements, Exports, Functions, Globals, Imports, Memories, Start, Tables, Tags, Names, Linking, Producers, Hints, Core, CoreModules}
+use Rattle.wasm_reader.specs.{CoreInstances, CoreStack, Custom, Raw, Types, TargetFeatures, SourceMappingUrl, ExternalDebugInfo, BuildId, Dylink, Relocations}
+-- end: written by tools/kinds
+use Rattle.wasm_custom.proofs.Words.{named_payload, begins_with, relocations_prefix}
 use Rattle.wasm_reader.specs.{Contents, Bodies, Segments, DataCount, Elements, Exports, Functions, Globals, Imports, Memories, Start, Tables, Tags, Types, Names, Linking, Producers, Hints, Core}
-use Rattle.wasm_reader.specs.{CoreModules, CoreInstances, CoreStack, Custom, Raw, TargetFeatures, SourceMappingUrl, ExternalDebugInfo, BuildId, Dylink, Relocations, content, grammars_of, kind_in, number_in}
+use Rattle.wasm_reader.specs.{Contents, content, grammars_of, kind_in, number_in}
 use Rattle.wasm_reader.specs.{kind_among, known_kinds, kind_of_id, kind_among_names, known_names, kind_named, kinds_in_order, kind_numbered}
 use Rattle.wasm_reader.specs.declared.kinds.SectionKind.{SectionKind}
 use Rattle.wasm_reader.specs.declared.kinds.SectionKind.TheVariants as kinds
@@ -48,6 +51,7 @@ abbrev of : {kind : SectionKind} {X : Type 0} {F : Format X} (make : X → Conte
 of {X = X} {F = F} make is one whole = record { X = X; F = F; make = make; is = is; one = one; whole = whole }
 
 abbrev pub row : (kind : SectionKind) → Row kind
+-- begin: written by tools/kinds
 row kinds.Bodies = of Bodies refl (λ x y e. cc) (whole_from_unique (vec_unambiguous size_prefixed_body_unambiguous))
 row kinds.Segments = of Segments refl (λ x y e. cc) segments_section.whole
 row kinds.DataCount = of DataCount refl (λ x y e. cc) (whole_from_unique u32_unambiguous)
@@ -77,6 +81,8 @@ row kinds.ExternalDebugInfo = of ExternalDebugInfo refl (λ x y e. cc) debug_fil
 row kinds.BuildId = of BuildId refl (λ x y e. cc) build_id_whole
 row kinds.Dylink = of Dylink refl (λ x y e. cc) dylink_section.whole
 row kinds.Relocations = of Relocations refl (λ x y e. cc) relocations_whole
+
+-- end: written by tools/kinds
 
 pub content_whole : (kind : SectionKind) → UnambiguousWhole (content kind)
 content_whole kind =
@@ -181,8 +187,11 @@ pub ruleset content_steps = (reads, rejects, custom_read, raw_read)
 
 -- ---- numbers of kinds
 
+-- begin: written by tools/kinds
 pub no_kind : (n : ℕ) → 29 ≤ n → None ≡ kind_numbered n
 no_kind n past = sym (slice_get_past kinds_in_order n past)
+
+-- end: written by tools/kinds
 
 -- ---- kinds of ids and names
 
@@ -247,7 +256,10 @@ kept_among [] h n = custom_kept n
 kept_among (k ∷ ks) h n = for_if (KeepsName n) (bytes_eq n k.0) (h.0 n) (kept_among ks h.1 n)
 
 pub keeps_name : (n : List ℕ) → KeepsName n (kind_named n)
+-- begin: written by tools/kinds
 keeps_name n = for_if (KeepsName n) (begins_with relocations_prefix n) (relocations_kept n) (kept_among known_names (named_kept Names name_name kinds.Names refl, (named_kept Linking linking_name kinds.Linking refl, (named_kept Producers producers_name kinds.Producers refl, (named_kept TargetFeatures features_name kinds.TargetFeatures refl, (named_kept Hints hints_name kinds.Hints refl, (named_kept Core core_name kinds.Core refl, (named_kept CoreModules modules_name kinds.CoreModules refl, (named_kept CoreInstances instances_name kinds.CoreInstances refl, (named_kept CoreStack stack_name kinds.CoreStack refl, (named_kept SourceMappingUrl source_map_name kinds.SourceMappingUrl refl, (named_kept ExternalDebugInfo debug_file_name kinds.ExternalDebugInfo refl, (named_kept BuildId build_id_name kinds.BuildId refl, (named_kept Dylink dylink_name kinds.Dylink refl, tt))))))))))))) n)
+
+-- end: written by tools/kinds
 
 -- ---- numbers of items
 
@@ -260,6 +272,7 @@ count_as : {X : Type 0} (f : List X → Contents) {F : Format X} {k : SectionKin
 count_as f is numbered m kind bytes (Ok n) e h = (f h.0, subst (λ z. content z m bytes (f h.0)) (sym e) (subst (λ G. G m bytes (f h.0)) (sym is) (h.0, refl, h.1)), h.2 ∙ numbered h.0)
 count_as f is numbered m kind bytes (Err z) e h = tt
 
+-- begin: written by tools/kinds
 pub bodies_counted : CountsAs Bodies (size_prefixed body) kinds.Bodies
 bodies_counted = count_as Bodies refl (λ xs. refl)
 
@@ -295,7 +308,10 @@ types_counted = count_as Types refl (λ xs. refl)
 
 pub ruleset number_steps = (bodies_counted, segments_counted, elements_counted, exports_counted, functions_counted, globals_counted, imports_counted, memories_counted, tables_counted, tags_counted, types_counted)
 
+-- end: written by tools/kinds
+
 -- Sections of the other kinds have no number of items.
+-- begin: written by tools/kinds
 pub uncounted : (kind : SectionKind) (m : Mode) (s : List ℕ) (x : Contents) → content kind m s x → kind ≢ kinds.Bodies → kind ≢ kinds.Segments → kind ≢ kinds.Elements → kind ≢ kinds.Exports → kind ≢ kinds.Functions → kind ≢ kinds.Globals → kind ≢ kinds.Imports → kind ≢ kinds.Memories → kind ≢ kinds.Tables → kind ≢ kinds.Tags → kind ≢ kinds.Types → kind ≢ kinds.DataCount → kind ≢ kinds.Start → None ≡ number_in x
 uncounted kinds.Bodies m s x h n0 n1 n2 n3 n4 n5 n6 n7 n8 n9 n10 n11 n12 = absurd (n0 refl)
 uncounted kinds.Segments m s x h n0 n1 n2 n3 n4 n5 n6 n7 n8 n9 n10 n11 n12 = absurd (n1 refl)
@@ -312,6 +328,8 @@ uncounted kinds.Tags m s x h n0 n1 n2 n3 n4 n5 n6 n7 n8 n9 n10 n11 n12 = absurd 
 uncounted kinds.Types m s x h n0 n1 n2 n3 n4 n5 n6 n7 n8 n9 n10 n11 n12 = absurd (n10 refl)
 uncounted kind m s x h n0 n1 n2 n3 n4 n5 n6 n7 n8 n9 n10 n11 n12 = ap number_in h.1
 
+-- end: written by tools/kinds
+
 -- ---- custom sections
 
 -- Sections of this kind have no number of items.
@@ -327,6 +345,7 @@ uncounted_among [] h n = λ m s x g. sym (ap number_in g.1)
 uncounted_among (k ∷ ks) h n = for_if IsUncounted (bytes_eq n k.0) h.0 (uncounted_among ks h.1 n)
 
 pub named_uncounted : (n : List ℕ) → IsUncounted (kind_named n)
+-- begin: written by tools/kinds
 named_uncounted n = for_if IsUncounted (begins_with relocations_prefix n) (λ m s x g. sym (ap number_in g.1))
     (uncounted_among known_names (
       λ m s x g. sym (ap number_in g.1),
@@ -353,3 +372,4 @@ named_uncounted n = for_if IsUncounted (begins_with relocations_prefix n) (λ m 
         ),
       ),
     ) n)
+    -- end: written by tools/kinds

@@ -3,15 +3,21 @@ use Rattle.wasm_base.proofs.Words.{◌≡◌, ◌≢◌, ℕ, List, refl, Append
 use Rattle.wasm_code.proofs.Words.{body}
 use Rattle.wasm_sections.proofs.Words.{data_item, element, global_item, import_format, table_item}
 use Rattle.wasm_types.proofs.Words.{type_item}
-use Rattle.wasm_custom.proofs.Words.{name_payload, linking_payload, producers_payload, hints_payload, core_payload, modules_payload, instances_payload, stack_payload, features_payload, source_map_payload, debug_file_payload, build_id_payload, dylink_payload, relocations_payload}
 use Rattle.wasm_base.specs.declared.refused.Refused.{Refused}
 use Rattle.wasm_base.specs.declared.refused.Refused.TheVariants.{TooLong}
+-- begin: written by tools/kinds
+use Rattle.wasm_custom.proofs.Words.{name_payload, linking_payload, producers_payload, hints_payload, core_payload, modules_payload, instances_payload, stack_payload, features_payload}
+use Rattle.wasm_custom.proofs.Words.{source_map_payload, debug_file_payload, build_id_payload, dylink_payload, relocations_payload}
+use Rattle.wasm_reader.specs.{Bodies, Segments, DataCount, Elements, Exports, Functions, Globals, Imports, Memories, Start, Tables, Tags, Names, Linking, Producers, Hints, Core, CoreModules}
+use Rattle.wasm_reader.specs.{CoreInstances, CoreStack, Custom, Raw, Types, TargetFeatures, SourceMappingUrl, ExternalDebugInfo, BuildId, Dylink, Relocations}
+-- end: written by tools/kinds
 use Rattle.wasm_reader.specs.{Contents, Bodies, Segments, DataCount, Elements, Exports, Functions, Globals, Imports, Memories, Start, Tables, Tags, Types, Names, Linking, Producers, Hints, Core}
-use Rattle.wasm_reader.specs.{CoreModules, CoreInstances, CoreStack, Custom, Raw, TargetFeatures, SourceMappingUrl, ExternalDebugInfo, BuildId, Dylink, Relocations, content, grammars_of, kind_in}
+use Rattle.wasm_reader.specs.{Contents, content, grammars_of, kind_in}
 use Rattle.wasm_reader.proofs.KindLaws.{row, items_appended, items_fit}
 
 -- The value of the format of its kind that the content is.
 abbrev pub value_in : (c : Contents) → (row (kind_in c)).X
+-- begin: written by tools/kinds
 value_in (Bodies x) = x
 value_in (Segments x) = x
 value_in (DataCount x) = x
@@ -42,12 +48,15 @@ value_in (BuildId x) = x
 value_in (Dylink x) = x
 value_in (Relocations x) = x
 
+-- end: written by tools/kinds
+
 made : (c : Contents) → c ≡ (row (kind_in c)).make (value_in c)
 made (Bodies x) = refl
 made c = refl
 
 -- The buffer gains the minimal encoding of this value. Other kinds have lemmas of their own.
 abbrev pub AppendsValue : Contents → List ℕ → List ℕ → Type 0
+-- begin: written by tools/kinds
 AppendsValue (Bodies x) old new = AppendsMinimal builders_alone (vec (size_prefixed body)) x old new
 AppendsValue (Segments x) old new = AppendsMinimal builders_alone (vec data_item) x old new
 AppendsValue (DataCount x) old new = AppendsMinimal both_grammars u32 x old new
@@ -73,7 +82,10 @@ AppendsValue (Dylink x) old new = AppendsMinimal both_grammars dylink_payload x 
 AppendsValue (Relocations x) old new = AppendsMinimal both_grammars relocations_payload x old new
 AppendsValue x old new = ⊥
 
+-- end: written by tools/kinds
+
 pub value_appended : (c : Contents) (old new : List ℕ) → AppendsValue c old new → AppendsMinimal (grammars_of (kind_in c)) (content (kind_in c)) c old new
+-- begin: written by tools/kinds
 value_appended (Exports x) old new a = absurd a
 value_appended (Functions x) old new a = absurd a
 value_appended (Memories x) old new a = absurd a
@@ -82,8 +94,11 @@ value_appended (Custom x) old new a = absurd a
 value_appended (Raw x) old new a = absurd a
 value_appended c old new a = items_appended c (value_in c) old new (made c) a
 
+-- end: written by tools/kinds
+
 -- The call does not return `TooLong` if some bytes encode this value.
 abbrev pub FitsValue : Contents → Result (Unit {0}) Refused → Type 0
+-- begin: written by tools/kinds
 FitsValue (Bodies x) r = HasEncoding builders_alone (vec (size_prefixed body)) x → r ≢ Err TooLong
 FitsValue (Segments x) r = HasEncoding builders_alone (vec data_item) x → r ≢ Err TooLong
 FitsValue (DataCount x) r = HasEncoding both_grammars u32 x → r ≢ Err TooLong
@@ -109,7 +124,10 @@ FitsValue (Dylink x) r = HasEncoding both_grammars dylink_payload x → r ≢ Er
 FitsValue (Relocations x) r = HasEncoding both_grammars relocations_payload x → r ≢ Err TooLong
 FitsValue x r = ⊥
 
+-- end: written by tools/kinds
+
 pub value_fits : (c : Contents) (r : Result (Unit {0}) Refused) → FitsValue c r → HasEncoding (grammars_of (kind_in c)) (content (kind_in c)) c → r ≢ Err TooLong
+-- begin: written by tools/kinds
 value_fits (Exports x) r fits h = absurd fits
 value_fits (Functions x) r fits h = absurd fits
 value_fits (Memories x) r fits h = absurd fits
@@ -117,5 +135,7 @@ value_fits (Tags x) r fits h = absurd fits
 value_fits (Custom x) r fits h = absurd fits
 value_fits (Raw x) r fits h = absurd fits
 value_fits c r fits h = items_fit c (value_in c) r (made c) fits h
+
+-- end: written by tools/kinds
 
 pub ruleset value_steps = (value_appended, value_fits)

@@ -11,11 +11,14 @@ use Rattle.wasm_sections.specs.Words.{imports_item, import_format, memory_type, 
 use Rattle.wasm_sections.specs.declared.memory.MemoryType.{MemoryType}
 use Rattle.wasm_sections.specs.declared.tag.TagType.{TagType}
 use Rattle.wasm_types.specs.Words.{TypeItem, type_item, entry_view}
-use Rattle.wasm_custom.specs.Words.{Instance, core_name, modules_name, instances_name, instance_view, core_payload, modules_payload, instances_payload, StackFrame, stack_name, stack_frame_view}
-use Rattle.wasm_custom.specs.Words.{stack_payload, Hints as FunctionHints, hints_name, hints_view, hints_payload, LinkItem, linking_name, link_view, linking_payload, NameItem, name_name}
-use Rattle.wasm_custom.specs.Words.{name_item_view, name_payload, Field, producers_name, field_view, producers_payload, Feature, features_name, feature_view, features_payload, source_map_name}
-use Rattle.wasm_custom.specs.Words.{debug_file_name, build_id_name, source_map_payload, debug_file_payload, build_id_payload, DylinkItem, dylink_name, dylink_view, dylink_payload}
-use Rattle.wasm_custom.specs.Words.{Relocations as RelocationsModel, begins_with, relocations_payload, relocations_prefix}
+-- begin: written by tools/kinds
+use Rattle.wasm_custom.specs.Words.{NameItem, name_item_view, name_payload, name_name, LinkItem, link_view, linking_payload, linking_name, Field, field_view, producers_payload, producers_name}
+use Rattle.wasm_custom.specs.Words.{Hints as FunctionHints, hints_view, hints_payload, hints_name, core_payload, core_name, modules_payload, modules_name, Instance, instance_view, instances_payload}
+use Rattle.wasm_custom.specs.Words.{instances_name, StackFrame, stack_frame_view, stack_payload, stack_name, Feature, feature_view, features_payload, features_name, source_map_payload, source_map_name}
+use Rattle.wasm_custom.specs.Words.{debug_file_payload, debug_file_name, build_id_payload, build_id_name, DylinkItem, dylink_view, dylink_payload, dylink_name, Relocations as RelocationsModel}
+use Rattle.wasm_custom.specs.Words.{relocations_payload}
+-- end: written by tools/kinds
+use Rattle.wasm_custom.specs.Words.{begins_with, relocations_prefix}
 use Rattle.wasm_reader.specs.declared.kinds.Items.{Items}
 use Rattle.wasm_reader.specs.declared.kinds.SectionKind.{SectionKind}
 use Rattle.wasm_base.specs.declared.section_id.SectionId.TheVariants as ids
@@ -24,6 +27,7 @@ use Rattle.wasm_reader.specs.declared.kinds.SectionKind.TheVariants as kinds
 
 -- The content of a section.
 pub data Contents : Type 0 where
+  -- begin: written by tools/kinds
   Bodies : List Body → Contents
   Segments : List DataItem → Contents
   DataCount : ℕ → Contents
@@ -53,9 +57,11 @@ pub data Contents : Type 0 where
   BuildId : List ℕ → Contents
   Dylink : List DylinkItem → Contents
   Relocations : RelocationsModel → Contents
+  -- end: written by tools/kinds
 
 -- The format of the payload of a section of this kind.
 abbrev pub content : SectionKind → Format Contents
+-- begin: written by tools/kinds
 content kinds.Bodies = mapped Bodies (vec (size_prefixed body))
 content kinds.Segments = mapped Segments (vec data_item)
 content kinds.DataCount = mapped DataCount u32
@@ -86,10 +92,13 @@ content kinds.BuildId = mapped BuildId build_id_payload
 content kinds.Dylink = mapped Dylink dylink_payload
 content kinds.Relocations = mapped Relocations relocations_payload
 
+-- end: written by tools/kinds
+
 -- The grammars whose minimal encoding is written for the items of a section of this kind. In the
 -- standard's grammar, types, instructions and flags may have a shorter encoding than in the
 -- builders', which is the one that is written.
 abbrev pub grammars_of : SectionKind → Grammars
+-- begin: written by tools/kinds
 grammars_of kinds.Bodies = builders_alone
 grammars_of kinds.Segments = builders_alone
 grammars_of kinds.Elements = builders_alone
@@ -99,8 +108,11 @@ grammars_of kinds.Tables = builders_alone
 grammars_of kinds.Types = builders_alone
 grammars_of kind = both_grammars
 
+-- end: written by tools/kinds
+
 -- The kind of section that has this content.
 abbrev pub kind_in : Contents → SectionKind
+-- begin: written by tools/kinds
 kind_in (Bodies xs) = kinds.Bodies
 kind_in (Segments xs) = kinds.Segments
 kind_in (DataCount n) = kinds.DataCount
@@ -131,8 +143,11 @@ kind_in (BuildId x) = kinds.BuildId
 kind_in (Dylink x) = kinds.Dylink
 kind_in (Relocations x) = kinds.Relocations
 
+-- end: written by tools/kinds
+
 -- The view of decoded items.
 abbrev pub contents_of : {A : Type 0} → Items A → Contents
+-- begin: written by tools/kinds
 contents_of (items.Bodies v) = Bodies (map body_view v.items)
 contents_of (items.Segments v) = Segments (map segment_view v.items)
 contents_of (items.DataCount n) = DataCount n
@@ -163,11 +178,15 @@ contents_of (items.BuildId x) = BuildId x.now
 contents_of (items.Dylink v) = Dylink (map dylink_view v.items)
 contents_of (items.Relocations n section v) = Relocations (n.now, (section, v.items))
 
+-- end: written by tools/kinds
+
 -- The kinds, in the order of their numbers.
 abbrev pub kinds_in_order : List SectionKind
 kinds_in_order =
+    -- begin: written by tools/kinds
     kinds.Bodies ∷ kinds.Segments ∷ kinds.DataCount ∷ kinds.Elements ∷ kinds.Exports ∷ kinds.Functions ∷ kinds.Globals ∷ kinds.Imports ∷ kinds.Memories ∷ kinds.Start ∷ kinds.Tables ∷ kinds.Tags
     ∷ kinds.Names ∷ kinds.Linking ∷ kinds.Producers ∷ kinds.Hints ∷ kinds.Core ∷ kinds.CoreModules ∷ kinds.CoreInstances ∷ kinds.CoreStack ∷ kinds.Custom ∷ kinds.Raw ∷ kinds.Types ∷ kinds.TargetFeatures ∷ kinds.SourceMappingUrl ∷ kinds.ExternalDebugInfo ∷ kinds.BuildId ∷ kinds.Dylink ∷ kinds.Relocations ∷ []
+    -- end: written by tools/kinds
 
 -- The kind of a number, counted from 0.
 abbrev pub kind_numbered : ℕ → Option SectionKind
@@ -181,6 +200,7 @@ kind_among (k ∷ ks) id = cond (id == k.0) k.1 (kind_among ks id)
 -- The kinds of sections by their ids. A custom section has the kind `Custom`, whatever its name.
 abbrev pub known_kinds : List (ℕ × SectionKind)
 known_kinds =
+    -- begin: written by tools/kinds
     (number_of ids.Custom, kinds.Custom) ∷ (number_of ids.Import, kinds.Imports) ∷ (number_of ids.Function, kinds.Functions) ∷ (number_of ids.Table, kinds.Tables) ∷ (number_of ids.Memory, kinds.Memories) ∷ (number_of ids.Global, kinds.Globals)
     ∷ (number_of ids.Export, kinds.Exports)
     ∷ (number_of ids.Start, kinds.Start)
@@ -190,6 +210,7 @@ known_kinds =
     ∷ (number_of ids.DataCount, kinds.DataCount)
     ∷ (number_of ids.Tag, kinds.Tags)
     ∷ []
+    -- end: written by tools/kinds
 
 -- The kind of a section of this id. Type sections and ids above 13 are `Raw`.
 abbrev pub kind_of_id : ℕ → SectionKind
@@ -203,6 +224,7 @@ kind_among_names (k ∷ ks) n = if bytes_eq n k.0 then k.1 else kind_among_names
 -- The kinds of custom sections by their names.
 abbrev pub known_names : List (List ℕ × SectionKind)
 known_names =
+    -- begin: written by tools/kinds
     (name_name, kinds.Names) ∷ (linking_name, kinds.Linking) ∷ (producers_name, kinds.Producers) ∷ (features_name, kinds.TargetFeatures)
     ∷ (hints_name, kinds.Hints)
     ∷ (core_name, kinds.Core)
@@ -214,6 +236,7 @@ known_names =
     ∷ (build_id_name, kinds.BuildId)
     ∷ (dylink_name, kinds.Dylink)
     ∷ []
+    -- end: written by tools/kinds
 
 -- The kind of a custom section of this name: `Relocations` if the name begins with `reloc.`, and
 -- otherwise that of the list.
@@ -223,6 +246,7 @@ kind_named n = if begins_with relocations_prefix n then kinds.Relocations else k
 -- The number of items, if they are counted. The items of a type section are its entries, and a
 -- recursion group is one entry.
 abbrev pub number_in : Contents → Option ℕ
+-- begin: written by tools/kinds
 number_in (Bodies xs) = Some (length xs)
 number_in (Segments xs) = Some (length xs)
 number_in (DataCount n) = Some 1
@@ -237,3 +261,5 @@ number_in (Tables xs) = Some (length xs)
 number_in (Tags xs) = Some (length xs)
 number_in (Types xs) = Some (length xs)
 number_in x = None
+
+-- end: written by tools/kinds

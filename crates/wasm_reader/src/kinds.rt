@@ -11,6 +11,7 @@ ghost use Rattle.wasm_reader.specs.declared.kinds.SectionKind.TheVariants as kin
 use std::alloc::{Allocator, Global};
 use wasm_base::{DecodeError, Encode, Grammar, Readable, Result, Shorten, read_whole};
 use wasm_code::Body;
+// begin: written by tools/kinds
 use wasm_custom::{
     BranchHint, CoreFrame, DylinkItem, FeaturePrefix, LinkItem, NameItem, Relocation,
     append_build_id, append_debug_file, append_dylink, append_features, append_hints,
@@ -19,6 +20,7 @@ use wasm_custom::{
     read_dylink, read_features, read_hints, read_instances, read_links, read_modules, read_names,
     read_process, read_producers, read_relocations, read_source_map, read_stack,
 };
+// end: written by tools/kinds
 use wasm_sections::{
     ElementItem, Export, GlobalItem, Imports, MemoryType, Segment, TableItem, TagType,
     append_imports, read_imports, read_segments,
@@ -84,6 +86,7 @@ impl SectionKind {
         ensures { result ≡ kind_numbered number }
     {
         match number {
+            // begin: written by tools/kinds
             0 => Some(SectionKind::Bodies),
             1 => Some(SectionKind::Segments),
             2 => Some(SectionKind::DataCount),
@@ -113,6 +116,7 @@ impl SectionKind {
             26 => Some(SectionKind::BuildId),
             27 => Some(SectionKind::Dylink),
             28 => Some(SectionKind::Relocations),
+            // end: written by tools/kinds
             _ => None,
         }
     }
@@ -185,6 +189,7 @@ impl<'a, A: Allocator> Items<'a, A> {
         ensures { result ≡ kind_in (contents_of self.now) }
     {
         match self {
+            // begin: written by tools/kinds
             Items::Bodies(_) => SectionKind::Bodies,
             Items::Segments(_) => SectionKind::Segments,
             Items::DataCount(_) => SectionKind::DataCount,
@@ -214,6 +219,7 @@ impl<'a, A: Allocator> Items<'a, A> {
             Items::BuildId(_) => SectionKind::BuildId,
             Items::Dylink(_) => SectionKind::Dylink,
             Items::Relocations { .. } => SectionKind::Relocations,
+            // end: written by tools/kinds
         }
     }
 }
@@ -224,6 +230,7 @@ pub(crate) fn kind_of_id(id: u8) -> SectionKind
     ensures { result ≡ kind_among_ids id }
 {
     match id {
+        // begin: written by tools/kinds
         0 => SectionKind::Custom,
         2 => SectionKind::Imports,
         3 => SectionKind::Functions,
@@ -237,6 +244,7 @@ pub(crate) fn kind_of_id(id: u8) -> SectionKind
         11 => SectionKind::Segments,
         12 => SectionKind::DataCount,
         13 => SectionKind::Tags,
+        // end: written by tools/kinds
         _ => SectionKind::Raw,
     }
 }
@@ -246,6 +254,7 @@ fn kind_of_whole_name(name: &str) -> SectionKind
     ensures { result ≡ kind_among_names known_names name.now }
 {
     match name {
+        // begin: written by tools/kinds
         "name" => SectionKind::Names,
         "linking" => SectionKind::Linking,
         "producers" => SectionKind::Producers,
@@ -259,6 +268,7 @@ fn kind_of_whole_name(name: &str) -> SectionKind
         "external_debug_info" => SectionKind::ExternalDebugInfo,
         "build_id" => SectionKind::BuildId,
         "dylink.0" => SectionKind::Dylink,
+        // end: written by tools/kinds
         _ => SectionKind::Custom,
     }
 }
@@ -285,6 +295,7 @@ pub(crate) fn read_content<'a, A: Allocator + Copy + 'a, G: Grammar>(
     ensures none { IfErr result (λ e. e.cause ≢ Memory → RejectsWhole (content kind) (padded_of G.grammar) bytes.now) }
 {
     match kind {
+        // begin: written by tools/kinds
         SectionKind::Bodies => Ok(Items::Bodies(read_whole::<'a, Vec<Body<A>, A>, A, G>(
             bytes, alloc,
         )?)),
@@ -351,6 +362,7 @@ pub(crate) fn read_content<'a, A: Allocator + Copy + 'a, G: Grammar>(
                 relocations,
             })
         }
+        // end: written by tools/kinds
     }
 }
 
@@ -406,6 +418,7 @@ pub fn encode_items<A: Allocator, B: Allocator>(
     ensures too_long { HasEncoding (grammars_of (kind_in (contents_of items.now))) (content (kind_in (contents_of items.now))) (contents_of items.now) → result ≢ Err TooLong }
 {
     match items {
+        // begin: written by tools/kinds
         Items::Bodies(items) => items.append_minimal(sink),
         Items::Segments(items) => items.append_minimal(sink),
         Items::DataCount(count) => count.append_minimal(sink),
@@ -442,5 +455,6 @@ pub fn encode_items<A: Allocator, B: Allocator>(
             section,
             relocations,
         } => append_relocations(name, *section, relocations, sink),
+        // end: written by tools/kinds
     }
 }

@@ -14,11 +14,13 @@ use wasm_base::{
     DecodeError, Discard, Effect, Grammar, RawBytes, ReadFault, Walk, skip_many, walk_whole,
 };
 use wasm_code::Body;
+// begin: written by tools/kinds
 use wasm_custom::{
     walk_build_id, walk_debug_file, walk_dylink, walk_features, walk_hints, walk_instances,
     walk_links, walk_modules, walk_names, walk_process, walk_producers, walk_relocations,
     walk_source_map, walk_stack,
 };
+// end: written by tools/kinds
 use wasm_sections::{
     ElementItem, Export, GlobalItem, Imports, MemoryType, Segment, TableItem, TagType,
 };
@@ -67,6 +69,7 @@ pub(crate) fn walk_content<A: Allocator + Copy, G: Grammar, E: Effect>(
     ensures front { Keeps E.seen effect.old effect.new }
 {
     match kind {
+        // begin: written by tools/kinds
         SectionKind::Bodies => walk_whole::<Vec<Body<A>, A>, A, G, _>(bytes, alloc, effect),
         SectionKind::Segments => walk_whole::<Vec<Segment<'_, A>, A>, A, G, _>(
             bytes, alloc, effect,
@@ -83,7 +86,6 @@ pub(crate) fn walk_content<A: Allocator + Copy, G: Grammar, E: Effect>(
         SectionKind::Start => walk_whole::<u32, A, G, _>(bytes, alloc, effect),
         SectionKind::Tables => walk_whole::<Vec<TableItem<A>, A>, A, G, _>(bytes, alloc, effect),
         SectionKind::Tags => walk_whole::<Vec<TagType, A>, A, G, _>(bytes, alloc, effect),
-        SectionKind::Types => walk_whole::<Vec<TypeEntry<A>, A>, A, G, _>(bytes, alloc, effect),
         SectionKind::Names => walk_names::<A, G, _>(bytes, alloc, effect),
         SectionKind::Linking => walk_links::<A, G, _>(bytes, alloc, effect),
         SectionKind::Producers => walk_producers::<A, G, _>(bytes, alloc, effect),
@@ -94,12 +96,14 @@ pub(crate) fn walk_content<A: Allocator + Copy, G: Grammar, E: Effect>(
         SectionKind::CoreStack => walk_stack::<A, G, _>(bytes, alloc, effect),
         SectionKind::Custom => walk_custom::<A, G, _>(bytes, alloc, effect),
         SectionKind::Raw => walk_raw::<G, _>(bytes, effect),
+        SectionKind::Types => walk_whole::<Vec<TypeEntry<A>, A>, A, G, _>(bytes, alloc, effect),
         SectionKind::TargetFeatures => walk_features::<A, G, _>(bytes, alloc, effect),
         SectionKind::SourceMappingUrl => walk_source_map::<A, G, _>(bytes, alloc, effect),
         SectionKind::ExternalDebugInfo => walk_debug_file::<A, G, _>(bytes, alloc, effect),
         SectionKind::BuildId => walk_build_id::<A, G, _>(bytes, alloc, effect),
         SectionKind::Dylink => walk_dylink::<A, G, _>(bytes, alloc, effect),
         SectionKind::Relocations => walk_relocations::<A, G, _>(bytes, alloc, effect),
+        // end: written by tools/kinds
     }
 }
 
@@ -134,6 +138,7 @@ pub(crate) fn count_content<'a, A: Allocator + Copy, G: Grammar>(
     ensures no_memory { IfErr result (λ e. e.cause ≢ Memory) }
 {
     match kind {
+        // begin: written by tools/kinds
         SectionKind::Bodies => count_members::<Body<A>, A, G>(bytes, alloc),
         SectionKind::Segments => count_members::<Segment<'a, A>, A, G>(bytes, alloc),
         SectionKind::Elements => count_members::<ElementItem<A>, A, G>(bytes, alloc),
@@ -145,6 +150,7 @@ pub(crate) fn count_content<'a, A: Allocator + Copy, G: Grammar>(
         SectionKind::Tables => count_members::<TableItem<A>, A, G>(bytes, alloc),
         SectionKind::Tags => count_members::<TagType, A, G>(bytes, alloc),
         SectionKind::Types => count_members::<TypeEntry<A>, A, G>(bytes, alloc),
+        // end: written by tools/kinds
         SectionKind::DataCount | SectionKind::Start => {
             walk_content::<A, G, _>(kind, bytes, alloc, &mut Discard)?;
             Ok(Some(1))

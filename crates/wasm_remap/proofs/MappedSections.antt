@@ -1,8 +1,11 @@
 -- This file proves that the content of a section has an encoding after a map of its indices.
 use Rattle.wasm_base.proofs.Words.{◌≡◌, ℕ, ◌^◌, ◌<◌, List, length, map, refl, subst, sym, arith}
 use Rattle.wasm_base.specs.Numbers.{admitted, standard, standard_minimal}
-use Rattle.wasm_reader.specs.Kinds.{Contents, content, Bodies, Segments, DataCount, Elements, Exports, Functions, Globals, Imports, Memories, Start, Tables, Tags, Names, Linking, Producers, Hints, Core, CoreModules}
+-- begin: written by tools/kinds
+use Rattle.wasm_reader.specs.Kinds.{Bodies, Segments, DataCount, Elements, Exports, Functions, Globals, Imports, Memories, Start, Tables, Tags, Names, Linking, Producers, Hints, Core, CoreModules}
 use Rattle.wasm_reader.specs.Kinds.{CoreInstances, CoreStack, Custom, Raw, Types, TargetFeatures, SourceMappingUrl, ExternalDebugInfo, BuildId, Dylink, Relocations}
+-- end: written by tools/kinds
+use Rattle.wasm_reader.specs.Kinds.{Contents, content}
 use Rattle.wasm_reader.specs.Sections.{AppendsContentIn, HasContentIn, HasShortBodies}
 use Rattle.wasm_reader.specs.Words.{Section, section_kind_of}
 use Rattle.wasm_reader.specs.declared.kinds.SectionKind.{SectionKind}
@@ -23,6 +26,7 @@ use Rattle.wasm_remap.proofs.MappedTypes.{type_maps}
 
 module _ (m : Mapping) (small : IsSmall m) where
   content_maps : (kind : SectionKind) → Maps (remapped m) (content kind)
+  -- begin: written by tools/kinds
   content_maps kinds.Bodies = mapped_maps Bodies (map (remapped_body m)) (λ x. refl) (vec_maps (size_prefixed_maps (body_maps m small)))
   content_maps kinds.Segments = mapped_maps Segments (map (remapped_data m)) (λ x. refl) (vec_maps (data_maps m small))
   content_maps kinds.DataCount = mapped_maps DataCount (λ x. x) (λ x. refl) kept
@@ -52,6 +56,8 @@ module _ (m : Mapping) (small : IsSmall m) where
   content_maps kinds.BuildId = mapped_maps BuildId (λ x. x) (λ x. refl) kept
   content_maps kinds.Dylink = mapped_maps Dylink (λ x. x) (λ x. refl) kept
   content_maps kinds.Relocations = mapped_maps Relocations _ (λ x. refl) (relocations_maps m small)
+
+  -- end: written by tools/kinds
 
   short_bodies : (kind : SectionKind) (t : List ℕ) → length t < 2 ^ 31 → HasShortBodies admitted kind t
   short_bodies kinds.Bodies t l = l

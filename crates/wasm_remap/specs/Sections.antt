@@ -21,6 +21,7 @@ use Rattle.wasm_remap.specs.declared.spaces.IndexSpace.TheVariants as spaces
 -- The content with each index mapped. The frames of a core dump have functions of the dumped modules,
 -- which stay.
 abbrev pub remapped : Mapping → Contents → Contents
+-- begin: written by tools/kinds
 remapped m (Bodies xs) = Bodies (map (remapped_body m) xs)
 remapped m (Segments xs) = Segments (map (remapped_data m) xs)
 remapped m (DataCount n) = DataCount n
@@ -50,6 +51,8 @@ remapped m (ExternalDebugInfo x) = ExternalDebugInfo x
 remapped m (BuildId x) = BuildId x
 remapped m (Dylink xs) = Dylink xs
 remapped m (Relocations x) = Relocations (x.0, (x.1.0, map (remapped_relocation m) x.1.1))
+
+-- end: written by tools/kinds
 
 -- The section decodes to items, and the buffer gains the minimal encoding of these items with each
 -- index mapped, if they have one. They have if the new indices are below 2^32, and the section has

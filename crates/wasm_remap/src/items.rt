@@ -47,6 +47,7 @@ pub fn remap_items<A: Allocator + Copy, M: Remap>(
         Items::CoreInstances(items) => remap_each(items, alloc, indices),
         Items::Types(items) => remap_each(items, alloc, indices),
         Items::Relocations { relocations, .. } => remap_each(relocations, alloc, indices),
+        // begin: written by tools/kinds
         Items::DataCount(_)
         | Items::Memories(_)
         | Items::Producers(_)
@@ -60,6 +61,7 @@ pub fn remap_items<A: Allocator + Copy, M: Remap>(
         | Items::ExternalDebugInfo(_)
         | Items::BuildId(_)
         | Items::Dylink(_) => Ok(()),
+        // end: written by tools/kinds
     }
 }
 
@@ -68,6 +70,7 @@ pub fn remap_items<A: Allocator + Copy, M: Remap>(
 fn is_minimal_when_built(kind: SectionKind) -> bool
     ensures { result ≡ true → grammars_of kind ≡ both_grammars }
 {
+    // begin: written by tools/kinds
     !matches!(
         kind,
         SectionKind::Bodies
@@ -78,6 +81,7 @@ fn is_minimal_when_built(kind: SectionKind) -> bool
             | SectionKind::Tables
             | SectionKind::Types
     )
+    // end: written by tools/kinds
 }
 
 /// Appends the minimal encoding of the items in the standard's grammar. On an error, the sink is

@@ -9,8 +9,27 @@ use dolzhytik::reader::SectionKind;
 fn numbered() {
     let rt = crate::host::HostRuntime;
     assert_eq!(rt; SectionKind::numbered(0), Some(SectionKind::Bodies));
+    assert_eq!(rt; SectionKind::numbered(1), Some(SectionKind::Segments));
+    assert_eq!(rt; SectionKind::numbered(2), Some(SectionKind::DataCount));
+    assert_eq!(rt; SectionKind::numbered(3), Some(SectionKind::Elements));
+    assert_eq!(rt; SectionKind::numbered(4), Some(SectionKind::Exports));
     assert_eq!(rt; SectionKind::numbered(5), Some(SectionKind::Functions));
+    assert_eq!(rt; SectionKind::numbered(6), Some(SectionKind::Globals));
+    assert_eq!(rt; SectionKind::numbered(7), Some(SectionKind::Imports));
+    assert_eq!(rt; SectionKind::numbered(8), Some(SectionKind::Memories));
+    assert_eq!(rt; SectionKind::numbered(9), Some(SectionKind::Start));
+    assert_eq!(rt; SectionKind::numbered(10), Some(SectionKind::Tables));
+    assert_eq!(rt; SectionKind::numbered(11), Some(SectionKind::Tags));
+    assert_eq!(rt; SectionKind::numbered(12), Some(SectionKind::Names));
+    assert_eq!(rt; SectionKind::numbered(13), Some(SectionKind::Linking));
+    assert_eq!(rt; SectionKind::numbered(14), Some(SectionKind::Producers));
     assert_eq!(rt; SectionKind::numbered(15), Some(SectionKind::Hints));
+    assert_eq!(rt; SectionKind::numbered(16), Some(SectionKind::Core));
+    assert_eq!(rt; SectionKind::numbered(17), Some(SectionKind::CoreModules));
+    assert_eq!(rt; SectionKind::numbered(18), Some(SectionKind::CoreInstances));
+    assert_eq!(rt; SectionKind::numbered(19), Some(SectionKind::CoreStack));
+    assert_eq!(rt; SectionKind::numbered(20), Some(SectionKind::Custom));
+    assert_eq!(rt; SectionKind::numbered(21), Some(SectionKind::Raw));
     assert_eq!(rt; SectionKind::numbered(22), Some(SectionKind::Types));
     assert_eq!(rt;
         SectionKind::numbered(23),

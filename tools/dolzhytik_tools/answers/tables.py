@@ -1,7 +1,10 @@
 """The lemmas of builders, and the modules of names, which docs/PROOFS.md describes."""
 from __future__ import annotations
 
+import re
 from dataclasses import dataclass
+
+from ..repository import TOP, text_of
 
 
 @dataclass(frozen=True)
@@ -77,20 +80,9 @@ OF_ANY_KIND = {"adds_item", "adds_items", "encodes_items", "encodes_items_padded
 
 # The file of `wasm_custom/specs` that defines each format.
 PAYLOADS = {
-    "name_payload": "Names",
-    "linking_payload": "Linking",
-    "producers_payload": "Producers",
-    "features_payload": "TargetFeatures",
-    "hints_payload": "Hints",
-    "core_payload": "CoreDumps",
-    "modules_payload": "CoreDumps",
-    "instances_payload": "CoreDumps",
-    "stack_payload": "CoreStacks",
-    "dylink_payload": "Dylink",
-    "relocations_payload": "Relocations",
-    "source_map_payload": "DebugFiles",
-    "debug_file_payload": "DebugFiles",
-    "build_id_payload": "DebugFiles",
+    payload: file.stem
+    for file in sorted((TOP / "crates/wasm_custom/specs").glob("*.antt"))
+    for payload in re.findall(r"^abbrev pub (\w+_payload) : Format ", text_of(file), re.M)
 }
 
 # Sections of one number.

@@ -1,17 +1,20 @@
-"""Regions that the tool writes within files that people write.
+"""Regions that tools/instructions and tools/kinds write within files that people write.
 
 A region is between a line `// begin: written by tools/instructions` and a line `// end: ..`, in
-.antt files with `--`. Both keep the indentation of the lines between them.
+.antt files with `--`, in C between `/*` and `*/`. Both keep the indentation of the lines between
+them.
 """
 from __future__ import annotations
 
+import re
 from collections.abc import Sequence
 from dataclasses import dataclass
 
 from ..errors import Stop
 
-COMMENTS = {".rt": "//", ".antt": "--"}
-BY = "written by tools/instructions"
+# What a comment begins and ends with.
+COMMENTS = {".rt": ("// ", ""), ".rtt": ("// ", ""), ".rs": ("// ", ""), ".antt": ("-- ", ""), ".h": ("/* ", " */"), ".md": ("<!-- ", " -->")}
+INSTRUCTIONS = "tools/instructions"
 
 
 @dataclass(frozen=True)
@@ -35,15 +38,15 @@ class Marks:
     end: str
 
     @staticmethod
-    def of(path: str) -> Marks:
-        comment = COMMENTS[path[path.rindex(".") :]]
-        return Marks(f"{comment} begin: {BY}", f"{comment} end: {BY}")
+    def of(path: str, tool: str = INSTRUCTIONS) -> Marks:
+        before, behind = COMMENTS[path[path.rindex(".") :]]
+        return Marks(*(f"{before}{it}: written by {tool}{behind}" for it in ("begin", "end")))
 
     def around(self, lines: list[str]) -> list[str]:
         """Returns the lines of a region with its marks."""
         first, last = (it[: len(it) - len(it.lstrip(" "))] for it in (lines[0], lines[-1]))
         # `rt fmt` has an empty line before a comment behind an equation.
-        is_equation = self.end.startswith("--") and not lines[-1].startswith((" ", "use "))
+        is_equation = self.end.startswith("--") and bool(re.match(r"(?!use )\S|  \S.* = ", lines[-1]))
         return [first + self.begin, *lines, *([""] if is_equation else []), last + self.end]
 
     def check(self, path: str, lines: list[str], count: int) -> None:
@@ -70,9 +73,9 @@ def place(path: str, lines: Sequence[str], at: int, begins: str) -> int:
     raise Stop(f"{path}:{at + 1}: no line from here on begins with '{begins}'")
 
 
-def filled(path: str, text: str, regions: Sequence[Region]) -> str:
-    """Returns a file with the texts of its regions."""
-    lines, marks = text.split("\n"), Marks.of(path)
+def filled(path: str, text: str, regions: Sequence[Region], tool: str = INSTRUCTIONS) -> str:
+    """Returns a file with the texts of the regions that the tool writes."""
+    lines, marks = text.split("\n"), Marks.of(path, tool)
     marks.check(path, lines, len(regions))
     for it in regions:
         at = 0

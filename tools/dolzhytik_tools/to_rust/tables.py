@@ -4,6 +4,8 @@ from __future__ import annotations
 
 from dataclasses import dataclass
 
+from ..kinds.table import kinds_of_sections
+
 
 @dataclass(frozen=True)
 class Place:
@@ -73,10 +75,7 @@ BETWEEN = {
         'walk_value', 'walk_whole', 'ItemsOf', 'PaddedOf', 'RawBytes', 'SizedBytes',
     },
     'wasm_insn': {'read_instruction'},
-    'wasm_custom': {
-        'FrameItems', 'MembersOf', 'walk_build_id', 'walk_debug_file', 'walk_dylink', 'walk_features', 'walk_hints', 'walk_instances', 'walk_links',
-        'walk_modules', 'walk_names', 'walk_process', 'walk_producers', 'walk_relocations', 'walk_source_map', 'walk_stack',
-    },
+    'wasm_custom': {'FrameItems', 'MembersOf', *(f'walk_{it.stem}' for it in kinds_of_sections() if it.is_custom)},
 }
 # Hand-written pages below rust/src: each is in place of the documentation of a library's module.
 PAGES = {'wasm_reader': 'reader.md'}

@@ -3,6 +3,7 @@ use Rattle.wasm_reader.specs.declared.kinds.SectionKind.TheVariants as kinds
 use Rattle.wasm_reader.proofs.KindLaws.{rejects}
 use Rattle.wasm_reader.proofs.kinds.read_content.Goals as goal
 
+-- begin: written by tools/kinds
 pub returns-in_err-read_whole-in-Functions-clause-none : goal.returns-in_err-read_whole-in-Functions-clause-none
 returns-in_err-read_whole-in-Functions-clause-none g c = fault_stays c.from_residual-in_err-read_whole-in-Functions.result _ c.from_residual-in_err-read_whole-in-Functions.ensures.1 λ n. rejects c.args.kind kinds.Functions _ c.args.bytes.now c.in-Functions.is (c.in_err-read_whole-in-Functions.ensures.none n)
 
@@ -47,3 +48,5 @@ returns-in_err-read_dylink-in-Dylink-clause-none g c = fault_stays c.from_residu
 
 pub returns-in_err-name-in-Relocations-clause-none : goal.returns-in_err-name-in-Relocations-clause-none
 returns-in_err-name-in-Relocations-clause-none g c = fault_stays c.from_residual-in_err-name-in-Relocations.result _ c.from_residual-in_err-name-in-Relocations.ensures.1 λ n. rejects c.args.kind kinds.Relocations _ c.args.bytes.now c.in-Relocations.is (c.in_err-name-in-Relocations.ensures.none n)
+
+-- end: written by tools/kinds

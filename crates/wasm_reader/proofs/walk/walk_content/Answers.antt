@@ -2,6 +2,7 @@ use Rattle.wasm_reader.proofs.WalkSections.{kind_rejects, kind_walks}
 use Rattle.wasm_reader.specs.declared.kinds.SectionKind.TheVariants as kinds
 use Rattle.wasm_reader.proofs.walk.walk_content.Goals as goal
 
+-- begin: written by tools/kinds
 pub returns-in-Bodies-clause-found : goal.returns-in-Bodies-clause-found
 returns-in-Bodies-clause-found g c = kind_walks _ _ kinds.Bodies c.args.kind c.args.bytes.now _ _ c.walk_whole.result c.in-Bodies.is c.walk_whole.ensures.found
 
@@ -40,9 +41,6 @@ returns-in-Tables-clause-found g c = kind_walks _ _ kinds.Tables c.args.kind c.a
 
 pub returns-in-Tags-clause-found : goal.returns-in-Tags-clause-found
 returns-in-Tags-clause-found g c = kind_walks _ _ kinds.Tags c.args.kind c.args.bytes.now _ _ c.walk_whole-in-Tags.result c.in-Tags.is c.walk_whole-in-Tags.ensures.found
-
-pub returns-in-Types-clause-found : goal.returns-in-Types-clause-found
-returns-in-Types-clause-found g c = kind_walks _ _ kinds.Types c.args.kind c.args.bytes.now _ _ c.walk_whole-in-Types.result c.in-Types.is c.walk_whole-in-Types.ensures.found
 
 pub returns-in-Names-clause-found : goal.returns-in-Names-clause-found
 returns-in-Names-clause-found g c = kind_walks _ _ kinds.Names c.args.kind c.args.bytes.now _ _ c.walk_names.result c.in-Names.is c.walk_names.ensures.found
@@ -92,6 +90,9 @@ returns-in-CoreStack-clause-found g c = kind_walks _ _ kinds.CoreStack c.args.ki
 pub returns-in-CoreStack-clause-none : goal.returns-in-CoreStack-clause-none
 returns-in-CoreStack-clause-none g c = kind_rejects kinds.CoreStack c.args.kind _ c.args.bytes.now c.walk_stack.result c.in-CoreStack.is c.walk_stack.ensures.none
 
+pub returns-in-Types-clause-found : goal.returns-in-Types-clause-found
+returns-in-Types-clause-found g c = kind_walks _ _ kinds.Types c.args.kind c.args.bytes.now _ _ c.walk_whole-in-Types.result c.in-Types.is c.walk_whole-in-Types.ensures.found
+
 pub returns-in-TargetFeatures-clause-found : goal.returns-in-TargetFeatures-clause-found
 returns-in-TargetFeatures-clause-found g c = kind_walks _ _ kinds.TargetFeatures c.args.kind c.args.bytes.now _ _ c.walk_features.result c.in-TargetFeatures.is c.walk_features.ensures.found
 
@@ -127,3 +128,5 @@ returns-in-Relocations-clause-found g c = kind_walks _ _ kinds.Relocations c.arg
 
 pub returns-in-Relocations-clause-none : goal.returns-in-Relocations-clause-none
 returns-in-Relocations-clause-none g c = kind_rejects kinds.Relocations c.args.kind _ c.args.bytes.now c.walk_relocations.result c.in-Relocations.is c.walk_relocations.ensures.none
+
+-- end: written by tools/kinds
