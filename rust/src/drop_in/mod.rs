@@ -138,6 +138,7 @@ macro_rules! copied {
     ($($name:ident),*) => {
         $(
             impl Clone for $name {
+                #[inline]
                 fn clone(&self) -> Self {
                     $name($crate::drop_in::done(self.0.clone()))
                 }

@@ -111,6 +111,11 @@ impl Section for RawSection<'_> {
     fn id(&self) -> u8 {
         self.id
     }
+
+    #[inline(always)]
+    fn append_to(&self, dst: &mut Vec<u8>) {
+        append(&(self.id, self.proved()), dst)
+    }
 }
 
 /// Copies the bytes of the section after its id, also a padded size prefix.

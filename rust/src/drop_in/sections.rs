@@ -79,6 +79,7 @@ pub struct ElementSegment<'a> {
 pub struct Given<'a>(pub ElementMode<'a>, pub Elements<'a>);
 
 impl Encode for Given<'_> {
+    #[inline(always)]
     fn encode<A: Sink>(&self, sink: &mut A) -> Result<()> {
         let offset;
         let mode = match &self.0 {
