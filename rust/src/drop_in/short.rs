@@ -142,6 +142,20 @@ pub fn put_short<const N: usize, P: Short>(list: &mut Vec<u8>, op: [u8; N], part
     false
 }
 
+/// A value that is encoded in its short form, if it has one: the compiler then knows the case.
+pub struct Tested<P>(pub P);
+
+impl<P: Short> Encode for Tested<P> {
+    #[inline(always)]
+    fn encode<A: Sink>(&self, sink: &mut A) -> Result<()> {
+        if self.0.is_short() {
+            self.0.short().encode(sink)
+        } else {
+            self.0.long().encode(sink)
+        }
+    }
+}
+
 /// The bytes that are copied at once: a copy of this size is not a call.
 const BLOCK: usize = 16;
 
