@@ -77,7 +77,7 @@ impl<'a> InstructionSink<'a> {
             return self.put_grown(op, parts);
         }
         self.sink.extend_from_slice(&op);
-        done(parts.long().encode(self.sink));
+        done(parts.long().encode(&mut Growing(self.sink)));
         self
     }
 
@@ -91,7 +91,7 @@ impl<'a> InstructionSink<'a> {
         }
         grow(self.sink, N + P::SIZE);
         self.sink.extend_from_slice(&op);
-        done(parts.long().encode(self.sink));
+        done(parts.long().encode(&mut Growing(self.sink)));
         self
     }
 
