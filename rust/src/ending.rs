@@ -29,7 +29,7 @@ const MANY: usize = 128;
 const MOVED: usize = 1024;
 
 /// Reserves spare capacity for `more` bytes. The new capacity is at least twice the old one, and
-/// [`MANY`] after [`FEW`]. A short list is a multiple of [`FEW`] bytes.
+/// [`MANY`] after [`FEW`]. A short list is a multiple of [`FEW`] bytes, which is a power of two.
 #[cold]
 #[inline(never)]
 pub fn grow(old: &mut Vec<u8>, more: usize) {
@@ -39,7 +39,11 @@ pub fn grow(old: &mut Vec<u8>, more: usize) {
         return old.reserve(more);
     }
     let least = if old.capacity() < FEW { FEW } else { MANY };
-    let mut new = Vec::with_capacity(room.max(least).next_multiple_of(FEW));
+    let mut new = Vec::with_capacity((room.max(least) + FEW - 1) & !(FEW - 1));
+    // After this test the copy needs no path that grows the new list, which is then in registers.
+    if new.capacity() < old.len() {
+        full();
+    }
     new.extend_from_slice(old);
     *old = new;
 }

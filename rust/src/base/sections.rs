@@ -129,6 +129,7 @@ pub struct RawSection<'a> {
 ///
 /// Definitions: [`size_prefixed_encoding`](crate::definitions::base::encodings::size_prefixed_encoding), [`HasEncodableSize`](crate::definitions::base::encodings::HasEncodableSize), [`longest`](crate::definitions::base::encodings::longest), [`DecodesBack`](crate::definitions::base::calls::DecodesBack), [`size_prefixed`](crate::definitions::base::formats::size_prefixed), [`any_bytes`](crate::definitions::base::formats::any_bytes). [How to read clauses](crate::definitions).
 impl Encode for RawSection<'_> {
+    #[inline(always)]
     fn encode<A: Sink>(&self, sink: &mut A) -> Result<()> {
         encode_size_prefixed(sink, self.bytes)
     }

@@ -14,6 +14,7 @@ macro_rules! field {
 macro_rules! implement {
     ($name:ident Clone) => {
         impl Clone for $name {
+            #[inline]
             fn clone(&self) -> Self {
                 $name($crate::drop_in::done(self.0.clone()))
             }

@@ -75,7 +75,7 @@ impl<'a> InstructionSink<'a> {
             return self.put_grown(op, parts);
         }
         self.sink.extend_from_slice(&op);
-        done(parts.long().encode(self.sink));
+        done(parts.long().encode(&mut Growing(self.sink)));
         self
     }
 
@@ -89,7 +89,7 @@ impl<'a> InstructionSink<'a> {
         }
         grow(self.sink, N + P::SIZE);
         self.sink.extend_from_slice(&op);
-        done(parts.long().encode(self.sink));
+        done(parts.long().encode(&mut Growing(self.sink)));
         self
     }
 

@@ -164,8 +164,19 @@ identified! {
     DataCountSection => |_| SectionId::DataCount.into();
     RawCustomSection<'_> => |_| SectionId::Custom.into();
     CustomSection<'_> => |_| SectionId::Custom.into();
-    RawSection<'_> => |section| section.id;
     reader::Section<'_> => |section| reader::Section::id(section);
+}
+
+impl Section for RawSection<'_> {
+    #[inline]
+    fn id(&self) -> u8 {
+        self.id
+    }
+
+    #[inline(always)]
+    fn append_to(&self, dst: &mut Vec<u8>) {
+        append(&(self.id, base::RawSection::from(*self)), dst)
+    }
 }
 
 #[doc = text!(encode_section)]

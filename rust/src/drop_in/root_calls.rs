@@ -16,6 +16,7 @@ use super::bytes::Bytes;
 use super::const_expr::encodings;
 use super::custom::MARK;
 use super::sections::{Front, Given, Later};
+use super::short::Tested;
 use crate::{base, code, custom, types};
 use crate::alloc::Global;
 use crate::base::{Lent, Store, bytes_of};
@@ -2106,7 +2107,7 @@ impl CoreTypeEncoder<'_> {
         R: IntoIterator<Item = ValType>,
         R::IntoIter: ExactSizeIterator,
     {
-        done(self.0.section.entries.add_item_once((FUNC, Later(params.into_iter()), Later(results.into_iter()))))
+        done(self.0.section.entries.add_item_once((FUNC, Later(params.into_iter().map(Tested)), Later(results.into_iter().map(Tested)))))
     }
 
     /// Adds a function type.
@@ -3432,6 +3433,7 @@ impl CoreDumpInstancesSection {
     /// ```
     ///
     /// Definitions: [`AddsTwoLists`](crate::definitions::custom::adding::AddsTwoLists), [`unsigned_encoding`](crate::definitions::base::numbers::unsigned_encoding), [`vec_encoding`](crate::definitions::base::encodings::vec_encoding). [How to read clauses](crate::definitions).
+    #[inline]
     pub fn instance<M, G>(&mut self, module_index: u32, memories: M, globals: G) -> &mut Self
     where
         M: IntoIterator<Item = u32>,

@@ -66,6 +66,7 @@ impl<'a> From<Imports<'a>> for sections::Imports<'a, Root> {
 pub struct Given<'a>(pub ElementMode<'a>, pub Elements<'a>);
 
 impl Encode for Given<'_> {
+    #[inline(always)]
     fn encode<A: Sink>(&self, sink: &mut A) -> Result<()> {
         let offset;
         let mode = match &self.0 {

@@ -33,10 +33,11 @@ impl Exact {
         }
     }
 
-    /// Returns the encoding of a value, if it has exactly `len` bytes.
+    /// Returns an opcode and the encoding of a value, if they have exactly `len` bytes.
     #[inline(always)]
-    pub fn of(value: &impl Encode, len: usize) -> Option<Self> {
+    pub fn of<const N: usize>(op: [u8; N], value: &impl Encode, len: usize) -> Option<Self> {
         let mut sink = Exact::new();
+        sink.extend_from_slice(&op).ok()?;
         value.encode(&mut sink).ok()?;
         (sink.len == len && len <= SPACE).then_some(sink)
     }
@@ -134,12 +135,26 @@ pub fn put_short<const N: usize, P: Short>(list: &mut Vec<u8>, op: [u8; N], part
     let size = N + P::SIZE;
     if parts.is_short()
         && list.capacity() - list.len() >= size
-        && let Some(bytes) = Exact::of(&(op, parts.short()), size)
+        && let Some(bytes) = Exact::of(op, &parts.short(), size)
     {
         list.extend_from_slice(&bytes);
         return true;
     }
     false
+}
+
+/// A value that is encoded in its short form, if it has one: the compiler then knows the case.
+pub struct Tested<P>(pub P);
+
+impl<P: Short> Encode for Tested<P> {
+    #[inline(always)]
+    fn encode<A: Sink>(&self, sink: &mut A) -> Result<()> {
+        if self.0.is_short() {
+            self.0.short().encode(sink)
+        } else {
+            self.0.long().encode(sink)
+        }
+    }
 }
 
 /// The bytes that are copied at once: a copy of this size is not a call.
@@ -265,7 +280,7 @@ mod tests {
         assert!(bytes.len() <= P::MOST);
         assert!(!strict || value.is_short() == (bytes.len() == P::SIZE));
         if value.is_short() {
-            let exact = Exact::of(&value.short(), P::SIZE);
+            let exact = Exact::of([], &value.short(), P::SIZE);
             assert_eq!(&exact.expect("the bytes are as many")[..], bytes);
         }
     }
@@ -345,9 +360,10 @@ mod tests {
 
     #[test]
     fn a_full_sink_returns_nothing() {
-        assert!(Exact::of(&[0; SPACE], SPACE).is_some());
-        assert!(Exact::of(&([0; SPACE], 0_u8), SPACE + 1).is_none());
-        assert!(Exact::of(&[0; SPACE + 1], SPACE + 1).is_none());
-        assert!(Exact::of(&[0; SPACE + 1], SPACE).is_none());
+        assert!(Exact::of([], &[0; SPACE], SPACE).is_some());
+        assert!(Exact::of([0; SPACE], &0_u8, SPACE + 1).is_none());
+        assert!(Exact::of([], &[0; SPACE + 1], SPACE + 1).is_none());
+        assert!(Exact::of([], &[0; SPACE + 1], SPACE).is_none());
+        assert!(Exact::of([0; SPACE], &0_u8, SPACE).is_none());
     }
 }

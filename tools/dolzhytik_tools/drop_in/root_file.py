@@ -203,6 +203,7 @@ ELSEWHERE = {
     "Root": "crate::ending",
     "Store": "crate::base",
     "String": "alloc_crate::string",
+    "Tested": "super::short",
     "bytes_of": "crate::base",
     "encodings": "super::const_expr",
     "Vec": "alloc_crate::vec",

@@ -241,6 +241,8 @@ PLACES = [
     # A size prefix is inline in each encoder: as a function it is a third of a short custom section.
     Place('wasm_base/src/frames.rt', '', '#[inline(always)]\n', 'pub fn begin_size_prefixed'),
     Place('wasm_custom/src/custom_section.rt', '', '#[inline]\n', 'pub(crate) fn begin_custom'),
+    # A raw section is inline in the call of the root that appends its id.
+    Place('wasm_base/src/sections.rt', '', '#[inline(always)]\n    ', f'{ENCODE} encode_size_prefixed(sink, self.bytes)'),
     # A call of the root is then one function.
     Place('wasm_sections/src/data.rt', '', '#[inline]\n    ', 'fn add_bytes'),
     # The root of the package makes empty builders by a constant, prints their bytes, and takes those
