@@ -1,14 +1,17 @@
-//! Compares `insert_import`, `insert_section` and `insert_code` with plain edits of bytes.
+//! Compares `insert_import`, `insert_section`, `insert_code` and `instrument_code` with plain edits.
 
 use crate::grammar::{Grammar, Space};
 use crate::plain::{Plain, put_unsigned};
 use crate::remap::{Answer, Map, Rule, remapped_module};
 use crate::whole::{HEADER, sections};
-use dolzhytik::fallible::{self, EntityType, Global, Import, InstructionSink, RawSection, Refused};
-use dolzhytik::reader::remap::{
-    IndexTooLarge, Position, Prologue, RemapError, insert_code, insert_import, insert_section,
+use dolzhytik::fallible::{
+    self, EntityType, Global, Import, InstructionSink, Op, RawSection, Refused,
 };
-use dolzhytik::reader::{Body, Items, Offsets, Section, Sections};
+use dolzhytik::reader::remap::{
+    IndexTooLarge, Instrument, Position, Prologue, RemapError, Visited, insert_code, insert_import,
+    insert_section, instrument_code,
+};
+use dolzhytik::reader::{Body, Items, Offsets, Plain as Decoded, Section, Sections};
 
 /// The ids of sections, in the order of the standard.
 const ORDER: [u8; 13] = [1, 2, 3, 4, 5, 13, 6, 7, 8, 9, 12, 10, 11];
@@ -146,7 +149,101 @@ fn is_begun(bytes: &[u8]) -> bool {
     old.len() == new.len() && old.iter().zip(&new).enumerate().all(is_same)
 }
 
+/// `nop` before every second instruction, and twice after each one of every second body.
+struct Around;
+
+impl Instrument for Around {
+    fn append_before<S: fallible::Sink>(
+        &self,
+        it: &Visited<'_>,
+        code: &mut S,
+    ) -> Result<(), Refused> {
+        if it.number % 2 == 0 {
+            InstructionSink::new(code).nop()?;
+        }
+        Ok(())
+    }
+
+    fn append_after<S: fallible::Sink>(
+        &self,
+        it: &Visited<'_>,
+        code: &mut S,
+    ) -> Result<(), Refused> {
+        if it.body % 2 == 0 {
+            InstructionSink::new(code).nop()?;
+            InstructionSink::new(code).nop()?;
+        }
+        Ok(())
+    }
+}
+
+/// What the bodies decode to with the instructions of [`Around`].
+fn woven(bodies: &[Body]) -> Vec<String> {
+    let nop = || "Byte(1)".to_string();
+    let said = |it: &Decoded| match it.op {
+        Op::Byte(1) => nop(),
+        _ => format!("{it:?}"),
+    };
+    let mut lines = vec![];
+    for (number, body) in bodies.iter().enumerate() {
+        lines.push(format!("{:?}", &body.runs[..]));
+        for (at, it) in body.code.iter().enumerate() {
+            lines.extend((at % 2 == 0).then(nop));
+            lines.push(said(it));
+            if at + 1 < body.code.len() && number % 2 == 0 {
+                lines.extend([nop(), nop()]);
+            }
+        }
+    }
+    lines
+}
+
+/// What the bodies decode to.
+fn lines(bodies: &[Body]) -> Vec<String> {
+    let mut lines = vec![];
+    for body in bodies {
+        lines.push(format!("{:?}", &body.runs[..]));
+        lines.extend(body.code.iter().map(|it| match it.op {
+            Op::Byte(1) => "Byte(1)".to_string(),
+            _ => format!("{it:?}"),
+        }));
+    }
+    lines
+}
+
+/// The bodies of the first code section, or `None` if the module or they do not decode.
+fn first_bodies(bytes: &[u8]) -> Option<Vec<Body>> {
+    let mut found = None;
+    for section in Sections::new(Global, bytes).ok()? {
+        let section = section.ok()?;
+        if section.id() == 10 && found.is_none() {
+            found = Some(section);
+        }
+    }
+    match found?.items().ok()? {
+        Items::Bodies(bodies) => Some(Iterator::collect(bodies.into_iter())),
+        _ => None,
+    }
+}
+
+/// Whether `instrument_code` adds the instructions of [`Around`] to code that decodes, and refuses
+/// other code.
+fn is_woven(bytes: &[u8]) -> bool {
+    let edited = instrument_code(bytes, Global, &Around).ok();
+    match (first_bodies(bytes), edited) {
+        (Some(old), Some(edited)) => {
+            first_bodies(&edited).is_some_and(|new| lines(&new) == woven(&old))
+        }
+        (Some(_), None) => false,
+        // A module without code stays, and otherwise there is an error.
+        (None, edited) => edited.is_none_or(|edited| edited[..] == *bytes),
+    }
+}
+
 /// Whether the library's edits of a module are the plain ones.
 pub fn are_edits(bytes: &[u8], id: u8, new: &[u8], position: Position) -> bool {
-    is_inserted(bytes, id, new, position) && is_imported(bytes) && is_begun(bytes)
+    is_inserted(bytes, id, new, position)
+        && is_imported(bytes)
+        && is_begun(bytes)
+        && is_woven(bytes)
 }

@@ -1,16 +1,18 @@
 -- This file re-exports what the proofs of this crate's functions use.
-pub use Rattle.examples.proofs.CoverageLaws.{HasCovered, HasFound, add_found, bodies_number, code_payload, counted_images, counter_encodes, counting_gained, covered_all}
+pub use Rattle.examples.proofs.CoverageLaws.{HasCovered, HasFound, add_found, bodies_number, code_payload, counter_encodes, counting_gained, covered_all}
 pub use Rattle.examples.proofs.CoverageLaws.{covered_more, covered_none, each_at, error_stays, export_gained, exports_are, exports_else, exports_long, exports_push, found_all, found_more, found_none}
-pub use Rattle.examples.proofs.CoverageLaws.{gains_extended, gains_one, given_error, globals_number, imported_join, imported_more, imports_else, imports_none, imports_number, imports_same}
+pub use Rattle.examples.proofs.CoverageLaws.{gains_extended, gains_one, given_error, globals_number, imports_else, imports_none, imports_number, imports_same}
 pub use Rattle.examples.proofs.CoverageLaws.{imports_skip, imports_take, is_kept, keeps_more, members_gain, no_bodies, no_body, no_count, no_error, no_exports, no_globals, no_imports, no_number}
 pub use Rattle.examples.proofs.CoverageLaws.{none_more, none_more_of, not_kept, of_images, read_stays, replicate_long, replicate_push, rows_more, some_at, unfit_stays}
+pub use Rattle.wasm_remap.proofs.CountedImports.{imported_join}
+pub use Rattle.wasm_remap.specs.Imported.{imported}
 pub use Rattle.wasm_remap.proofs.BegunLaws.{begun_encodes, body_shrinks, given_body}
 pub use Rattle.examples.proofs.Gains.{gains_last, gains_member, gains_more, gains_none}
 pub use Rattle.examples.proofs.Rows.{call_listed, while_listed}
 pub use Rattle.examples.proofs.StrippedLaws.{HasStripped, stripped_custom, stripped_done, stripped_kept}
 pub use Rattle.examples.specs.Adding.{add_export}
 pub use Rattle.examples.specs.Compiled.{factorial_of, squares_of}
-pub use Rattle.examples.specs.Coverage.{AreImports, HasDecoding, HasNone, IsKept, KeepsSections, counter, counter_exports, covered_bodies, covered_body, has_counter, imported, imported_from, is_in}
+pub use Rattle.examples.specs.Coverage.{AreImports, HasDecoding, HasNone, IsKept, KeepsSections, counter, counter_exports, covered_bodies, covered_body, has_counter}
 pub use Rattle.examples.specs.Coverage.{row}
 pub use Rattle.examples.specs.Filled.{three_places}
 pub use Rattle.examples.specs.Large.{large_constant, large_memory}

@@ -41,14 +41,16 @@ use Rattle.wasm_reader.specs.declared.kinds.Items.TheVariants as items
 use Rattle.wasm_reader.specs.Outlines.{IsNameOf, kind_at}
 use Rattle.wasm_reader.specs.Shortening.{contains_offsets}
 use Rattle.wasm_base.specs.declared.fault.ReadFault.TheVariants.{Memory}
-use Rattle.wasm_remap.specs.Begun.{AddsBody, EncodeBodies, GainsCode}
-use Rattle.wasm_remap.proofs.BegunLaws.{next_body, none_left, zip_push}
+use Rattle.wasm_remap.specs.Begun.{AddsBodies, EncodeBodies, GainsCode}
+use Rattle.wasm_remap.proofs.BegunLaws.{next_body, none_left, zip_join}
 use Rattle.examples.specs.declared.coverage.CoverageError.{CoverageError}
 use Rattle.examples.specs.declared.coverage.CoverageError.TheVariants as errors
 use Rattle.examples.specs.declared.coverage.Numbers.{Numbers}
-use Rattle.examples.specs.declared.coverage.imports.Space.{Space}
-use Rattle.examples.specs.declared.coverage.imports.Space.TheVariants as spaces
-use Rattle.examples.specs.Coverage.{counting, covered_body, covered_bodies, counter, counter_export, counter_exports, names_counter, has_counter, imported, imported_from, payloads_of, AreImports}
+use Rattle.wasm_remap.proofs.CountedImports.{imported_join}
+use Rattle.wasm_remap.specs.Imported.{imported}
+use Rattle.wasm_remap.specs.declared.spaces.IndexSpace.{IndexSpace}
+use Rattle.wasm_remap.specs.declared.spaces.IndexSpace.TheVariants as spaces
+use Rattle.examples.specs.Coverage.{counting, covered_body, covered_bodies, counter, counter_export, counter_exports, names_counter, has_counter, payloads_of, AreImports}
 use Rattle.examples.specs.Coverage.{DecodesOnly, IsKept, row, AreSectionsOf, IsSplit, GainsSections, GainsItems, IsExtended, GainsEncoding, KeepsSections, HasNumbers}
 use Rattle.examples.specs.Coverage.{IsMalformed, HasDecoding, IsDecodable, Others, Payloads, sections_of, HasNone, IsCoverable, IsCovered, IsUnfit}
 use Rattle.examples.specs.Coverage.{Follow, HasObstacle, IsReason, IsTaken, Parts}
@@ -168,27 +170,6 @@ covered_push (y ∷ bodies) first x =
 
 -- ---- imports
 
-pub imported_join : (space : Space) (first more : List ImportItem) → imported space (first ++ more) ≡ imported space first + imported space more
-imported_join space [] more = omega arith
-imported_join space (i ∷ first) more =
-    let e = imported_join space first more in
-    omega (arith, e)
-
--- The entries of a list, and one more.
-pub imported_more : {T : Type 0} (space : Space) (view : T → ImportItem) (xs : List T) (i : ℕ) (x : T) → i < length xs → x ≡ get_or xs i x → imported space (map view (take (i + 1) xs)) ≡ imported space (map view (take i xs)) + imported_from space (view x).imported
-imported_more space view xs i x low e =
-    let f = ap (λ l. imported space (map view l)) (take_more xs i x low) ∙ ap (imported space) (map-append view (take i xs) (get_or xs i x ∷ [])) ∙ imported_join space (map view (take i xs)) (view (get_or xs i x) ∷ [])
-    ∙ ap (λ y. imported space (map view (take i xs)) + (imported_from space (view y).imported + 0)) (sym e) in
-    omega (arith, f)
-
-images_from : {T X : Type 0} (p : X → Bool) (view : T → X) (xs : List T) (n : ℕ) → fold (λ a x. a + cond (p (view x)) 1 0) n xs ≡ fold (λ a x. a + cond (p x) 1 0) n (map view xs)
-images_from p view [] n = refl
-images_from p view (x ∷ xs) n = images_from p view xs (n + cond (p (view x)) 1 0)
-
--- A count over the images of a list.
-pub counted_images : {T X : Type 0} (p : X → Bool) (view : T → X) (xs : List T) → count_by (λ x. p (view x)) xs ≡ count_by p (map view xs)
-counted_images p view xs = images_from p view xs 0
-
 payloads_push : (id : ℕ) (sections : List (ℕ × List ℕ)) (s : ℕ × List ℕ) → payloads_of id (sections ++ s ∷ []) ≡ payloads_of id sections ++ payloads_of id (s ∷ [])
 payloads_push id [] s = refl
 payloads_push id (t ∷ sections) s = go (t.0 == id) (payloads_push id sections s)
@@ -217,7 +198,7 @@ imports_take {sections = sections} last s h is decodes =
     let same = payloads_push 2 sections s ∙ ap (λ b. payloads_of 2 sections ++ (if b then s.1 ∷ [] else [])) (eq-eqb s.0 2 is) in
     record {
       of_each = h.of_each ++ last ∷ [];
-      decode = subst (λ l. AllZip (vec import_format standard) l (h.of_each ++ last ∷ [])) (sym same) (zip_push (vec import_format standard) (payloads_of 2 sections) h.of_each s.1 last h.decode decodes);
+      decode = subst (λ l. AllZip (vec import_format standard) l (h.of_each ++ last ∷ [])) (sym same) (zip_join (vec import_format standard) (payloads_of 2 sections) (s.1 ∷ []) h.of_each (last ∷ []) h.decode (decodes, tt));
       joined = ap (λ z. z ++ last) h.joined ∙ sym (concat_push h.of_each last);
     }
 
@@ -274,7 +255,7 @@ module _ (s : Section) (is : IsSection s) where
   no_bodies n e h = rejected (vec (size_prefixed body)) Bodies 9 e (λ m y g. (y, refl, g)) n (h.bodies e).0 (h.bodies e).1
 
 -- The imports of a decoded section.
-pub imports_number : (s : Section) (is : IsSection s) (space : Space) (n : ℕ) (xs : List ImportItem) (x : Contents) → content (section_kind_of s) standard s.payload x → x ≡ Imports xs → n ≡ imported space xs → s.id ≡ 2 → (imports : List ImportItem) × vec import_format standard s.payload imports × (n ≡ imported space imports)
+pub imports_number : (s : Section) (is : IsSection s) (space : IndexSpace) (n : ℕ) (xs : List ImportItem) (x : Contents) → content (section_kind_of s) standard s.payload x → x ≡ Imports xs → n ≡ imported space xs → s.id ≡ 2 → (imports : List ImportItem) × vec import_format standard s.payload imports × (n ≡ imported space imports)
 imports_number s is space n xs x h same counted e =
     let items = imports_in s is x h e in
     let both : xs ≡ items.0 = cc in
@@ -370,7 +351,7 @@ covered_none {it = it} first bodies d h e =
     }
 
 pub covered_more : {first : ℕ} {bodies : List Body} {old new : Visiting} {b : LocatedBody} {before after : List (List ℕ)} {next : ℕ} (more : ℕ) → HasCovered first bodies old before next → GivesBody old b new
-    → ((x : Body) → body standard b.bytes x → AddsBody (covered_body next x) before after) → more ≡ next + 1 → HasCovered first bodies new after more
+    → ((x : Body) → body standard b.bytes x → AddsBodies (covered_body next x ∷ []) before after) → more ≡ next + 1 → HasCovered first bodies new after more
 covered_more {first = first} {bodies = bodies} {before = before} {after = after} {next = next} more h g adds step =
     let n = next_body h.todo g h.rest in
     let added = adds n.x n.decodes in
@@ -381,8 +362,8 @@ covered_more {first = first} {bodies = bodies} {before = before} {after = after}
       number = omega (arith, h.number, g.left, ap length n.is);
       rest = n.left;
       encode = subst (λ es. EncodeBodies es (covered_bodies first (h.done ++ n.x ∷ []))) (sym added.is)
-          (subst (λ xs. EncodeBodies (before ++ added.entry ∷ []) xs) (ap (λ i. covered_bodies first h.done ++ covered_body i n.x ∷ []) h.counter ∙ covered_push h.done first n.x)
-          (zip_push (size_prefixed body standard) before (covered_bodies first h.done) added.entry (covered_body next n.x) h.encode added.encodes));
+          (subst (λ xs. EncodeBodies (before ++ added.entries) xs) (ap (λ i. covered_bodies first h.done ++ covered_body i n.x ∷ []) h.counter ∙ covered_push h.done first n.x)
+          (zip_join (size_prefixed body standard) before added.entries (covered_bodies first h.done) (covered_body next n.x ∷ []) h.encode added.encodes));
       counter = omega (arith, step, h.counter, length-append h.done (n.x ∷ []));
     }
 

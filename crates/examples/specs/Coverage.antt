@@ -1,6 +1,6 @@
 -- This file defines a module whose functions count their calls: each function that the module
 -- defines has a counter, to which it adds 1 before its own instructions.
-use Rattle.std.specs.Prelude.{◌≡◌, ◌≢◌, ℕ, zero, suc, ◌+◌, ◌<◌, ◌^◌, List, [], ◌∷◌, ◌++◌, length, map, nat_eq, ◌||◌, replicate, codes, decimal, count_by, flat_map, pos, Bool, true, false, ◌==◌}
+use Rattle.std.specs.Prelude.{◌≡◌, ◌≢◌, ℕ, zero, suc, ◌+◌, ◌<◌, ◌^◌, List, [], ◌∷◌, ◌++◌, length, map, nat_eq, ◌||◌, replicate, codes, decimal, flat_map, pos, Bool, true, false, ◌==◌}
 use Rattle.std.specs.Prelude.{if◌then◌else◌, Some, ⊤, ◌≤◌, ◌⊎◌}
 use Rattle.std.specs.List.{AllByRecursion, AllZip, Any, starts_with}
 use Rattle.std.specs.declared.alloc.Global.{Global}
@@ -15,16 +15,13 @@ use Rattle.wasm_reader.specs.Outlines.{IsSection, bytes_of}
 use Rattle.wasm_reader.specs.Shortening.{contains_offsets}
 use Rattle.wasm_remap.specs.Begun.{begun_body}
 use Rattle.wasm_sections.specs.Words.{ExportItem, export, GlobalItem, global_item, ImportItem, import_format}
-use Rattle.wasm_sections.specs.Imports.{Imported, single, named, alike}
-use Rattle.wasm_sections.specs.declared.import.EntityType.{EntityType}
+use Rattle.wasm_remap.specs.Imported.{imported}
+use Rattle.wasm_remap.specs.declared.spaces.IndexSpace.TheVariants.{Functions, Globals}
 use Rattle.wasm_base.specs.declared.fault.ReadFault.TheVariants.{Memory}
 use Rattle.examples.specs.declared.coverage.CoverageError.{CoverageError}
 use Rattle.examples.specs.declared.coverage.Numbers.{Numbers}
-use Rattle.examples.specs.declared.coverage.imports.Space.{Space}
-use Rattle.examples.specs.declared.coverage.imports.Space.TheVariants.{Functions, Globals}
 use Rattle.wasm_base.specs.declared.section_id.SectionId.TheVariants as ids
 use Rattle.wasm_sections.specs.declared.export.ExportKind.TheVariants as exported
-use Rattle.wasm_sections.specs.declared.import.EntityType.TheVariants as entities
 use Rattle.examples.specs.declared.coverage.CoverageError.TheVariants as errors
 
 -- ---- bodies
@@ -69,24 +66,6 @@ has_counter [] = false
 has_counter (e ∷ exports) = names_counter e || has_counter exports
 
 -- ---- imports
-
--- Whether the entity has an index among functions, or among globals.
-abbrev pub is_in : Space → EntityType → Bool
-is_in Functions (entities.Function index) = true
-is_in Functions (entities.FunctionExact index) = true
-is_in Globals (entities.Global ty) = true
-is_in _ _ = false
-
--- How many such entities are imported from a module.
-abbrev pub imported_from : Space → Imported → ℕ
-imported_from space (single n ty) = if is_in space ty then 1 else 0
-imported_from space (named items) = count_by (λ i. is_in space i.1) items
-imported_from space (alike ty names) = if is_in space ty then length names else 0
-
--- How many such entities are imported.
-abbrev pub imported : Space → List ImportItem → ℕ
-imported space [] = 0
-imported space (i ∷ imports) = imported_from space i.imported + imported space imports
 
 -- The payloads of the sections of this id. A section is its id and its payload.
 abbrev pub payloads_of : ℕ → List (ℕ × List ℕ) → List (List ℕ)

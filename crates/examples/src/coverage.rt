@@ -44,10 +44,11 @@ mod imports;
 use crate::stripped::copy;
 use bodies::covered_code;
 use counters::{counters, exports as exports_of, extended};
-use imports::{Space, imported};
+use imports::imported;
 use std::alloc::Allocator;
 use wasm_base::{Module, RawSection, ReadFault};
 use wasm_reader::{Items, ReadError, Section, Sections};
+use wasm_remap::IndexSpace;
 use wasm_sections::Export;
 
 /// The error of [`covered`].
@@ -220,8 +221,8 @@ fn numbers_of<A: Allocator + Copy>(
     ensures none { AllByRecursion (λ s. IsSection s.section) sections.now → IsSection globals.now.section → IsSection code.now.section → IfErr result (λ e. IsMalformed e → AllByRecursion HasDecoding (map row sections.now) → globals.now.section.id ≡ 6 → HasDecoding (row globals.now) → code.now.section.id ≡ 10 → HasDecoding (row code.now) → ⊥) }
     ensures unfit { AllByRecursion (λ s. IsSection s.section) sections.now → IsSection globals.now.section → globals.now.section.id ≡ 6 → IsSection code.now.section → code.now.section.id ≡ 10 → IfErr result (λ e. IsUnfit e → ⊥) }
 {
-    let function = imported(sections, Space::Functions)?;
-    let imported_globals = imported(sections, Space::Globals)?;
+    let function = imported(sections, IndexSpace::Functions)?;
+    let imported_globals = imported(sections, IndexSpace::Globals)?;
     let offset = globals.offset();
     let Some(counter) = imported_globals.checked_add(number_of(globals)?) else {
         return Err(memory_at(offset));

@@ -1,11 +1,13 @@
 -- This file defines modules into which an import, a global and a start function are inserted.
-use Rattle.std.specs.Prelude.{ℕ, List, [], ◌∷◌, codes, pos, true, false}
+use Rattle.std.specs.Prelude.{ℕ, ◌==◌, List, [], ◌∷◌, codes, cond, pos, true, false}
 use Rattle.std.specs.declared.alloc.Global.{Global as Heap}
 use Rattle.wasm_base.specs.Words.{unsigned_encoding, number_of}
 use Rattle.wasm_base.specs.declared.section_id.SectionId.TheVariants as ids
 use Rattle.wasm_base.specs.declared.types.ValType.TheVariants.{I32}
 use Rattle.wasm_code.specs.Words.{normal_row}
 use Rattle.wasm_insn.specs.Words.{Plain}
+use Rattle.wasm_insn.specs.declared.op.Op.{Op}
+use Rattle.wasm_insn.specs.declared.op.Op.TheVariants.{Byte, Prefixed}
 use Rattle.wasm_insn.specs.declared.instruction.Instruction.TheVariants.{Call, I32Const}
 use Rattle.wasm_reader.specs.declared.whole.Offsets.TheVariants.{LeaveOut}
 use Rattle.wasm_remap.specs.Imported.{room_in}
@@ -43,3 +45,8 @@ StartsAt index bytes new = InsertsSection Instead (number_of ids.Start) (unsigne
 -- A call of function 0.
 abbrev pub calling : List Plain
 calling = normal_row {A = Heap} (Call 0) ∷ []
+
+-- A call of function 0 in front of an instruction of this opcode, if that is a call.
+abbrev pub traced : Op → List Plain
+traced (Byte b) = cond (b == 0x10) calling []
+traced (Prefixed prefix number) = []

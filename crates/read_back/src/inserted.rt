@@ -1,16 +1,19 @@
 // Modules into which sections are inserted.
-ghost use Rattle.std.specs.Prelude.{IfOk};
+ghost use Rattle.std.specs.Prelude.{[], IfOk};
 ghost use Rattle.std.proofs.Common.{refl};
-ghost use Rattle.read_back.specs.Inserted.{CallsHit, HasCounter, StartsAt, calling};
+ghost use Rattle.read_back.specs.Inserted.{CallsHit, HasCounter, StartsAt, calling, traced};
+ghost use Rattle.read_back.proofs.InsertedLaws.{traced_closed};
 ghost use Rattle.wasm_remap.specs.Begun.{InsertsCode};
+ghost use Rattle.wasm_remap.specs.Instrumented.{InstrumentsCode};
 
 use std::alloc::Allocator;
 use wasm_base::{Result as Written, ValType};
 use wasm_code::ConstExpr;
-use wasm_insn::InstructionSink;
+use wasm_insn::{InstructionSink, Op};
 use wasm_reader::Offsets;
 use wasm_remap::{
-    IndexTooLarge, Position, Prologue, RemapError, insert_code, insert_import, insert_section,
+    IndexTooLarge, Instrument, Position, Prologue, RemapError, Visited, insert_code, insert_import,
+    insert_section, instrument_code,
 };
 use wasm_sections::{EntityType, GlobalSection, GlobalType, Import, StartSection};
 
@@ -80,4 +83,47 @@ pub fn with_calls<A: Allocator + Copy>(
     ensures { IfOk result (λ new. InsertsCode (λ _. calling) module.now new.items) }
 {
     insert_code(module, alloc, &CallsFirst)
+}
+
+/// A call of function 0 before each call.
+#[derive(Clone, Copy, Debug)]
+pub struct TracesCalls;
+
+impl Instrument for TracesCalls {
+    ghost before = { λ _ _ _ i. traced i.op };
+
+    ghost after = { λ _ _ _ _. [] };
+
+    ghost before_closed = { λ _ _ _ i. traced_closed i.op };
+
+    ghost after_closed = { λ _ _ _ _. refl };
+
+    fn append_before<A: Allocator>(
+        &self,
+        visited: &Visited<'_>,
+        sink: &mut Vec<u8, A>,
+    ) -> Written<()> {
+        match visited.op {
+            Op::Byte(0x10) => InstructionSink::new(sink).call(0),
+            _ => Ok(()),
+        }
+    }
+
+    fn append_after<A: Allocator>(
+        &self,
+        _visited: &Visited<'_>,
+        _sink: &mut Vec<u8, A>,
+    ) -> Written<()> {
+        Ok(())
+    }
+}
+
+/// Returns the module that calls function 0 before each of its own calls.
+pub fn with_traces<A: Allocator + Copy>(
+    module: &[u8],
+    alloc: A,
+) -> Result<Vec<u8, A>, RemapError<IndexTooLarge>>
+    ensures { IfOk result (λ new. InstrumentsCode (λ _ _ i. traced i.op) (λ _ _ _. []) module.now new.items) }
+{
+    instrument_code(module, alloc, &TracesCalls)
 }

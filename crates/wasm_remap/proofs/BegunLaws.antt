@@ -10,7 +10,7 @@ use Rattle.wasm_insn.proofs.Words.{Plain, instruction, table}
 use Rattle.wasm_reader.specs.Words.{LocatedBody}
 use Rattle.wasm_reader.specs.Iterating.{EndsBodies, GivesBody, NextBody, Visiting}
 use Rattle.wasm_reader.specs.declared.read_error.ReadError.{ReadError}
-use Rattle.wasm_remap.specs.Begun.{AddsBody, EncodeBodies, GainsCode, IsBegun, begun_bodies, begun_body}
+use Rattle.wasm_remap.specs.Begun.{AddsBodies, EncodeBodies, GainsCode, IsBegun, begun_body, each_from}
 
 -- ---- one body
 
@@ -83,31 +83,32 @@ next_body {old = old} {new = new} {b = b} (x ∷ others) g h =
       left = subst (λ s. members (size_prefixed body) standard s others) same.2 h.4;
     }
 
-begun_push : (code : ℕ → List Plain) (bodies : List Body) (first : ℕ) (x : Body) → begun_bodies code first bodies ++ begun_body (code (first + length bodies)) x ∷ [] ≡ begun_bodies code first (bodies ++ x ∷ [])
-begun_push code [] first x =
-    let f : first + 0 ≡ first = omega arith in
-    ap (λ n. begun_body (code n) x ∷ []) f
-begun_push code (y ∷ bodies) first x =
-    let f : first + suc (length bodies) ≡ suc first + length bodies = omega arith in
-    ap (λ l. begun_body (code first) y ∷ l) (ap (λ n. begun_bodies code (suc first) bodies ++ begun_body (code n) x ∷ []) f ∙ begun_push code bodies (suc first) x)
+pub each_push : {X : Type 0} (f : ℕ → X → List X) (xs : List X) (first : ℕ) (x : X) → each_from f first xs ++ f (first + length xs) x ≡ each_from f first (xs ++ x ∷ [])
+each_push f [] first x =
+    let same : first + 0 ≡ first = omega arith in
+    ap (λ n. f n x) same ∙ sym (append-nil (f first x))
+each_push f (y ∷ xs) first x =
+    let same : first + suc (length xs) ≡ suc first + length xs = omega arith in
+    let others = each_from f (suc first) xs in
+    append_assoc (f first y) others (f (first + suc (length xs)) x) ∙ ap (λ l. f first y ++ l) (ap (λ n. others ++ f n x) same ∙ each_push f xs (suc first) x)
 
-pub zip_push : {X Y : Type 0} (R : X → Y → Type 0) (xs : List X) (ys : List Y) (x : X) (y : Y) → AllZip R xs ys → R x y → AllZip R (xs ++ x ∷ []) (ys ++ y ∷ [])
-zip_push R [] [] x y h g = (g, tt)
-zip_push R [] (z ∷ ys) x y h g = absurd h
-zip_push R (z ∷ xs) [] x y h g = absurd h
-zip_push R (z ∷ xs) (w ∷ ys) x y h g = (h.0, zip_push R xs ys x y h.1 g)
+pub zip_join : {X Y : Type 0} (R : X → Y → Type 0) (xs us : List X) (ys vs : List Y) → AllZip R xs ys → AllZip R us vs → AllZip R (xs ++ us) (ys ++ vs)
+zip_join R [] us [] vs h g = g
+zip_join R [] us (z ∷ ys) vs h g = absurd h
+zip_join R (z ∷ xs) us [] vs h g = absurd h
+zip_join R (z ∷ xs) us (w ∷ ys) vs h g = (h.0, zip_join R xs us ys vs h.1 g)
 
 -- The iterator has returned some of the bodies, and the new code section has these.
-pub record HasBegun (code : ℕ → List Plain) (bodies : List Body) (it : Visiting) (entries : List (List ℕ)) (number : ℕ) : Type 0 where
+pub record HasEdited (f : ℕ → Body → List Body) (bodies : List Body) (it : Visiting) (entries : List (List ℕ)) (number : ℕ) : Type 0 where
   pub done : List Body
   pub todo : List Body
   pub all : bodies ≡ done ++ todo
   pub rest : members (size_prefixed body) standard it.rest todo
-  pub encode : EncodeBodies entries (begun_bodies code 0 done)
+  pub encode : EncodeBodies entries (each_from f 0 done)
   pub counted : number ≡ length done
 
-pub begun_none : {payload : List ℕ} {it : Visiting} {entries : List (List ℕ)} (code : ℕ → List Plain) (bodies : List Body) → Decodes u32 padded payload it.left it.rest → vec (size_prefixed body) standard payload bodies → entries ≡ [] → HasBegun code bodies it entries 0
-begun_none {it = it} code bodies d h e =
+pub edited_none : {payload : List ℕ} {it : Visiting} {entries : List (List ℕ)} (f : ℕ → Body → List Body) (bodies : List Body) → Decodes u32 padded payload it.left it.rest → vec (size_prefixed body) standard payload bodies → entries ≡ [] → HasEdited f bodies it entries 0
+edited_none {it = it} f bodies d h e =
     let read = u32_unambiguous.encodings.included padded standard tt d.front it.left d.encodes in
     let same = u32_unambiguous.unique standard d.front h.front it.rest h.back it.left (length bodies) read h.first (sym d.split ∙ h.joined) in
     record {
@@ -119,9 +120,9 @@ begun_none {it = it} code bodies d h e =
       counted = refl;
     }
 
-pub begun_more : {code : ℕ → List Plain} {bodies : List Body} {old new : Visiting} {b : LocatedBody} {before after : List (List ℕ)} {number : ℕ} (more : ℕ) → HasBegun code bodies old before number → GivesBody old b new
-    → ((x : Body) → body standard b.bytes x → AddsBody (begun_body (code number) x) before after) → more ≡ number + 1 → HasBegun code bodies new after more
-begun_more {code = code} {before = before} {number = number} more h g adds step =
+pub edited_more : {f : ℕ → Body → List Body} {bodies : List Body} {old new : Visiting} {b : LocatedBody} {before after : List (List ℕ)} {number : ℕ} (more : ℕ) → HasEdited f bodies old before number → GivesBody old b new
+    → ((x : Body) → body standard b.bytes x → AddsBodies (f number x) before after) → more ≡ number + 1 → HasEdited f bodies new after more
+edited_more {f = f} {before = before} {number = number} more h g adds step =
     let n = next_body h.todo g h.rest in
     let added = adds n.x n.decodes in
     let from_none : length h.done ≡ 0 + length h.done = omega arith in
@@ -130,17 +131,17 @@ begun_more {code = code} {before = before} {number = number} more h g adds step 
       todo = n.others;
       all = h.all ∙ ap (λ l. h.done ++ l) n.is ∙ sym (append_assoc h.done (n.x ∷ []) n.others);
       rest = n.left;
-      encode = subst (λ es. EncodeBodies es (begun_bodies code 0 (h.done ++ n.x ∷ []))) (sym added.is)
-          (subst (λ xs. EncodeBodies (before ++ added.entry ∷ []) xs) (ap (λ i. begun_bodies code 0 h.done ++ begun_body (code i) n.x ∷ []) (h.counted ∙ from_none) ∙ begun_push code h.done 0 n.x)
-          (zip_push (size_prefixed body standard) before (begun_bodies code 0 h.done) added.entry (begun_body (code number) n.x) h.encode added.encodes));
+      encode = subst (λ es. EncodeBodies es (each_from f 0 (h.done ++ n.x ∷ []))) (sym added.is)
+          (subst (λ xs. EncodeBodies (before ++ added.entries) xs) (ap (λ i. each_from f 0 h.done ++ f i n.x) (h.counted ∙ from_none) ∙ each_push f h.done 0 n.x)
+          (zip_join (size_prefixed body standard) before added.entries (each_from f 0 h.done) (f number n.x) h.encode added.encodes));
       counted = omega (arith, step, h.counted, length-append h.done (n.x ∷ []));
     }
 
-pub begun_all : {code : ℕ → List Plain} {bodies : List Body} {it : Visiting} {entries : List (List ℕ)} {number : ℕ} → HasBegun code bodies it entries number → it.rest ≡ [] → EncodeBodies entries (begun_bodies code 0 bodies)
-begun_all {code = code} {entries = entries} h e =
+pub edited_all : {f : ℕ → Body → List Body} {bodies : List Body} {it : Visiting} {entries : List (List ℕ)} {number : ℕ} → HasEdited f bodies it entries number → it.rest ≡ [] → EncodeBodies entries (each_from f 0 bodies)
+edited_all {f = f} {entries = entries} h e =
     let none = none_left h.todo (subst (λ s. members (size_prefixed body) standard s h.todo) e h.rest) in
-    subst (λ bodies. EncodeBodies entries (begun_bodies code 0 bodies)) (sym (h.all ∙ ap (λ l. h.done ++ l) none ∙ append-nil h.done)) h.encode
+    subst (λ bodies. EncodeBodies entries (each_from f 0 bodies)) (sym (h.all ∙ ap (λ l. h.done ++ l) none ∙ append-nil h.done)) h.encode
 
 -- The payload of the new code section.
-pub begun_payload : (entries : List (List ℕ)) (bodies : List Body) → IsEncodableSection entries → EncodeBodies entries bodies → vec (size_prefixed body) standard (unsigned_encoding (length entries) ++ joined entries) bodies
-begun_payload entries bodies encodable h = vec_of_pieces standard (size_prefixed body) entries bodies encodable.count h
+pub edited_payload : (entries : List (List ℕ)) (bodies : List Body) → IsEncodableSection entries → EncodeBodies entries bodies → vec (size_prefixed body) standard (unsigned_encoding (length entries) ++ joined entries) bodies
+edited_payload entries bodies encodable h = vec_of_pieces standard (size_prefixed body) entries bodies encodable.count h

@@ -17,3 +17,5 @@ pub mod StreamLaws
 pub mod InstructionForms
 pub mod BodyLaws
 pub mod ContentLaws
+pub mod CountedImports
+pub mod InstrumentedLaws

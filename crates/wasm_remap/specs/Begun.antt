@@ -41,10 +41,11 @@ IsClosed = IsClosedBehind (Some 0)
 abbrev pub begun_body : List Plain → Body → Body
 begun_body code x = record { runs = x.runs; code = code ++ x.code }
 
--- The bodies with instructions before their own, which depend on the number of the body.
-abbrev pub begun_bodies : (ℕ → List Plain) → ℕ → List Body → List Body
-begun_bodies code n [] = []
-begun_bodies code n (x ∷ bodies) = begun_body (code n) x ∷ begun_bodies code (suc n) bodies
+-- What a function makes of each item, one after the other. It depends on the number of the item, which
+-- is counted from `n`.
+abbrev pub each_from : {X : Type 0} → (ℕ → X → List X) → ℕ → List X → List X
+each_from f n [] = []
+each_from f n (x ∷ xs) = f n x ++ each_from f (suc n) xs
 
 -- The bytes gain an encoding of these instructions.
 pub record GainsCode (code : List Plain) (old new : List ℕ) : Type 0 where
@@ -62,27 +63,31 @@ pub record IsBegun (locals : List ℕ) (code : List Plain) (old new : List ℕ) 
 abbrev pub EncodeBodies : List (List ℕ) → List Body → Type 0
 EncodeBodies entries bodies = AllZip (size_prefixed body standard) entries bodies
 
--- The code section gains this body.
-pub record AddsBody (x : Body) (old new : List (List ℕ)) : Type 0 where
-  pub entry : List ℕ
-  pub is : new ≡ old ++ entry ∷ []
-  pub encodes : size_prefixed body standard entry x
+-- The code section gains these bodies.
+pub record AddsBodies (bodies : List Body) (old new : List (List ℕ)) : Type 0 where
+  pub entries : List (List ℕ)
+  pub is : new ≡ old ++ entries
+  pub encodes : EncodeBodies entries bodies
 
 -- ---- modules
 
--- The payload of the first code section has the same bodies with instructions before their own.
-pub record BeginsBodies (code : ℕ → List Plain) (olds : List Section) (edited : List ℕ) : Type 0 where
+-- The payload of the first code section has what a change makes of each body.
+pub record EditsBodies (f : ℕ → Body → List Body) (olds : List Section) (edited : List ℕ) : Type 0 where
   pub before : List Section
   pub section : Section
   pub after : List Section
   pub found : IsFound (number_of ids.Code) before section after olds
   pub payload : List ℕ
-  pub bodies : (xs : List Body) → vec (size_prefixed body) standard section.payload xs → vec (size_prefixed body) standard payload (begun_bodies code 0 xs)
+  pub bodies : (xs : List Body) → vec (size_prefixed body) standard section.payload xs → vec (size_prefixed body) standard payload (each_from f 0 xs)
   pub decodes : DecodesWhole wasm_module edited (between before (number_of ids.Code) payload after)
 
--- The bytes are a module, and the edited bytes are a module in which each body begins with these
--- instructions. A module without code stays.
-pub record InsertsCode (code : ℕ → List Plain) (bytes edited : List ℕ) : Type 0 where
+-- The bytes are a module, and the edited bytes are a module that has what a change makes of each body.
+-- A module without code stays.
+pub record EditsCode (f : ℕ → Body → List Body) (bytes edited : List ℕ) : Type 0 where
   pub olds : List Section
   pub has : HasSections bytes olds
-  pub are : BeginsBodies code olds edited ⊎ (lacks (number_of ids.Code) olds × (edited ≡ bytes))
+  pub are : EditsBodies f olds edited ⊎ (lacks (number_of ids.Code) olds × (edited ≡ bytes))
+
+-- Each body begins with these instructions.
+abbrev pub InsertsCode : (ℕ → List Plain) → List ℕ → List ℕ → Type 0
+InsertsCode code = EditsCode (λ n x. begun_body (code n) x ∷ [])

@@ -11,4 +11,5 @@ pub mod Places
 pub mod Inserted
 pub mod Imported
 pub mod Begun
+pub mod Instrumented
 pub mod Streamed

@@ -1,9 +1,9 @@
 // Instructions that are inserted at the start of bodies.
-ghost use Rattle.std.specs.Prelude.{◌≡◌, ℕ, List, IfOk, OnOk};
+ghost use Rattle.std.specs.Prelude.{◌≡◌, ◌∷◌, [], ℕ, List, IfOk, OnOk};
 ghost use Rattle.wasm_base.specs.Words.{size_prefixed, standard, vec};
 ghost use Rattle.wasm_code.specs.Words.{Body, body as body_format};
 ghost use Rattle.wasm_insn.specs.Words.{Plain};
-ghost use Rattle.wasm_remap.specs.Begun.{begun_bodies, begun_body, AddsBody, EncodeBodies, GainsCode, InsertsCode, IsBegun, IsClosed};
+ghost use Rattle.wasm_remap.specs.Begun.{begun_body, each_from, AddsBodies, EditsCode, EncodeBodies, GainsCode, InsertsCode, IsBegun, IsClosed};
 
 use crate::indexed::RemapError;
 use crate::insert::module_of;
@@ -52,30 +52,51 @@ fn joined<P: Prologue, A: Allocator>(
     Ok(new)
 }
 
-/// Adds the body of this number to a section, with the new instructions at its start.
-fn add_body<P: Prologue, A: Allocator + Copy>(
-    body: &CodeBody<'_, A>,
-    prologue: &P,
-    number: u32,
-    section: &mut CodeSection<A>,
-    alloc: A,
-) -> Result<(), RemapError<IndexTooLarge>>
-    ensures { OnOk result ((x : Body) → body_format standard body.now.bytes x → AddsBody (begun_body (P.code prologue.now number) x) section.old section.new) }
-{
-    let (_runs, instructions) = body.instructions()?;
-    let locals = &body.bytes()[..instructions.offset()];
-    let new = joined(locals, prologue, number, instructions.rest(), alloc)?;
-    section.raw(&new)?;
-    Ok(())
+/// A change of the bodies of a module.
+pub(crate) trait EditBody {
+    // What the change makes of the body of this number.
+    ghost edited: { Self → ℕ → Body → List Body };
+
+    /// Adds to a section what the change makes of the body of this number.
+    fn add_body<A: Allocator + Copy, E>(
+        &self,
+        body: &CodeBody<'_, A>,
+        number: u32,
+        section: &mut CodeSection<A>,
+        alloc: A,
+    ) -> Result<(), RemapError<E>>
+        ensures { OnOk result ((x : Body) → body_format standard body.now.bytes x → AddsBodies (edited self.now number x) section.old section.new) };
 }
 
-/// Returns a code section of the bodies, with the new instructions at the start of each.
-fn code_of<P: Prologue, A: Allocator + Copy>(
+/// The change that inserts instructions at the start.
+#[derive(Clone, Copy)]
+struct Begun<'p, P>(&'p P);
+
+impl<P: Prologue> EditBody for Begun<'_, P> {
+    ghost edited = { λ begun number x. begun_body (P.code begun.0.now number) x ∷ [] };
+
+    fn add_body<A: Allocator + Copy, E>(
+        &self,
+        body: &CodeBody<'_, A>,
+        number: u32,
+        section: &mut CodeSection<A>,
+        alloc: A,
+    ) -> Result<(), RemapError<E>> {
+        let (_runs, instructions) = body.instructions()?;
+        let locals = &body.bytes()[..instructions.offset()];
+        let new = joined(locals, self.0, number, instructions.rest(), alloc)?;
+        section.raw(&new)?;
+        Ok(())
+    }
+}
+
+/// Returns a code section of what the change makes of the bodies.
+pub(crate) fn code_of<C: EditBody, A: Allocator + Copy, E>(
     section: &Section<'_, A>,
-    prologue: &P,
+    change: &C,
     alloc: A,
-) -> Result<CodeSection<A>, RemapError<IndexTooLarge>>
-    ensures { IfOk result (λ new. (xs : List Body) → vec (size_prefixed body_format) standard section.now.section.payload xs → EncodeBodies new (begun_bodies (P.code prologue.now) 0 xs)) }
+) -> Result<CodeSection<A>, RemapError<E>>
+    ensures { IfOk result (λ new. (xs : List Body) → vec (size_prefixed body_format) standard section.now.section.payload xs → EncodeBodies new (each_from (C.edited change.now) 0 xs)) }
 {
     let mut bodies = section.bodies()?;
     let mut new = CodeSection::new(alloc);
@@ -85,12 +106,28 @@ fn code_of<P: Prologue, A: Allocator + Copy>(
             None => return Ok(new),
             Some(body) => body?,
         };
-        add_body(&body, prologue, number, &mut new, alloc)?;
+        change.add_body(&body, number, &mut new, alloc)?;
         number = match number.checked_add(1) {
             Some(next) => next,
             None => return Err(Refused::TooLong.into()),
         };
     }
+}
+
+/// Returns the module with the bodies of its first code section changed.
+pub(crate) fn edit_code<C: EditBody, A: Allocator + Copy>(
+    bytes: &[u8],
+    alloc: A,
+    change: &C,
+) -> Result<Vec<u8, A>, RemapError<IndexTooLarge>>
+    ensures { IfOk result (λ edited. EditsCode (C.edited change.now) bytes.now edited.items) }
+{
+    let sections = sections_of(bytes, alloc)?;
+    let Some((before, old, after)) = found(&sections, 10) else {
+        return Ok(Vec::from_slice(alloc, bytes)?);
+    };
+    let code = code_of(old, change, alloc)?;
+    Ok(module_of(before, &code, after, alloc)?)
 }
 
 /// Inserts instructions at the start of each body, and returns the new module.
@@ -113,10 +150,5 @@ pub fn insert_code<P: Prologue, A: Allocator + Copy>(
 ) -> Result<Vec<u8, A>, RemapError<IndexTooLarge>>
     ensures { IfOk result (λ edited. InsertsCode (P.code prologue.now) bytes.now edited.items) }
 {
-    let sections = sections_of(bytes, alloc)?;
-    let Some((before, old, after)) = found(&sections, 10) else {
-        return Ok(Vec::from_slice(alloc, bytes)?);
-    };
-    let code = code_of(old, prologue, alloc)?;
-    Ok(module_of(before, &code, after, alloc)?)
+    edit_code(bytes, alloc, &Begun(prologue))
 }

@@ -1,6 +1,7 @@
 // Imports that are inserted into a module.
-ghost use Rattle.std.specs.Prelude.{◌≡◌, IfOk};
-ghost use Rattle.wasm_remap.specs.Imported.{InsertsImport, space_of};
+ghost use Rattle.std.specs.Prelude.{◌≡◌, IfOk, IfSome, map};
+ghost use Rattle.wasm_remap.specs.Imported.{InsertsImport, imported, imported_from, is_in, space_of};
+ghost use Rattle.wasm_sections.specs.Imports.{imports_item};
 
 use crate::indexed::RemapError;
 use crate::insert::{Position, insert_section};
@@ -9,7 +10,7 @@ use crate::shift::{IndexTooLarge, Shift};
 use crate::spaces::IndexSpace;
 use std::alloc::Allocator;
 use wasm_reader::Offsets;
-use wasm_sections::{EntityType, Import, ImportSection};
+use wasm_sections::{EntityType, Import, ImportSection, Imports};
 
 /// Returns the index space of an imported entity.
 fn space_of(ty: EntityType) -> IndexSpace
@@ -22,6 +23,53 @@ fn space_of(ty: EntityType) -> IndexSpace
         EntityType::Global(_) => IndexSpace::Globals,
         EntityType::Tag(_) => IndexSpace::Tags,
     }
+}
+
+/// Returns `true` if the entity has an index in the space.
+fn is_in(space: IndexSpace, ty: EntityType) -> bool
+    ensures { result ≡ is_in space ty }
+{
+    space_of(ty) == space
+}
+
+/// Returns how many entities of the space an entry of an import section imports.
+fn imported_from<A: Allocator>(imports: &Imports<'_, A>, space: IndexSpace) -> usize
+    ensures { result ≡ imported_from space (imports_item imports.now).imported }
+{
+    match imports {
+        Imports::Single(import) => usize::from(is_in(space, import.ty)),
+        Imports::Compact1 { items, .. } => {
+            let mut count = 0;
+            for item in items.as_slice() {
+                if is_in(space, item.ty) {
+                    count += 1;
+                }
+            }
+            count
+        }
+        Imports::Compact2 { ty, names, .. } => {
+            if is_in(space, *ty) {
+                names.as_slice().len()
+            } else {
+                0
+            }
+        }
+    }
+}
+
+/// Returns how many entities of the space the entries of an import section import, or `None` above
+/// 4294967295.
+pub fn imported<A: Allocator>(entries: &[Imports<'_, A>], space: IndexSpace) -> Option<u32>
+    ensures { IfSome result (λ n. n ≡ imported space (map imports_item entries.now)) }
+{
+    let mut count: u32 = 0;
+    for entry in entries {
+        let Ok(more) = u32::try_from(imported_from(entry, space)) else {
+            return None;
+        };
+        count = count.checked_add(more)?;
+    }
+    Some(count)
 }
 
 /// Inserts an import before all others, and returns the new module.

@@ -4,7 +4,6 @@ ghost use Rattle.wasm_reader.specs.Outlines.{HasSections};
 ghost use Rattle.wasm_remap.specs.Places.{AppendsSections, IsFound, IsPlace, copied, lacks, rank_of, sections_in};
 
 use crate::indexed::RemapError;
-use crate::shift::IndexTooLarge;
 use std::alloc::Allocator;
 use wasm_base::{Module, RawSection, Refused, SectionId};
 use wasm_reader::{Section, Sections};
@@ -34,10 +33,10 @@ pub(crate) fn rank(id: u8) -> u32
 }
 
 /// Returns the sections of a module.
-pub(crate) fn sections_of<'a, A: Allocator + Copy>(
+pub(crate) fn sections_of<'a, A: Allocator + Copy, E>(
     bytes: &'a [u8],
     alloc: A,
-) -> Result<Vec<Section<'a, A>, A>, RemapError<IndexTooLarge>>
+) -> Result<Vec<Section<'a, A>, A>, RemapError<E>>
     ensures { IfOk result (λ list. HasSections bytes.now (sections_in list.items)) }
 {
     let mut list = Vec::new(alloc);

@@ -6,8 +6,8 @@
 /// Modules whose bodies begin with inserted instructions.
 ///
 /// - Closed instructions: [`is_among`](begun::is_among), [`open_after`](begun::open_after), [`IsClosedBehind`](begun::IsClosedBehind), [`IsClosed`](begun::IsClosed).
-/// - Bodies: [`begun_body`](begun::begun_body), [`begun_bodies`](begun::begun_bodies), [`GainsCode`](begun::GainsCode), [`IsBegun`](begun::IsBegun), [`EncodeBodies`](begun::EncodeBodies), [`AddsBody`](begun::AddsBody).
-/// - Modules: [`BeginsBodies`](begun::BeginsBodies), [`InsertsCode`](begun::InsertsCode).
+/// - Bodies: [`begun_body`](begun::begun_body), [`each_from`](begun::each_from), [`GainsCode`](begun::GainsCode), [`IsBegun`](begun::IsBegun), [`EncodeBodies`](begun::EncodeBodies), [`AddsBodies`](begun::AddsBodies).
+/// - Modules: [`EditsBodies`](begun::EditsBodies), [`EditsCode`](begun::EditsCode), [`InsertsCode`](begun::InsertsCode).
 ///
 /// [How to read definitions](super). The file is [`Begun.antt`](https://github.com/dolzhytik/dolzhytik/blob/main/crates/wasm_remap/specs/Begun.antt).
 pub trait begun {
@@ -62,17 +62,14 @@ pub trait begun {
     ///
     /// Definitions: [`Plain`](super::insn::plain::Plain), [`Body`](super::code::bodies::Body).
     type begun_body;
-    /// The bodies with instructions before their own, which depend on the number of the body.
+    /// What a function makes of each item, one after the other. It depends on the number of the item, which is counted from `n`.
     ///
     /// ```text
-    /// abbrev pub begun_bodies : (ℕ → List Plain) → ℕ → List Body → List Body
-    /// begun_bodies code n [] = []
-    /// begun_bodies code n (x ∷ bodies) = begun_body (code n) x
-    ///     ∷ begun_bodies code (suc n) bodies
+    /// abbrev pub each_from : {X : Type 0} → (ℕ → X → List X) → ℕ → List X → List X
+    /// each_from f n [] = []
+    /// each_from f n (x ∷ xs) = f n x ++ each_from f (suc n) xs
     /// ```
-    ///
-    /// Definitions: [`Plain`](super::insn::plain::Plain), [`Body`](super::code::bodies::Body), [`begun_body`](begun::begun_body).
-    type begun_bodies;
+    type each_from;
     /// The bytes gain an encoding of these instructions.
     ///
     /// ```text
@@ -105,46 +102,55 @@ pub trait begun {
     ///
     /// Definitions: [`Body`](super::code::bodies::Body), [`size_prefixed`](super::base::formats::size_prefixed), [`body`](super::code::bodies::body), [`standard`](super::base::numbers::Mode).
     type EncodeBodies;
-    /// The code section gains this body.
+    /// The code section gains these bodies.
     ///
     /// ```text
-    /// pub record AddsBody (x : Body) (old new : List (List ℕ)) : Type 0 where
-    ///   pub entry : List ℕ
-    ///   pub is : new ≡ old ++ entry ∷ []
-    ///   pub encodes : size_prefixed body standard entry x
+    /// pub record AddsBodies (bodies : List Body) (old new : List (List ℕ)) : Type 0 where
+    ///   pub entries : List (List ℕ)
+    ///   pub is : new ≡ old ++ entries
+    ///   pub encodes : EncodeBodies entries bodies
     /// ```
     ///
-    /// Definitions: [`Body`](super::code::bodies::Body), [`size_prefixed`](super::base::formats::size_prefixed), [`body`](super::code::bodies::body), [`standard`](super::base::numbers::Mode).
-    type AddsBody;
-    /// The payload of the first code section has the same bodies with instructions before their own.
+    /// Definitions: [`Body`](super::code::bodies::Body), [`EncodeBodies`](begun::EncodeBodies).
+    type AddsBodies;
+    /// The payload of the first code section has what a change makes of each body.
     ///
     /// ```text
-    /// pub record BeginsBodies (code : ℕ → List Plain) (olds : List Section) (edited : List ℕ)
-    ///     : Type 0 where
+    /// pub record EditsBodies (f : ℕ → Body → List Body) (olds : List Section)
+    ///     (edited : List ℕ) : Type 0 where
     ///   pub before : List Section
     ///   pub section : Section
     ///   pub after : List Section
     ///   pub found : IsFound (number_of ids.Code) before section after olds
     ///   pub payload : List ℕ
     ///   pub bodies : (xs : List Body) → vec (size_prefixed body) standard section.payload xs
-    ///       → vec (size_prefixed body) standard payload (begun_bodies code 0 xs)
+    ///       → vec (size_prefixed body) standard payload (each_from f 0 xs)
     ///   pub decodes : DecodesWhole wasm_module edited
     ///       (between before (number_of ids.Code) payload after)
     /// ```
     ///
-    /// Definitions: [`Plain`](super::insn::plain::Plain), [`Section`](super::reader::outlines::Section), [`IsFound`](places::IsFound), [`number_of`](super::base::section_id::number_of), [`Body`](super::code::bodies::Body), [`vec`](super::base::formats::vec), [`size_prefixed`](super::base::formats::size_prefixed), [`body`](super::code::bodies::body), [`standard`](super::base::numbers::Mode), [`begun_bodies`](begun::begun_bodies), [`DecodesWhole`](super::base::decoding::DecodesWhole), [`wasm_module`](super::base::formats::wasm_module), [`between`](inserted::between).
-    type BeginsBodies;
-    /// The bytes are a module, and the edited bytes are a module in which each body begins with these instructions. A module without code stays.
+    /// Definitions: [`Body`](super::code::bodies::Body), [`Section`](super::reader::outlines::Section), [`IsFound`](places::IsFound), [`number_of`](super::base::section_id::number_of), [`vec`](super::base::formats::vec), [`size_prefixed`](super::base::formats::size_prefixed), [`body`](super::code::bodies::body), [`standard`](super::base::numbers::Mode), [`each_from`](begun::each_from), [`DecodesWhole`](super::base::decoding::DecodesWhole), [`wasm_module`](super::base::formats::wasm_module), [`between`](inserted::between).
+    type EditsBodies;
+    /// The bytes are a module, and the edited bytes are a module that has what a change makes of each body. A module without code stays.
     ///
     /// ```text
-    /// pub record InsertsCode (code : ℕ → List Plain) (bytes edited : List ℕ) : Type 0 where
+    /// pub record EditsCode (f : ℕ → Body → List Body) (bytes edited : List ℕ) : Type 0 where
     ///   pub olds : List Section
     ///   pub has : HasSections bytes olds
-    ///   pub are : BeginsBodies code olds edited
+    ///   pub are : EditsBodies f olds edited
     ///       ⊎ (lacks (number_of ids.Code) olds × (edited ≡ bytes))
     /// ```
     ///
-    /// Definitions: [`Plain`](super::insn::plain::Plain), [`Section`](super::reader::outlines::Section), [`HasSections`](super::reader::outlines::HasSections), [`BeginsBodies`](begun::BeginsBodies), [`lacks`](places::lacks), [`number_of`](super::base::section_id::number_of).
+    /// Definitions: [`Body`](super::code::bodies::Body), [`Section`](super::reader::outlines::Section), [`HasSections`](super::reader::outlines::HasSections), [`EditsBodies`](begun::EditsBodies), [`lacks`](places::lacks), [`number_of`](super::base::section_id::number_of).
+    type EditsCode;
+    /// Each body begins with these instructions.
+    ///
+    /// ```text
+    /// abbrev pub InsertsCode : (ℕ → List Plain) → List ℕ → List ℕ → Type 0
+    /// InsertsCode code = EditsCode (λ n x. begun_body (code n) x ∷ [])
+    /// ```
+    ///
+    /// Definitions: [`Plain`](super::insn::plain::Plain), [`EditsCode`](begun::EditsCode), [`begun_body`](begun::begun_body).
     type InsertsCode;
 }
 
@@ -332,6 +338,36 @@ pub trait imported {
     /// space_of (entities.Tag ty) = spaces.Tags
     /// ```
     type space_of;
+    /// Whether the entity has an index in the space.
+    ///
+    /// ```text
+    /// abbrev pub is_in : IndexSpace → EntityType → Bool
+    /// is_in space ty = is_same (space_of ty) space
+    /// ```
+    ///
+    /// Definitions: [`is_same`](shifted::is_same), [`space_of`](imported::space_of).
+    type is_in;
+    /// How many such entities are imported from a module.
+    ///
+    /// ```text
+    /// abbrev pub imported_from : IndexSpace → Imported → ℕ
+    /// imported_from space (single n ty) = if is_in space ty then 1 else 0
+    /// imported_from space (named items) = count_by (λ i. is_in space i.1) items
+    /// imported_from space (alike ty names) = if is_in space ty then length names else 0
+    /// ```
+    ///
+    /// Definitions: [`Imported`](super::sections::imports::Imported), [`single`](super::sections::imports::Imported), [`is_in`](imported::is_in), [`named`](super::sections::imports::Imported), [`alike`](super::sections::imports::Imported).
+    type imported_from;
+    /// How many such entities are imported.
+    ///
+    /// ```text
+    /// abbrev pub imported : IndexSpace → List ImportItem → ℕ
+    /// imported space [] = 0
+    /// imported space (i ∷ imports) = imported_from space i.imported + imported space imports
+    /// ```
+    ///
+    /// Definitions: [`ImportItem`](super::sections::imports::ImportItem), [`imported_from`](imported::imported_from).
+    type imported;
     /// The map that makes room for one entity before all others of its space.
     ///
     /// ```text
@@ -663,6 +699,73 @@ pub trait instructions {
     ///
     /// Definitions: [`Mapping`](mapping::Mapping), [`Body`](super::code::bodies::Body), [`remapped_val`](instructions::remapped_val), [`remapped_instruction`](instructions::remapped_instruction).
     type remapped_body;
+}
+
+/// Bodies with instructions before and after their own.
+///
+/// [How to read definitions](super). The file is [`Instrumented.antt`](https://github.com/dolzhytik/dolzhytik/blob/main/crates/wasm_remap/specs/Instrumented.antt).
+pub trait instrumented {
+    /// The instructions to insert around the instruction of each number.
+    ///
+    /// ```text
+    /// abbrev pub Around : Type 0
+    /// Around = ℕ → Plain → List Plain
+    /// ```
+    ///
+    /// Definitions: [`Plain`](super::insn::plain::Plain).
+    type Around;
+    /// Nothing in front of the end of a list, and otherwise these instructions.
+    ///
+    /// ```text
+    /// abbrev pub unless_last : List Plain → List Plain → List Plain
+    /// unless_last [] code = []
+    /// unless_last (i ∷ others) code = code
+    /// ```
+    ///
+    /// Definitions: [`Plain`](super::insn::plain::Plain).
+    type unless_last;
+    /// The instructions from number `n` on, with those that belong before and after each. Others follow them. Behind the last one of all is none.
+    ///
+    /// ```text
+    /// abbrev pub woven_before : Around → Around → ℕ → (is others : List Plain) → List Plain
+    /// woven_before before after n [] others = []
+    /// woven_before before after n (i ∷ is) others = before n i
+    ///     ++ (i ∷ (unless_last (is ++ others) (after n i)
+    ///         ++ woven_before before after (suc n) is others))
+    /// ```
+    ///
+    /// Definitions: [`Around`](instrumented::Around), [`Plain`](super::insn::plain::Plain), [`unless_last`](instrumented::unless_last).
+    type woven_before;
+    /// The instructions of a body, with those that belong before and after each. Behind the last one, which ends the body, is none.
+    ///
+    /// ```text
+    /// abbrev pub woven : Around → Around → List Plain → List Plain
+    /// woven before after is = woven_before before after 0 is []
+    /// ```
+    ///
+    /// Definitions: [`Around`](instrumented::Around), [`Plain`](super::insn::plain::Plain), [`woven_before`](instrumented::woven_before).
+    type woven;
+    /// The body with instructions before and after its own.
+    ///
+    /// ```text
+    /// abbrev pub instrumented_body : Around → Around → Body → Body
+    /// instrumented_body before after x = record
+    ///     { runs = x.runs; code = woven before after x.code }
+    /// ```
+    ///
+    /// Definitions: [`Around`](instrumented::Around), [`Body`](super::code::bodies::Body), [`woven`](instrumented::woven).
+    type instrumented_body;
+    /// The bytes are a module, and the edited bytes are a module whose bodies have these instructions before and after their own. A module without code stays.
+    ///
+    /// ```text
+    /// abbrev pub InstrumentsCode
+    ///     : (before after : ℕ → Around) → (bytes edited : List ℕ) → Type 0
+    /// InstrumentsCode before after = EditsCode
+    ///     (λ n x. instrumented_body (before n) (after n) x ∷ [])
+    /// ```
+    ///
+    /// Definitions: [`Around`](instrumented::Around), [`EditsCode`](begun::EditsCode), [`instrumented_body`](instrumented::instrumented_body).
+    type InstrumentsCode;
 }
 
 /// What a map of indices makes of the items of the standard's sections.

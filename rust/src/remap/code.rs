@@ -61,27 +61,70 @@ fn joined<P: Prologue, A: Allocator>(
     Ok(new)
 }
 
-/// Adds the body of this number to a section, with the new instructions at its start.
-fn add_body<P: Prologue, A: Allocator + Copy>(
-    body: &CodeBody<'_, A>,
-    prologue: &P,
-    number: u32,
-    section: &mut CodeSection<A>,
-    alloc: A,
-) -> Result<(), RemapError<IndexTooLarge>> {
-    let (_runs, instructions) = body.instructions()?;
-    let locals = &body.bytes()[..instructions.offset()];
-    let new = joined(locals, prologue, number, instructions.rest(), alloc)?;
-    section.raw(&new)?;
-    Ok(())
+/// A change of the bodies of a module.
+///
+/// # Defined
+///
+/// ```text
+/// edited: { Self → ℕ → Body → List Body }
+/// ```
+///
+/// Definitions: [`Body`](crate::definitions::code::bodies::Body). [How to read clauses](crate::definitions).
+pub(crate) trait EditBody {
+    // What the change makes of the body of this number.
+
+    /// Adds to a section what the change makes of the body of this number.
+    ///
+    /// # Proved
+    ///
+    /// ```text
+    /// ensures { OnOk result ((x : Body) → body_format standard body.now.bytes x
+    ///         → AddsBodies (edited self.now number x) section.old section.new) }
+    /// ```
+    ///
+    /// Definitions: [`Body`](crate::definitions::code::bodies::Body), [`body_format`](crate::definitions::code::bodies::body), [`standard`](crate::definitions::base::numbers::Mode), [`AddsBodies`](crate::definitions::remap::begun::AddsBodies). [How to read clauses](crate::definitions).
+    fn add_body<A: Allocator + Copy, E>(
+        &self,
+        body: &CodeBody<'_, A>,
+        number: u32,
+        section: &mut CodeSection<A>,
+        alloc: A,
+    ) -> Result<(), RemapError<E>>;
 }
 
-/// Returns a code section of the bodies, with the new instructions at the start of each.
-fn code_of<P: Prologue, A: Allocator + Copy>(
+/// The change that inserts instructions at the start.
+#[derive(Clone, Copy)]
+struct Begun<'p, P>(&'p P);
+
+/// # Defined
+///
+/// ```text
+/// edited = { λ begun number x. begun_body (P.code begun.0.now number) x ∷ [] }
+/// ```
+///
+/// Definitions: [`begun_body`](crate::definitions::remap::begun::begun_body). [How to read clauses](crate::definitions).
+impl<P: Prologue> EditBody for Begun<'_, P> {
+    fn add_body<A: Allocator + Copy, E>(
+        &self,
+        body: &CodeBody<'_, A>,
+        number: u32,
+        section: &mut CodeSection<A>,
+        alloc: A,
+    ) -> Result<(), RemapError<E>> {
+        let (_runs, instructions) = body.instructions()?;
+        let locals = &body.bytes()[..instructions.offset()];
+        let new = joined(locals, self.0, number, instructions.rest(), alloc)?;
+        section.raw(&new)?;
+        Ok(())
+    }
+}
+
+/// Returns a code section of what the change makes of the bodies.
+pub(crate) fn code_of<C: EditBody, A: Allocator + Copy, E>(
     section: &Section<'_, A>,
-    prologue: &P,
+    change: &C,
     alloc: A,
-) -> Result<CodeSection<A>, RemapError<IndexTooLarge>> {
+) -> Result<CodeSection<A>, RemapError<E>> {
     let mut bodies = section.bodies()?;
     let mut new = CodeSection::new(alloc);
     let mut number: u32 = 0;
@@ -90,12 +133,26 @@ fn code_of<P: Prologue, A: Allocator + Copy>(
             None => return Ok(new),
             Some(body) => body?,
         };
-        add_body(&body, prologue, number, &mut new, alloc)?;
+        change.add_body(&body, number, &mut new, alloc)?;
         number = match number.checked_add(1) {
             Some(next) => next,
             None => return Err(Refused::TooLong.into()),
         };
     }
+}
+
+/// Returns the module with the bodies of its first code section changed.
+pub(crate) fn edit_code<C: EditBody, A: Allocator + Copy>(
+    bytes: &[u8],
+    alloc: A,
+    change: &C,
+) -> Result<Vec<u8, A>, RemapError<IndexTooLarge>> {
+    let sections = sections_of(bytes, alloc)?;
+    let Some((before, old, after)) = found(&sections, 10) else {
+        return Ok(Vec::from_slice(alloc, bytes)?);
+    };
+    let code = code_of(old, change, alloc)?;
+    Ok(module_of(before, &code, after, alloc)?)
 }
 
 /// Inserts instructions at the start of each body, and returns the new module.
@@ -114,7 +171,7 @@ fn code_of<P: Prologue, A: Allocator + Copy>(
 ///
 /// # Proved
 ///
-/// After `Ok`: The bytes are a module, and the edited bytes are a module in which each body begins with these instructions. A module without code stays.
+/// After `Ok`: Each body begins with these instructions.
 ///
 /// ```text
 /// ensures { IfOk result (λ edited. InsertsCode
@@ -127,10 +184,5 @@ pub fn insert_code<P: Prologue, A: Allocator + Copy>(
     alloc: A,
     prologue: &P,
 ) -> Result<Vec<u8, A>, RemapError<IndexTooLarge>> {
-    let sections = sections_of(bytes, alloc)?;
-    let Some((before, old, after)) = found(&sections, 10) else {
-        return Ok(Vec::from_slice(alloc, bytes)?);
-    };
-    let code = code_of(old, prologue, alloc)?;
-    Ok(module_of(before, &code, after, alloc)?)
+    edit_code(bytes, alloc, &Begun(prologue))
 }

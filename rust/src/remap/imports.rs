@@ -9,7 +9,7 @@ use crate::remap::shift::{IndexTooLarge, Shift};
 use crate::remap::spaces::IndexSpace;
 use crate::alloc::Allocator;
 use crate::reader::Offsets;
-use crate::sections::{EntityType, Import, ImportSection};
+use crate::sections::{EntityType, Import, ImportSection, Imports};
 
 /// Returns the index space of an imported entity.
 fn space_of(ty: EntityType) -> IndexSpace {
@@ -20,6 +20,55 @@ fn space_of(ty: EntityType) -> IndexSpace {
         EntityType::Global(_) => IndexSpace::Globals,
         EntityType::Tag(_) => IndexSpace::Tags,
     }
+}
+
+/// Returns `true` if the entity has an index in the space.
+fn is_in(space: IndexSpace, ty: EntityType) -> bool {
+    space_of(ty) == space
+}
+
+/// Returns how many entities of the space an entry of an import section imports.
+fn imported_from<A: Allocator>(imports: &Imports<'_, A>, space: IndexSpace) -> usize {
+    match imports {
+        Imports::Single(import) => usize::from(is_in(space, import.ty)),
+        Imports::Compact1 { items, .. } => {
+            let mut count = 0;
+            for item in items.as_slice() {
+                if is_in(space, item.ty) {
+                    count += 1;
+                }
+            }
+            count
+        }
+        Imports::Compact2 { ty, names, .. } => {
+            if is_in(space, *ty) {
+                names.as_slice().len()
+            } else {
+                0
+            }
+        }
+    }
+}
+
+/// Returns how many entities of the space the entries of an import section import, or `None` above
+/// 4294967295.
+///
+/// # Proved
+///
+/// ```text
+/// ensures { IfSome result (λ n. n ≡ imported space (map imports_item entries.now)) }
+/// ```
+///
+/// Definitions: [`imported`](crate::definitions::remap::imported::imported), [`imports_item`](crate::definitions::sections::imports::imports_item). [How to read clauses](crate::definitions).
+pub fn imported<A: Allocator>(entries: &[Imports<'_, A>], space: IndexSpace) -> Option<u32> {
+    let mut count: u32 = 0;
+    for entry in entries {
+        let Ok(more) = u32::try_from(imported_from(entry, space)) else {
+            return None;
+        };
+        count = count.checked_add(more)?;
+    }
+    Some(count)
 }
 
 /// Inserts an import before all others, and returns the new module.

@@ -3,7 +3,6 @@
 
 use crate::vec::Vec;
 use crate::remap::indexed::RemapError;
-use crate::remap::shift::IndexTooLarge;
 use crate::alloc::Allocator;
 use crate::base::{Module, RawSection, Refused};
 use crate::reader::{Section, Sections};
@@ -30,10 +29,10 @@ pub(crate) fn rank(id: u8) -> u32 {
 }
 
 /// Returns the sections of a module.
-pub(crate) fn sections_of<'a, A: Allocator + Copy>(
+pub(crate) fn sections_of<'a, A: Allocator + Copy, E>(
     bytes: &'a [u8],
     alloc: A,
-) -> Result<Vec<Section<'a, A>, A>, RemapError<IndexTooLarge>> {
+) -> Result<Vec<Section<'a, A>, A>, RemapError<E>> {
     let mut list = Vec::new(alloc);
     let mut sections = Sections::new(alloc, bytes)?;
     loop {

@@ -9,11 +9,12 @@ mod imports;
 use crate::examples::stripped::copy;
 use bodies::covered_code;
 use counters::{counters, exports as exports_of, extended};
-use imports::{Space, imported};
+use imports::imported;
 use dolzhytik::fallible::Allocator;
 use dolzhytik::fallible::{Module, RawSection};
 use dolzhytik::reader::ReadFault;
 use dolzhytik::reader::{Items, ReadError, Section, Sections};
+use dolzhytik::reader::remap::IndexSpace;
 use dolzhytik::fallible::Export;
 
 /// The error of [`covered`].
@@ -213,8 +214,8 @@ fn numbers_of<A: Allocator + Copy>(
     globals: &Section<'_, A>,
     code: &Section<'_, A>,
 ) -> Result<Numbers, CoverageError> {
-    let function = imported(sections, Space::Functions)?;
-    let imported_globals = imported(sections, Space::Globals)?;
+    let function = imported(sections, IndexSpace::Functions)?;
+    let imported_globals = imported(sections, IndexSpace::Globals)?;
     let offset = globals.offset();
     let Some(counter) = imported_globals.checked_add(number_of(globals)?) else {
         return Err(memory_at(offset));

@@ -5,9 +5,9 @@ use dolzhytik::fallible::{Sink, Vec};
 use dolzhytik::fallible::Allocator;
 use dolzhytik::fallible::{Result as Written, ValType};
 use dolzhytik::fallible::ConstExpr;
-use dolzhytik::fallible::InstructionSink;
+use dolzhytik::fallible::{InstructionSink, Op};
 use dolzhytik::reader::Offsets;
-use dolzhytik::reader::remap::{IndexTooLarge, Position, Prologue, RemapError, insert_code, insert_import, insert_section};
+use dolzhytik::reader::remap::{IndexTooLarge, Instrument, Position, Prologue, RemapError, Visited, insert_code, insert_import, insert_section, instrument_code};
 use dolzhytik::fallible::{EntityType, GlobalSection, GlobalType, Import, StartSection};
 
 /// Returns the module with an import of the function `hit` of `host`, of type 0, before all others.
@@ -94,4 +94,51 @@ pub fn with_calls<A: Allocator + Copy>(
     alloc: A,
 ) -> Result<Vec<u8, A>, RemapError<IndexTooLarge>> {
     insert_code(module, alloc, &CallsFirst)
+}
+
+/// A call of function 0 before each call.
+#[derive(Clone, Copy, Debug)]
+pub struct TracesCalls;
+
+/// # Defined
+///
+/// ```text
+/// before = { λ _ _ _ i. traced i.op }
+/// after = { λ _ _ _ _. [] }
+/// before_closed = { λ _ _ _ i. traced_closed i.op }
+/// after_closed = { λ _ _ _ _. refl }
+/// ```
+impl Instrument for TracesCalls {
+    fn append_before<A: Sink>(
+        &self,
+        visited: &Visited<'_>,
+        sink: &mut A,
+    ) -> Written<()> {
+        match visited.op {
+            Op::Byte(0x10) => InstructionSink::new(sink).call(0),
+            _ => Ok(()),
+        }
+    }
+
+    fn append_after<A: Sink>(
+        &self,
+        _visited: &Visited<'_>,
+        _sink: &mut A,
+    ) -> Written<()> {
+        Ok(())
+    }
+}
+
+/// Returns the module that calls function 0 before each of its own calls.
+///
+/// # Proved
+///
+/// ```text
+/// ensures { IfOk result (λ new. InstrumentsCode (λ _ _ i. traced i.op) (λ _ _ _. []) module.now new.items) }
+/// ```
+pub fn with_traces<A: Allocator + Copy>(
+    module: &[u8],
+    alloc: A,
+) -> Result<Vec<u8, A>, RemapError<IndexTooLarge>> {
+    instrument_code(module, alloc, &TracesCalls)
 }

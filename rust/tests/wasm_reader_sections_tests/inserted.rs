@@ -2,7 +2,7 @@
 // Tests of sections and imports that are inserted, with each request for memory refused in turn.
 
 use crate::checks::{check_bytes, is_want_of_memory};
-use crate::read_back::inserted::{with_calls, with_counter, with_hit, with_start};
+use crate::read_back::inserted::{with_calls, with_counter, with_hit, with_start, with_traces};
 use crate::test_support::{MOST, Refusing};
 use dolzhytik::fallible::{RawSection, Refused};
 use dolzhytik::reader::remap::{IndexTooLarge, Position, RemapError, insert_section};
@@ -245,4 +245,42 @@ fn errors() {
     let full = [0, b'a', b's', b'm', 1, 0, 0, 0, 6, 5, 0xFF, 0xFF, 0xFF, 0xFF, 0x0F];
     let error = with_counter(&full, rt.alloc()).err();
     assert_eq!(rt; error, Some(RemapError::Refused(Refused::TooLong)));
+}
+
+/// A module of two bodies: one calls function 1 in a block, and the other calls nothing.
+const CALLERS: &[u8] = &[
+    0, b'a', b's', b'm', 1, 0, 0, 0, // header
+    3, 3, 2, 0, 0, // two functions
+    10, 13, 2, 8, 0, 0x02, 0x40, 0x10, 0x81, 0, 0x0B, 0x0B, // block, call 1, end, end
+    2, 0, 0x0B, // end
+    0, 2, 1, b'c', // a custom section
+];
+
+/// The same where function 0 is called before that call, which keeps its padded number.
+const TRACED: &[u8] = &[
+    0, b'a', b's', b'm', 1, 0, 0, 0, // header
+    3, 3, 2, 0, 0, // two functions
+    10, 15, 2, 10, 0, 0x02, 0x40, 0x10, 0, 0x10, 0x81, 0, 0x0B, 0x0B, // call 0, call 1
+    2, 0, 0x0B, // end
+    0, 2, 1, b'c', // a custom section
+];
+
+#[test]
+fn code_before_calls() {
+    let rt = crate::host::HostRuntime;
+    let heap = Refusing::new(rt.alloc());
+    for nth in 1..MOST {
+        heap.refuse(nth);
+        match with_traces(CALLERS, &heap) {
+            Ok(module) => {
+                check_bytes(&rt, &module, TRACED);
+                assert!(rt; heap.is_waiting(), "no request was refused");
+                let module = with_traces(COUNTER, rt.alloc()).expect("no code");
+                check_bytes(&rt, &module, COUNTER);
+                return;
+            }
+            Err(error) => assert!(rt; is_want_of_memory(&error), "another error"),
+        }
+    }
+    panic!(rt; "no call was granted")
 }

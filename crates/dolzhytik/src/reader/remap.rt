@@ -2,6 +2,7 @@
 // [`insert_import`].
 
 pub use wasm_remap::{
-    IndexSpace, IndexTooLarge, Position, Prologue, Remap, RemapError, Shift, insert_code,
-    insert_import, insert_section, remap_items, remap_module, remap_section, spaces_of,
+    IndexSpace, IndexTooLarge, Instrument, Position, Prologue, Remap, RemapError, Shift, Visited,
+    imported, insert_code, insert_import, insert_section, instrument_code, remap_items,
+    remap_module, remap_section, spaces_of,
 };

@@ -1,10 +1,10 @@
 // Bodies that count their calls.
-ghost use Rattle.std.specs.Prelude.{◌≡◌, List, IfOk, IfErr, OnOk};
+ghost use Rattle.std.specs.Prelude.{◌≡◌, ◌∷◌, [], List, IfOk, IfErr, OnOk};
 ghost use Rattle.wasm_base.specs.Continuing.{RejectsWhole};
 ghost use Rattle.wasm_base.specs.Formats.{size_prefixed, vec};
 ghost use Rattle.wasm_base.specs.Numbers.{standard};
 ghost use Rattle.wasm_code.specs.Bodies.{Body, body as body_format};
-ghost use Rattle.wasm_remap.specs.Begun.{AddsBody, EncodeBodies, GainsCode, IsBegun};
+ghost use Rattle.wasm_remap.specs.Begun.{AddsBodies, EncodeBodies, GainsCode, IsBegun};
 ghost use Rattle.examples.specs.Coverage.{counting, covered_body, covered_bodies, IsMalformed, IsUnfit};
 
 use super::{CoverageError, memory_at};
@@ -60,7 +60,7 @@ fn add_covered<A: Allocator + Copy>(
     code: &mut CodeSection<A>,
     alloc: A,
 ) -> Result<(), CoverageError>
-    ensures found { OnOk result ((x : Body) → body_format standard body.now.bytes x → AddsBody (covered_body counter x) code.old code.new) }
+    ensures found { OnOk result ((x : Body) → body_format standard body.now.bytes x → AddsBodies (covered_body counter x ∷ []) code.old code.new) }
     ensures none { IfErr result (λ e. IsMalformed e → RejectsWhole body_format standard body.now.bytes) }
     ensures unfit { IfErr result (λ e. IsUnfit e → ⊥) }
 {

@@ -65,7 +65,7 @@ fn covered_body<A: Allocator + Copy>(
 /// # Proved
 ///
 /// ```text
-/// ensures found { OnOk result ((x : Body) → body_format standard body.now.bytes x → AddsBody (covered_body counter x) code.old code.new) }
+/// ensures found { OnOk result ((x : Body) → body_format standard body.now.bytes x → AddsBodies (covered_body counter x ∷ []) code.old code.new) }
 /// ensures none { IfErr result (λ e. IsMalformed e → RejectsWhole body_format standard body.now.bytes) }
 /// ensures unfit { IfErr result (λ e. IsUnfit e → ⊥) }
 /// ```

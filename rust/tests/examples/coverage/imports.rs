@@ -4,80 +4,9 @@
 use super::{CoverageError, memory_at};
 use dolzhytik::fallible::Allocator;
 use dolzhytik::reader::{Items, Section};
-use dolzhytik::fallible::{EntityType, Imports};
+use dolzhytik::reader::remap::{IndexSpace, imported as imported_by};
 
-/// The entities that share one sequence of indices.
-#[derive(Clone, Copy, Debug)]
-pub(super) enum Space {
-    Functions,
-    Globals,
-}
-
-impl Space {
-    /// Returns `true` if such an entity has an index there.
-    ///
-    /// # Proved
-    ///
-    /// ```text
-    /// ensures { result ≡ is_in self ty.now }
-    /// ```
-    fn contains(self, ty: &EntityType) -> bool {
-        match (self, ty) {
-            (Space::Functions, EntityType::Function(_) | EntityType::FunctionExact(_)) => true,
-            (Space::Globals, EntityType::Global(_)) => true,
-            _ => false,
-        }
-    }
-}
-
-/// Returns how many such entities an entry of an import section imports.
-///
-/// # Proved
-///
-/// ```text
-/// ensures { result ≡ imported_from space (imports_item imports.now).imported }
-/// ```
-fn imported_from<A: Allocator>(imports: &Imports<'_, A>, space: Space) -> usize {
-    match imports {
-        Imports::Single(import) => usize::from(space.contains(&import.ty)),
-        Imports::Compact1 { items, .. } => {
-            let mut count = 0;
-            for item in items.as_slice() {
-                if space.contains(&item.ty) {
-                    count += 1;
-                }
-            }
-            count
-        }
-        Imports::Compact2 { ty, names, .. } => {
-            if space.contains(ty) {
-                names.as_slice().len()
-            } else {
-                0
-            }
-        }
-    }
-}
-
-/// Returns how many such entities the entries import, or `None` above 4294967295.
-///
-/// # Proved
-///
-/// ```text
-/// ensures { IfSome result (λ n. n ≡ imported space (map imports_item entries.now)) }
-/// ```
-fn imported_by<A: Allocator>(entries: &[Imports<'_, A>], space: Space) -> Option<u32> {
-    let mut count: u32 = 0;
-    for entry in entries {
-        let Ok(more) = u32::try_from(imported_from(entry, space)) else {
-            return None;
-        };
-        count = count.checked_add(more)?;
-    }
-    Some(count)
-}
-
-/// Returns how many such entities an import section imports.
+/// Returns how many entities of the space an import section imports.
 ///
 /// # Proved
 ///
@@ -88,7 +17,7 @@ fn imported_by<A: Allocator>(entries: &[Imports<'_, A>], space: Space) -> Option
 /// ```
 fn imported_in<A: Allocator + Copy>(
     section: &Section<'_, A>,
-    space: Space,
+    space: IndexSpace,
 ) -> Result<u32, CoverageError> {
     let offset = section.offset();
     match section.items()? {
@@ -100,7 +29,7 @@ fn imported_in<A: Allocator + Copy>(
     }
 }
 
-/// Returns how many such entities the sections import.
+/// Returns how many entities of the space the sections import.
 ///
 /// # Proved
 ///
@@ -111,7 +40,7 @@ fn imported_in<A: Allocator + Copy>(
 /// ```
 pub(super) fn imported<A: Allocator + Copy>(
     sections: &[Section<'_, A>],
-    space: Space,
+    space: IndexSpace,
 ) -> Result<u32, CoverageError> {
     let mut count: u32 = 0;
     for section in sections {

@@ -1,7 +1,7 @@
 use Rattle.examples.proofs.Common.{ap, ap₂, ◌∙◌, imported, globals_number, bodies_number, imports_same, error_stays, no_globals, no_bodies}
 use Rattle.examples.proofs.CoverageLaws.{unfit_stays, bodies_have_number}
 use Rattle.wasm_base.proofs.Words.{◌+◌}
-use Rattle.examples.specs.declared.coverage.imports.Space.TheVariants as spaces
+use Rattle.wasm_remap.specs.declared.spaces.IndexSpace.TheVariants as spaces
 use Rattle.examples.proofs.coverage.numbers_of.Goals as goal
 
 pub returns-clause-found : goal.returns-clause-found

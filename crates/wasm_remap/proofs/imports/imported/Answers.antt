@@ -1,6 +1,7 @@
-use Rattle.examples.proofs.Common.{imports_item, imported_more}
+use Rattle.wasm_sections.specs.Imports.{imports_item}
+use Rattle.wasm_remap.proofs.CountedImports.{imported_more}
 use Rattle.std.proofs.Common.{arith}
-use Rattle.examples.proofs.coverage.imports.imported_by.Goals as goal
+use Rattle.wasm_remap.proofs.imports.imported.Goals as goal
 
 pub loop-entry-preserved : goal.loop-entry-preserved
 loop-entry-preserved g c =

@@ -1,9 +1,9 @@
 use Rattle.wasm_base.proofs.Words.{List, ℕ, ◌++◌, length, joined, refl, sym, subst, inl, inr, DecodesWhole, unsigned_encoding, wasm_module}
-use Rattle.wasm_remap.specs.Begun.{begun_bodies}
+use Rattle.wasm_remap.specs.Begun.{each_from}
 use Rattle.wasm_remap.specs.Inserted.{between}
 use Rattle.wasm_remap.specs.Places.{IsFound, sections_in}
-use Rattle.wasm_remap.proofs.BegunLaws.{begun_payload}
-use Rattle.wasm_remap.proofs.code.insert_code.Goals as goal
+use Rattle.wasm_remap.proofs.BegunLaws.{edited_payload}
+use Rattle.wasm_remap.proofs.code.edit_code.Goals as goal
 
 pub returns : goal.returns
 returns g c =
@@ -22,7 +22,7 @@ returns g c =
         after = sections_in after;
         found = subst (λ z. IsFound 10 (sections_in before) s (sections_in after) (sections_in z)) c.deref.ensures.value c.in-Some.ensures;
         payload = payload;
-        bodies = λ bodies read. begun_payload entries (begun_bodies (g.P.Prologue.code c.args.prologue.now) 0 bodies) c.in_ok-module_of.ensures.fits (c.in_ok-code.ensures bodies read);
+        bodies = λ bodies read. edited_payload entries (each_from (g.C.EditBody.edited c.args.change.now) 0 bodies) c.in_ok-module_of.ensures.fits (c.in_ok-code.ensures bodies read);
         decodes = c.in_ok-module_of.ensures.read payload refl;
       });
     }

@@ -1,8 +1,8 @@
-use Rattle.wasm_base.proofs.Words.{take, drop, take-append-drop, ap, ap₂, sym, subst, ◌∙◌, ◌++◌, pair, u32, val_type, vec, standard, Decodes, size_prefixed_in, size_prefixed_encoding}
+use Rattle.wasm_base.proofs.Words.{[], ◌∷◌, take, drop, take-append-drop, ap, ap₂, sym, subst, ◌∙◌, ◌++◌, pair, u32, val_type, vec, standard, Decodes, size_prefixed_in, size_prefixed_encoding}
 use Rattle.wasm_code.proofs.Words.{body}
 use Rattle.wasm_remap.specs.Begun.{begun_body}
 use Rattle.wasm_remap.proofs.BegunLaws.{begun_encodes}
-use Rattle.wasm_remap.proofs.code.add_body.Goals as goal
+use Rattle.wasm_remap.proofs.code.BegunEditBody.add_body.Goals as goal
 
 pub returns : goal.returns
 returns g c = λ x h.
@@ -14,9 +14,9 @@ returns g c = λ x h.
     let decoded = subst (λ s. Decodes (vec (pair u32 val_type)) standard bytes runs s) (sym c.rest.ensures) read.found in
     let split = sym (ap₂ (λ a b. a ++ b) (ap₂ take c.offset.ensures c.bytes.ensures) (c.rest.ensures ∙ ap (drop offset) read.same) ∙ take-append-drop offset bytes) in
     let raw = c.deref.result.now in
-    let new = begun_body (g.P.Prologue.code c.args.prologue.now c.args.number) x in
+    let new = begun_body (g.P.Prologue.code c.args.self.now.0.now c.args.number) x in
     record {
-      entry = size_prefixed_encoding raw;
+      entries = size_prefixed_encoding raw ∷ [];
       is = c.in_ok-raw.ensures.ok;
-      encodes = size_prefixed_in standard body raw new c.in_ok-raw.ensures.was_encodable (subst (λ s. body standard s new) (sym c.deref.ensures.value) (begun_encodes bytes _ rest runs _ c.in_ok-new.new.items x decoded split c.in_ok-new.ensures h));
+      encodes = (size_prefixed_in standard body raw new c.in_ok-raw.ensures.was_encodable (subst (λ s. body standard s new) (sym c.deref.ensures.value) (begun_encodes bytes _ rest runs _ c.in_ok-new.new.items x decoded split c.in_ok-new.ensures h)), tt);
     }
