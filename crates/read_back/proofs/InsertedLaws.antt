@@ -1,5 +1,5 @@
 -- This file proves modules into which an import, a global and a call are inserted.
-use Rattle.wasm_base.proofs.Words.{◌≡◌, ℕ, ◌==◌, List, [], ◌∷◌, ◌++◌, length, Bool, true, false, cond, Result, Ok, Err, OnOk, append-nil, refl, sym, ap, subst, ◌∙◌, arith, ascii, minimal, padded, standard, members, vec, vec_of_pieces, AllZip, Format, IsEncodableSection, joined, unsigned_encoding}
+use Rattle.wasm_base.proofs.Words.{◌≡◌, ℕ, List, [], ◌∷◌, ◌++◌, length, Result, Ok, Err, OnOk, append-nil, refl, sym, ap, subst, ◌∙◌, arith, ascii, minimal, padded, standard, members, vec, vec_of_pieces, AllZip, Format, IsEncodableSection, joined, unsigned_encoding}
 use Rattle.std.specs.Prelude.{IfOk}
 use Rattle.std.specs.declared.alloc.Global.{Global}
 use Rattle.wasm_base.specs.declared.refused.Refused.{Refused}
@@ -7,12 +7,10 @@ use Rattle.wasm_code.proofs.Words.{StoresInstructions, expression_encoding, norm
 use Rattle.wasm_code.proofs.ExpressionLaws.{members_one}
 use Rattle.wasm_insn.proofs.Words.{instruction, table, lists_whole, instruction_encoding}
 use Rattle.wasm_insn.specs.Sink.{appended}
-use Rattle.wasm_insn.specs.declared.op.Op.{Op}
-use Rattle.wasm_insn.specs.declared.op.Op.TheVariants.{Byte, Prefixed}
 use Rattle.wasm_insn.specs.declared.instruction.Instruction.TheVariants.{Call}
 use Rattle.wasm_reader.specs.declared.whole.Offsets.TheVariants.{LeaveOut}
 use Rattle.wasm_remap.proofs.InsertLaws.{gains_members}
-use Rattle.wasm_remap.specs.Begun.{GainsCode, IsClosed}
+use Rattle.wasm_remap.specs.Begun.{GainsCode}
 use Rattle.wasm_remap.specs.Imported.{InsertsImport, room_in, space_of}
 use Rattle.wasm_remap.specs.Inserted.{InsertsSection}
 use Rattle.wasm_remap.specs.Sections.{RemapsModule}
@@ -24,7 +22,7 @@ use Rattle.wasm_sections.proofs.Words.{global_item, globals_section, import_form
 use Rattle.wasm_sections.specs.Globals.{global_encoding}
 use Rattle.wasm_sections.specs.Imports.{IsImport, import_item}
 use Rattle.wasm_sections.specs.declared.import.Import.{Import}
-use Rattle.read_back.specs.Inserted.{CallsHit, HasCounter, calling, counter, hit, traced}
+use Rattle.read_back.specs.Inserted.{CallsHit, HasCounter, calling, counter, hit}
 
 -- The encoding of the call.
 calling_encodes : members (instruction table) standard (instruction_encoding {A = Global} (Call 0)) calling
@@ -40,15 +38,6 @@ calling_gained old start last new (Ok u) same call is =
     let encoding = instruction_encoding {A = Global} (Call 0) in
     record { encoding = encoding; added = is ∙ call ∙ ap (λ s. s ++ encoding) same; encodes = calling_encodes }
 calling_gained old start last new (Err e) same call is = tt
-
--- The inserted calls are closed.
-pub traced_closed : (op : Op) → IsClosed (traced op)
-traced_closed (Byte b) = if_call (b == 0x10)
-  where
-    if_call : (is : Bool) → IsClosed (cond is calling [])
-    if_call true = refl
-    if_call false = refl
-traced_closed (Prefixed prefix number) = refl
 
 -- A sink that gains nothing.
 pub none_gained : (old new : List ℕ) → new ≡ old → GainsCode [] old new

@@ -1,5 +1,6 @@
 -- This file defines modules into which an import, a global and a start function are inserted.
-use Rattle.std.specs.Prelude.{ℕ, ◌==◌, List, [], ◌∷◌, codes, cond, pos, true, false}
+use Rattle.std.specs.Prelude.{ℕ, ◌==◌, List, [], ◌∷◌, Bool, codes, cond, pos, true, false}
+use Rattle.std.proofs.Common.{refl}
 use Rattle.std.specs.declared.alloc.Global.{Global as Heap}
 use Rattle.wasm_base.specs.Words.{unsigned_encoding, number_of}
 use Rattle.wasm_base.specs.declared.section_id.SectionId.TheVariants as ids
@@ -10,6 +11,7 @@ use Rattle.wasm_insn.specs.declared.op.Op.{Op}
 use Rattle.wasm_insn.specs.declared.op.Op.TheVariants.{Byte, Prefixed}
 use Rattle.wasm_insn.specs.declared.instruction.Instruction.TheVariants.{Call, I32Const}
 use Rattle.wasm_reader.specs.declared.whole.Offsets.TheVariants.{LeaveOut}
+use Rattle.wasm_remap.specs.Begun.{IsClosed}
 use Rattle.wasm_remap.specs.Imported.{room_in}
 use Rattle.wasm_remap.specs.Inserted.{GainsMembers, InsertsSection}
 use Rattle.wasm_remap.specs.Sections.{RemapsModule}
@@ -50,3 +52,12 @@ calling = normal_row {A = Heap} (Call 0) ∷ []
 abbrev pub traced : Op → List Plain
 traced (Byte b) = cond (b == 0x10) calling []
 traced (Prefixed prefix number) = []
+
+-- Each block that these begin ends in them: they begin none.
+pub traced_closed : (op : Op) → IsClosed (traced op)
+traced_closed (Byte b) = if_call (b == 0x10)
+  where
+    if_call : (is : Bool) → IsClosed (cond is calling [])
+    if_call true = refl
+    if_call false = refl
+traced_closed (Prefixed prefix number) = refl

@@ -1,8 +1,7 @@
 // Modules into which sections are inserted.
 ghost use Rattle.std.specs.Prelude.{[], IfOk};
 ghost use Rattle.std.proofs.Common.{refl};
-ghost use Rattle.read_back.specs.Inserted.{CallsHit, HasCounter, StartsAt, calling, traced};
-ghost use Rattle.read_back.proofs.InsertedLaws.{traced_closed};
+ghost use Rattle.read_back.specs.Inserted.{CallsHit, HasCounter, StartsAt, calling, traced, traced_closed};
 ghost use Rattle.wasm_remap.specs.Begun.{InsertsCode};
 ghost use Rattle.wasm_remap.specs.Instrumented.{InstrumentsCode};
 
