@@ -1,12 +1,17 @@
 -- This file proves modules into which an import, a global and a call are inserted.
-use Rattle.wasm_base.proofs.Words.{◌≡◌, ℕ, List, [], ◌∷◌, ◌++◌, length, Result, Ok, Err, OnOk, append-nil, refl, sym, ap, subst, ◌∙◌, arith, ascii, minimal, padded, standard, members, vec, vec_of_pieces, AllZip, Format, IsEncodableSection, joined, unsigned_encoding}
+use Rattle.wasm_base.proofs.Words.{◌≡◌, ℕ, List, [], ◌∷◌, ◌++◌, length, Result, Ok, Err, OnOk, refl, sym, ap, subst, ◌∙◌, arith, ascii, minimal, padded, standard, members, vec, vec_of_pieces, AllZip, Format, IsEncodableSection, joined, unsigned_encoding}
 use Rattle.std.specs.Prelude.{IfOk}
 use Rattle.std.specs.declared.alloc.Global.{Global}
 use Rattle.wasm_base.specs.declared.refused.Refused.{Refused}
 use Rattle.wasm_code.proofs.Words.{StoresInstructions, expression_encoding, normal_encodes, normal_row}
 use Rattle.wasm_code.proofs.ExpressionLaws.{members_one}
 use Rattle.wasm_insn.proofs.Words.{instruction, table, lists_whole, instruction_encoding}
+use Rattle.wasm_insn.specs.Arguments.{Argument}
+use Rattle.wasm_insn.specs.Operands.{AreOperands}
 use Rattle.wasm_insn.specs.Sink.{appended}
+use Rattle.wasm_insn.specs.declared.op.Op.{Op}
+use Rattle.wasm_insn.specs.declared.op.Op.TheVariants.{Byte}
+use Rattle.wasm_insn.specs.declared.operands.Operands.{Operands}
 use Rattle.wasm_insn.specs.declared.instruction.Instruction.TheVariants.{Call}
 use Rattle.wasm_reader.specs.declared.whole.Offsets.TheVariants.{LeaveOut}
 use Rattle.wasm_remap.proofs.InsertLaws.{gains_members}
@@ -22,7 +27,7 @@ use Rattle.wasm_sections.proofs.Words.{global_item, globals_section, import_form
 use Rattle.wasm_sections.specs.Globals.{global_encoding}
 use Rattle.wasm_sections.specs.Imports.{IsImport, import_item}
 use Rattle.wasm_sections.specs.declared.import.Import.{Import}
-use Rattle.read_back.specs.Inserted.{CallsHit, HasCounter, calling, counter, hit}
+use Rattle.read_back.specs.Inserted.{CallsHit, HasCounter, calling, counter, hit, traced}
 
 -- The encoding of the call.
 calling_encodes : members (instruction table) standard (instruction_encoding {A = Global} (Call 0)) calling
@@ -39,9 +44,11 @@ calling_gained old start last new (Ok u) same call is =
     record { encoding = encoding; added = is ∙ call ∙ ap (λ s. s ++ encoding) same; encodes = calling_encodes }
 calling_gained old start last new (Err e) same call is = tt
 
--- A sink that gains nothing.
-pub none_gained : (old new : List ℕ) → new ≡ old → GainsCode [] old new
-none_gained old new e = record { encoding = []; added = e ∙ sym (append-nil old); encodes = refl }
+-- A sink that gains the call in front of another one.
+pub calling_traced : (op : Op) (given : Operands) (byte : ℕ) (old start last new : List ℕ) (result : Result (Unit {0}) Refused) → op ≡ Byte byte → byte ≡ 0x10 → start ≡ old → last ≡ appended result start (instruction_encoding {A = Global} (Call 0)) → new ≡ last
+    → OnOk result ((xs : List Argument) → AreOperands given xs → GainsCode (traced op) old new)
+calling_traced op given byte old start last new (Ok u) is at same call end = λ xs are. subst (λ o. GainsCode (traced o) old new) (sym (is ∙ ap Byte at)) (calling_gained old start last new (Ok u) same call end)
+calling_traced op given byte old start last new (Err e) is at same call end = tt
 
 -- A section of one member.
 one_member : {X : Type 0} (F : Format X) (entries : List (List ℕ)) (encoding : List ℕ) (x : X) → entries ≡ encoding ∷ [] → IsEncodableSection entries → F standard encoding x → vec F standard (unsigned_encoding (length entries) ++ joined entries) (x ∷ [])
