@@ -760,6 +760,28 @@ fn hints<G: Follow>(g: &mut G) -> Option<()> {
     })
 }
 
+/// The hints of a function.
+fn hints_in<G: Follow>(g: &mut G, hint: fn(&mut G) -> Option<()>) -> Option<()> {
+    g.index(Space::Functions)?;
+    g.vector(hint)
+}
+
+/// A hint: an offset and a size-prefixed payload.
+fn hinted<G: Follow>(g: &mut G, payload: fn(&mut G) -> Option<()>) -> Option<()> {
+    u32_any(g)?;
+    g.frame(&payload)
+}
+
+fn compilation_order<G: Follow>(g: &mut G) -> Option<()> {
+    u32_any(g)?;
+    if g.goes_on() { u32_any(g) } else { Some(()) }
+}
+
+fn call_target<G: Follow>(g: &mut G) -> Option<()> {
+    g.index(Space::Functions)?;
+    u32_any(g)
+}
+
 fn core_module<G: Follow>(g: &mut G) -> Option<()> {
     g.tag(&[0])?;
     g.name()
@@ -854,7 +876,7 @@ fn until_end<G: Follow>(g: &mut G, item: fn(&mut G) -> Option<()>) -> Option<()>
 
 /// The kinds of sections, in the order of their numbers.
 // begin: written by tools/kinds
-pub const KINDS: [&str; 29] = [
+pub const KINDS: [&str; 32] = [
     "Bodies",
     "Segments",
     "DataCount",
@@ -884,6 +906,9 @@ pub const KINDS: [&str; 29] = [
     "BuildId",
     "Dylink",
     "Relocations",
+    "InstructionFrequencies",
+    "CompilationOrders",
+    "CallTargets",
 ];
 // end: written by tools/kinds
 
@@ -911,6 +936,15 @@ fn content<G: Follow>(g: &mut G, kind: &str) -> Option<()> {
         "Hints" => g
             .named("metadata.code.branch_hint")
             .and_then(|()| g.vector(hints)),
+        "InstructionFrequencies" => g
+            .named("metadata.code.instr_freq")
+            .and_then(|()| g.vector(|g| hints_in(g, |g| hinted(g, any_byte)))),
+        "CompilationOrders" => g
+            .named("metadata.code.compilation_order")
+            .and_then(|()| g.vector(|g| hints_in(g, |g| hinted(g, compilation_order)))),
+        "CallTargets" => g
+            .named("metadata.code.call_targets")
+            .and_then(|()| g.vector(|g| hints_in(g, |g| hinted(g, |g| until_end(g, call_target))))),
         "Core" => g.named("core").and_then(|()| core_module(g)),
         "CoreModules" => g.named("coremodules").and_then(|()| g.vector(core_module)),
         "CoreInstances" => g

@@ -1,13 +1,17 @@
 //! Decodes sections of every kind by the library's decoders, in the grammar of a type parameter.
 
 use dolzhytik::fallible::{
-    BranchHint, Export, FeaturePrefix, Global, Imports, MemoryType, Relocation, TagType, Vec,
+    BranchHint, CallTarget, CodeHint, CompilationOrder, Export, FeaturePrefix, Global, Imports,
+    InstructionFrequency, MemoryType, Relocation, TagType, Vec,
 };
 use dolzhytik::reader::{
     self, Body, CoreFrame, DecodeError, DylinkItem, ElementItem, GlobalItem, LinkItem, NameItem,
     ReadFault, Readable, Segment, TableItem, TypeEntry,
 };
 use std::fmt::Debug;
+
+/// A function and its hints of these values.
+type Hints<T> = (u32, Vec<CodeHint<T>>);
 
 /// A value that the library decodes at the front, as text, and the remaining bytes.
 type Decoded<'a> = Result<(String, &'a [u8]), DecodeError>;
@@ -127,6 +131,13 @@ fn payload<'a, G: reader::Grammar>(bytes: &'a [u8], kind: &str) -> Decoded<'a> {
         "Linking" => linking::<G>(behind("linking")?),
         "Producers" => vector::<Producers<'_>, G>(behind("producers")?),
         "Hints" => vector::<(u32, Vec<BranchHint>), G>(behind("metadata.code.branch_hint")?),
+        "InstructionFrequencies" => {
+            vector::<Hints<InstructionFrequency>, G>(behind("metadata.code.instr_freq")?)
+        }
+        "CompilationOrders" => {
+            vector::<Hints<CompilationOrder>, G>(behind("metadata.code.compilation_order")?)
+        }
+        "CallTargets" => vector::<Hints<Vec<CallTarget>>, G>(behind("metadata.code.call_targets")?),
         "Core" => marked::<&str, G>(behind("core")?),
         "CoreModules" => counted::<G>(behind("coremodules")?, marked::<&str, G>),
         "CoreInstances" => counted::<G>(behind("coreinstances")?, marked::<Instance, G>),

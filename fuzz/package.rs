@@ -8,6 +8,7 @@ mod maker;
 mod modules;
 mod plain;
 mod remap;
+mod remove;
 mod shifted;
 mod values;
 mod whole;

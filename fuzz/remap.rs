@@ -1,12 +1,13 @@
 //! Compares `remap_module`, `remap_section`, `remap_items` and `spaces_of` with a plain remapper,
-//! `Reencode` with `remap_module`, and the calls that insert with plain edits of bytes, on random
-//! modules and random maps. See README.md.
+//! `Reencode` with `remap_module`, and the calls that insert or remove with plain edits of bytes, on
+//! random modules and random maps. See README.md.
 
 use crate::grammar::{self, Grammar, KINDS, Space, spaces, table};
 use crate::insert::are_edits;
 use crate::maker::{Maker, Random, input};
 use crate::modules::{add_section, framed, id_of, unframed};
 use crate::plain::remapped;
+use crate::remove::are_removed;
 use crate::whole::{HEADER, Section, section};
 use dolzhytik::fallible::{self, Global, Op};
 use dolzhytik::reader::remap::{
@@ -48,6 +49,8 @@ pub enum Rule {
     Table(Vec<u32>),
     /// Swaps 0 and another index.
     Swap(u32),
+    /// Has a new index for some of the first ones, and rejects all others.
+    Only(Vec<Option<u32>>),
     /// Rejects one index.
     But(u32),
     /// Rejects all indices from this one on.
@@ -83,6 +86,7 @@ impl Rule {
                 _ if index == *other => 0,
                 _ => index,
             },
+            Rule::Only(list) => return list.get(index as usize).copied().flatten(),
             Rule::But(one) => return (index != *one).then_some(index),
             Rule::Below(limit) => return (index < *limit).then_some(index),
         })
@@ -542,7 +546,8 @@ pub fn run(seed: u64, count: u64) -> bool {
             & agree(&module, &map, Offsets::LeaveOut, &mut counts)
             & are_same_sections(&module, &map, &mut counts)
             & is_shortened(&module)
-            & is_edited(&mut random, &module);
+            & is_edited(&mut random, &module)
+            & are_removed(&module, &mut random);
         if !is_same {
             differences += 1;
             println!("module {} {:?}", show(&module), map.rules);

@@ -1,6 +1,6 @@
 //! `Display` and `Error` of errors that lack them in the proved source.
 use crate::base::reading::{DecodeError, ReadFault};
-use crate::remap::{IndexTooLarge, RemapError};
+use crate::remap::{IndexTooLarge, RemapError, RemoveError};
 use core::error::Error;
 use core::fmt;
 
@@ -53,3 +53,15 @@ impl fmt::Display for IndexTooLarge {
 }
 
 impl Error for IndexTooLarge {}
+
+impl fmt::Display for RemoveError {
+    fn fmt(&self, f: &mut fmt::Formatter<'_>) -> fmt::Result {
+        match self {
+            Self::InUse(index) => write!(f, "function {index} is in use"),
+            Self::Unlisted(index) => write!(f, "function {index} is past the end of the list"),
+            Self::Imported(index) => write!(f, "function {index} is imported"),
+        }
+    }
+}
+
+impl Error for RemoveError {}

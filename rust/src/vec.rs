@@ -177,6 +177,12 @@ impl<T, A: Allocator> Vec<T, A> {
         self.items.truncate(len);
     }
 
+    /// Keeps the items for which the function returns `true`, in their order.
+    #[inline]
+    pub fn retain<F: FnMut(&T) -> bool>(&mut self, keep: F) {
+        self.items.retain(keep);
+    }
+
     /// Removes all items, and keeps the capacity.
     #[inline]
     pub fn clear(&mut self) {

@@ -105,7 +105,7 @@ export function assemble(recipe: string): Uint8Array;
 /**
  * Returns the items of the section at this index of the outline, or the first ones, up to a limit.
  * There are none if the section does not decode, and in custom sections but `name`, `producers`,
- * `linking`, `reloc.*` and branch hints.
+ * `linking`, `reloc.*`, branch hints and compilation hints.
  * @throws {DolzhytikError} as {@link outline} does.
  * @throws {RangeError} if the index is no integer, or either number is negative.
  */

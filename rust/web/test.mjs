@@ -421,6 +421,15 @@ test('other custom sections', () => {
   checkItems(0, `19${Buffer.from('metadata.code.branch_hint').toString('hex')} 01`, [
     ['03 01 05 01 00', 'function 3: 1 hint'],
   ]);
+  checkItems(0, `18${Buffer.from('metadata.code.instr_freq').toString('hex')} 01`, [
+    ['03 01 05 01 20', 'function 3: 1 hint'],
+  ]);
+  checkItems(0, `1f${Buffer.from('metadata.code.compilation_order').toString('hex')} 01`, [
+    ['03 01 00 02 01 05', 'function 3: 1 hint'],
+  ]);
+  checkItems(0, `1a${Buffer.from('metadata.code.call_targets').toString('hex')} 01`, [
+    ['03 01 05 02 09 5a', 'function 3: 1 hint'],
+  ]);
   checkItems(0, '076c696e6b696e67 02', [['08 01 00', '0 symbols'], ['09 07 06 7761736d3332', 'target "wasm32"']]);
 });
 

@@ -3,11 +3,11 @@
 //! same names in the crate, and no call returns an entry.
 pub use wasm_code::joined::CodeSection;
 pub use wasm_custom::joined::{
-    BranchHints, ComdatSymbols, Comdats, CoreDumpInstancesSection, CoreDumpModulesSection,
-    CoreDumpStackSection, DylinkExports, DylinkImports, DylinkNeeded, DylinkPath, DylinkSection,
-    IndirectNameMap, InitFunctions, LinkingSection, NameMap, NameSection, ObjectLinking,
-    ObjectSymbols, ProducersField, ProducersSection, SegmentInfos, SymbolTable,
-    TargetFeaturesSection,
+    BranchHints, CallTargets, ComdatSymbols, Comdats, CompilationOrders, CoreDumpInstancesSection,
+    CoreDumpModulesSection, CoreDumpStackSection, DylinkExports, DylinkImports, DylinkNeeded,
+    DylinkPath, DylinkSection, IndirectNameMap, InitFunctions, InstructionFrequencies,
+    LinkingSection, NameMap, NameSection, ObjectLinking, ObjectSymbols, ProducersField,
+    ProducersSection, SegmentInfos, SymbolTable, TargetFeaturesSection,
 };
 pub use wasm_sections::joined::{
     DataSection, ElementSection, ExportSection, FunctionSection, GlobalSection, ImportSection,

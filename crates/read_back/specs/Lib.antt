@@ -1,4 +1,5 @@
 -- This file lists the crate's files of definitions.
+pub mod CompilationHints
 pub mod Customs
 pub mod Declarations
 pub mod Dumps
@@ -11,4 +12,5 @@ pub mod Iterated
 pub mod Remapped
 pub mod ReadPadded
 pub mod Relocated
+pub mod Removed
 pub mod Stored

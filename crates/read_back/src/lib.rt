@@ -17,6 +17,7 @@ ghost use Rattle.wasm_reader.specs.Shortening.{Explains, IsMemory, ShortensModul
 ghost use Rattle.wasm_reader.specs.declared.kinds.SectionKind.TheVariants as kinds;
 ghost use Rattle.wasm_reader.specs.declared.whole.Offsets.TheVariants.{LeaveOut, Refuse};
 
+pub mod compilation_hints;
 pub mod custom;
 pub mod debug_files;
 pub mod declared;
@@ -31,6 +32,7 @@ pub mod once;
 pub mod padded;
 pub mod relocations;
 pub mod remapped;
+pub mod removed;
 pub mod sections;
 pub mod stored;
 

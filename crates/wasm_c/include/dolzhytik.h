@@ -79,7 +79,10 @@ enum dz_kind {
     DZ_EXTERNAL_DEBUG_INFO,
     DZ_BUILD_ID,
     DZ_DYLINK,
-    DZ_RELOCATIONS
+    DZ_RELOCATIONS,
+    DZ_INSTRUCTION_FREQUENCIES,
+    DZ_COMPILATION_ORDERS,
+    DZ_CALL_TARGETS
     /* end: written by tools/kinds */
 };
 

@@ -24,11 +24,14 @@ use Rattle.wasm_custom.specs.{AreObjectSymbols, prefix_code, Feature, feature, f
 use Rattle.wasm_custom.specs.{AreDylinkImports, DylinkExport, DylinkImport, DylinkItem, needs_encoding, AreNeeds, export_flags_encoding, import_flags_encoding, dylink_encoding, IsDylink, dylink_item}
 use Rattle.wasm_custom.specs.{ContainsDylink, dylink_name, dylink_payload, build_id_name, source_map_payload, debug_file_payload, build_id_payload, SaysText}
 use Rattle.wasm_custom.specs.{relocations_name, relocation_encoding, IsRelocation, relocations_payload, SaysRelocations}
+use Rattle.wasm_base.proofs.Words.{All-head, All-tail, ContainsItems, length-map, map}
+use Rattle.wasm_custom.specs.{HintsIn, IsHinted, PayloadLaws, counted_payload, hint_as, hinted, hinted_encoding, hinted_items, hints_in}
 use Rattle.wasm_custom.specs.Dylink.{Memory, Needed, ExportFlags, ImportFlags, RuntimePath}
 use Rattle.wasm_custom.specs.Hints.{Hints}
 use Rattle.wasm_custom.specs.Linking.{Segments, InitFunctions, Comdats, Symbols}
 use Rattle.wasm_custom.specs.Relocations.{Relocations}
 use Rattle.wasm_custom.specs.declared.init_functions.InitFunction.{InitFunction}
+use Rattle.wasm_custom.specs.declared.code_metadata.CodeHint.{CodeHint}
 use Rattle.wasm_custom.specs.declared.comdats.ComdatSymbol.{ComdatSymbol}
 use Rattle.wasm_custom.specs.declared.dylink_symbols.DylinkMemory.{DylinkMemory}
 use Rattle.wasm_custom.specs.declared.hints.BranchHint.{BranchHint}
@@ -42,6 +45,7 @@ use Rattle.wasm_custom.proofs.CoreStackLaws.{value_unambiguous, stack_frame_unam
 use Rattle.wasm_custom.proofs.DylinkLaws.{needs_unambiguous, export_flags_unambiguous, import_flags_unambiguous, dylink_unambiguous, dylink_section}
 use Rattle.wasm_custom.proofs.FeatureLaws.{prefix_unambiguous, feature_unambiguous, features_section}
 use Rattle.wasm_custom.proofs.HintLaws.{hints_unambiguous, hints_section}
+use Rattle.wasm_custom.proofs.MetadataLaws.{call_targets_section, frequencies_section, hinted_section, orders_section, views_encoded}
 use Rattle.wasm_custom.proofs.LinkLaws.{link_unambiguous, linking_section, full_link_unambiguous, object_section}
 use Rattle.wasm_custom.proofs.ProducerLaws.{field_unambiguous, producers_section}
 use Rattle.wasm_custom.proofs.RelocationLaws.{kind_unambiguous, relocation_unambiguous, relocation_laws, relocations_whole, relocations_unambiguous}
@@ -182,6 +186,10 @@ new_features e = new_section e
 
 pub new_hints : {entries : List (List ℕ)} → entries ≡ [] → ContainsHints entries []
 new_hints e = new_section e
+
+-- A section of code metadata of any values.
+pub new_hinted : {X : Type 0} {F : Format X} {Is : X → Type 0} {encoding : X → List ℕ} {entries : List (List ℕ)} → entries ≡ [] → ContainsItems (hinted_items F Is encoding) entries []
+new_hinted e = new_section e
 
 pub new_modules : {entries : List (List ℕ)} → entries ≡ [] → ContainsModules entries []
 new_modules e = new_section e
@@ -352,6 +360,36 @@ pub adds_hints : {n : ℕ} {remaining : IntoIter BranchHint n → Count} {hs : L
     → AddsList pieces_model becomes array_steps remaining hs (λ h. Unit {0}) (λ xs. unsigned_encoding index ++ vec_encoding hint_encoding xs) old new (Ok (tt {0})) → index < 2 ^ 32 → AllByRecursion IsHint hs → ContainsHints new (items ++ (index, hs) ∷ [])
 adds_hints {hs = hs} before index added range plain = adds_hints_of before index added hs (array_gives hs) range plain
 
+-- The hints are well-formed if their values fit, and their numbers are in range.
+hinted_encodable : {T X : Type 0} (Is : X → Type 0) (encoding : X → List ℕ) (view : T → X) (hs : List (CodeHint T)) → All (λ h. HasEncodableSize (encoding (view h.value))) hs → AllByRecursion (λ h. (h.offset < 2 ^ 32) × Is (view h.value)) hs
+    → All (IsHinted Is encoding) (map (hint_as view) hs)
+hinted_encodable Is encoding view [] fit plain = All-nil (IsHinted Is encoding)
+hinted_encodable {T} Is encoding view (h ∷ hs) fit plain =
+    let fits : CodeHint T → Type 0 = λ g. HasEncodableSize (encoding (view g.value)) in
+    All-cons (IsHinted Is encoding) (hint_as view h) (map (hint_as view) hs) (record { offset = plain.0.0; value = plain.0.1; fits = All-head fits h hs fit }) (hinted_encodable Is encoding view hs (All-tail fits h hs fit) plain.1)
+
+-- The section gains a function's hints of any values, which an iterator yields.
+pub adds_hinted_of : {T X U S : Type 0} {F : Format X} {Is : X → Type 0} {encoding : X → List ℕ} (view : T → X) {becomes : U → S → Type 0} {gives : S → Option (CodeHint T) → S → Type 0} {remaining : S → Count} {elements : U} {old new : List (List ℕ)} {items : List (HintsIn (ℕ × X))}
+    → ContainsItems (hinted_items F Is encoding) old items → (index : ℕ)
+    → AddsList pieces_model becomes gives remaining elements (λ h. HasEncodableSize (encoding (view h.value))) (λ xs. unsigned_encoding index ++ vec_encoding (λ h. hinted_encoding encoding (h.offset, view h.value)) xs) old new (Ok (tt {0}))
+    → (hs : List (CodeHint T)) → GivesItems becomes gives elements hs → index < 2 ^ 32 → AllByRecursion (λ h. (h.offset < 2 ^ 32) × Is (view h.value)) hs → ContainsItems (hinted_items F Is encoding) new (items ++ (index, map (hint_as view) hs) ∷ [])
+adds_hinted_of {Is = Is} {encoding = encoding} view {old = old} before index added hs are range plain =
+    let given = added.ok in
+    let same = are.given given.0 given.1 given.2 given.3 in
+    let encodable = subst (IsEncodableVec (λ h. HasEncodableSize (encoding (view h.value)))) same given.4 in
+    let number = length-map hs (hint_as view) in
+    let viewed = ap₂ (λ n s. unsigned_encoding n ++ s) (sym number) (views_encoded (hinted_encoding encoding) (hint_as view) hs) in
+    adds_item before (index, map (hint_as view) hs)
+    (given.5 ∙ ap (λ xs. old ++ (unsigned_encoding index ++ vec_encoding (λ h. hinted_encoding encoding (h.offset, view h.value)) xs) ∷ []) same ∙ ap (λ s. old ++ (unsigned_encoding index ++ s) ∷ []) viewed)
+    (range, record { count = subst (λ n. n ≤ longest) (sym number) encodable.count; members = hinted_encodable Is encoding view hs encodable.members plain })
+
+-- The same for the hints of an array.
+pub adds_hinted : {T X : Type 0} {F : Format X} {Is : X → Type 0} {encoding : X → List ℕ} (view : T → X) {n : ℕ} {remaining : IntoIter (CodeHint T) n → Count} {hs : List (CodeHint T)} {old new : List (List ℕ)} {items : List (HintsIn (ℕ × X))}
+    → ContainsItems (hinted_items F Is encoding) old items → (index : ℕ)
+    → AddsList pieces_model becomes array_steps remaining hs (λ h. HasEncodableSize (encoding (view h.value))) (λ xs. unsigned_encoding index ++ vec_encoding (λ h. hinted_encoding encoding (h.offset, view h.value)) xs) old new (Ok (tt {0}))
+    → index < 2 ^ 32 → AllByRecursion (λ h. (h.offset < 2 ^ 32) × Is (view h.value)) hs → ContainsItems (hinted_items F Is encoding) new (items ++ (index, map (hint_as view) hs) ∷ [])
+adds_hinted view {hs = hs} before index added range plain = adds_hinted_of view before index added hs (array_gives hs) range plain
+
 -- The section gains an instance of a core dump, whose memories and globals iterators yield.
 pub adds_instance_of : {U S V R : Type 0} {becomes : U → S → Type 0} {gives : S → Option ℕ → S → Type 0} {remaining : S → Count} {first : U} {turns : V → R → Type 0} {hands : R → Option ℕ → R → Type 0} {left : R → Count} {second : V}
     {old new : List (List ℕ)} {items : List Instance} → ContainsInstances old items → (i : Instance)
@@ -461,6 +499,13 @@ pub gains_hints : {decodings : List SectionDecoding} {id : ℕ} {old new : List 
     → ContainsHints entries items → DecodesSections (decodings ++ decoding_of id hints_payload items ∷ []) new
 gains_hints before more encodable decodes contains = gains_custom hints_section.whole before _ more encodable decodes.plain contains
 
+-- The module gains a section of code metadata of any values.
+pub gains_hinted : {X : Type 0} {n : List ℕ} {F : Format X} {Is : X → Type 0} {encoding : X → List ℕ} (laws : PayloadLaws n F Is encoding) {decodings : List SectionDecoding} {id : ℕ} {old new : List ℕ} {entries : List (List ℕ)} {items : List (HintsIn (ℕ × X))} → DecodesSections decodings old
+    → DecodesOneMore (NamedPayload n (entries_encoding [] true entries)) id old new → IsEncodableNamed n (entries_encoding [] true entries)
+    → DecodesBackBoth (size_prefixed (counted_payload n (hints_in (hinted F)))) (ContainsItems (hinted_items F Is encoding) entries) (ContainsPadded (hints_in (hinted F)) entries) (named_encoding n (entries_encoding [] true entries))
+    → ContainsItems (hinted_items F Is encoding) entries items → DecodesSections (decodings ++ decoding_of id (counted_payload n (hints_in (hinted F))) items ∷ []) new
+gains_hinted laws before more encodable decodes contains = gains_custom (hinted_section laws).whole before _ more encodable decodes.plain contains
+
 pub gains_modules : {decodings : List SectionDecoding} {id : ℕ} {old new : List ℕ} {entries : List (List ℕ)} {items : List (List ℕ)} → DecodesSections decodings old
     → DecodesOneMore (NamedPayload modules_name (entries_encoding [] true entries)) id old new → IsEncodableNamed modules_name (entries_encoding [] true entries) → DecodesBackBoth (size_prefixed modules_payload) (ContainsModules entries) (ContainsPadded marked_name entries) (named_encoding modules_name (entries_encoding [] true entries))
     → ContainsModules entries items → DecodesSections (decodings ++ decoding_of id modules_payload items ∷ []) new
@@ -534,7 +579,7 @@ encodes_entries F Says SaysPadded {result = Err e} appends decodes says = tt
 -- ---- rules by which the laws of this crate are proved
 
 -- The laws of each section that calls add items to.
-pub ruleset sections = (names_section, linking_section, object_section, producers_section, dylink_section, features_section, hints_section, modules_section, instances_section)
+pub ruleset sections = (names_section, linking_section, object_section, producers_section, dylink_section, features_section, hints_section, frequencies_section, orders_section, call_targets_section, modules_section, instances_section)
 
 -- The other unambiguous formats: sections without entries, and the entries of sections.
 pub ruleset parts = (kind_unambiguous, relocation_unambiguous, relocation_laws, relocations_unambiguous, core_unambiguous, stack_unambiguous, source_map_unambiguous, debug_file_unambiguous, build_id_unambiguous, custom_unambiguous, subsection_unambiguous, link_unambiguous, symbol_unambiguous, full_link_unambiguous, full_symbol_unambiguous, segment_unambiguous, init_unambiguous, comdat_symbol_unambiguous, comdat_unambiguous, field_unambiguous, prefix_unambiguous, feature_unambiguous, dylink_unambiguous, needs_unambiguous, export_flags_unambiguous, import_flags_unambiguous, hints_unambiguous, marked_unambiguous, instance_unambiguous, stack_frame_unambiguous, value_unambiguous, stack_frame_laws)

@@ -1,15 +1,15 @@
 -- This file proves that branch hints are unambiguous, and how they are decoded and minimized.
 use Rattle.wasm_base.proofs.Words.{◌<◌, [], ◌∷◌, true, false, refl, ap, ℕ, ◌≤◌, ◌≡◌, List, subst, arith, ◌++◌, ItemLaws, u32, byte, prefixed, such, vec, fixed, Format, minimal, unsigned_encoding}
-use Rattle.wasm_base.proofs.Words.{Mode, Unambiguous, Decodes, Rejects, vec_encoding, IsEncodableVec, mapped_unambiguous, pair_unambiguous, vec_unambiguous, byte_unambiguous, such_unambiguous}
-use Rattle.wasm_base.proofs.Words.{prefixed_unambiguous, AllValues, u32_unambiguous, groups_encoding-last, u32_encodes, vec_encodes, ascii, pair_encodes, prefixed_encodes, map-id, then_decodes}
+use Rattle.wasm_base.proofs.Words.{Mode, Unambiguous, Decodes, Rejects, vec_encoding, IsEncodableVec, mapped_unambiguous, pair_unambiguous, byte_unambiguous, such_unambiguous}
+use Rattle.wasm_base.proofs.Words.{prefixed_unambiguous, AllValues, u32_unambiguous, groups_encoding-last, u32_encodes, ascii, pair_encodes, prefixed_encodes, map-id, then_decodes}
 use Rattle.wasm_base.proofs.Words.{then_rejects_first, then_rejects_second, mapped_decodes, mapped_rejects, such_decodes, such_none, such_rejects, SectionLaws, AppendsMinimal, both_grammars, HasEncoding}
 use Rattle.wasm_base.proofs.Words.{right_encoded, counted_encodable, pair_appended, records_appended}
 use Rattle.wasm_base.specs.Minimal.{EncodesMinimally}
 use Rattle.wasm_base.proofs.GrammarLaws.{canonical_by, mapped_both, pair_both, prefixed_both, such_both, byte_both, u32_both}
-use Rattle.wasm_custom.specs.{CustomLayoutLaws, hint_encoding, IsHint, hints_encoding, AreHints, hint_of, hint, hints, hints_name, hint_items, hints_payload}
-use Rattle.wasm_custom.specs.Hints.{Hints}
+use Rattle.wasm_custom.specs.{CustomLayoutLaws, hint_encoding, IsHint, hint_of, hint, hints, hints_name, hint_items, hints_payload}
 use Rattle.wasm_custom.specs.declared.hints.BranchHint.{BranchHint}
 use Rattle.wasm_custom.proofs.EntriesLaws.{counted_layout, entries_laws}
+use Rattle.wasm_custom.proofs.MetadataLaws.{hints_in_unambiguous, hints_in_laws}
 
 pub hint_unambiguous : Unambiguous hint
 hint_unambiguous = mapped_unambiguous hint_of (λ x y e. ap (λ h. (h.branch_func_offset, h.branch_hint_value)) e) (pair_unambiguous u32_unambiguous (prefixed_unambiguous (0x01 ∷ []) (such_unambiguous (λ b. b < 128) byte_unambiguous)))
@@ -21,14 +21,11 @@ hint_encodes h plain =
     let back = prefixed_encodes (0x01 ∷ []) (such (λ b. b < 128) byte) (unsigned_encoding value) value one in
     ((h.branch_func_offset, value), refl, pair_encodes u32 (prefixed (0x01 ∷ []) (such (λ b. b < 128) byte)) (unsigned_encoding h.branch_func_offset) (0x01 ∷ unsigned_encoding value) h.branch_func_offset value (u32_encodes h.branch_func_offset plain.offset) back)
 
-hints_encodes : (h : Hints) → AreHints h → hints minimal (hints_encoding h) h
-hints_encodes h plain = pair_encodes u32 (vec hint) (unsigned_encoding h.0) (vec_encoding hint_encoding h.1) h.0 h.1 (u32_encodes h.0 plain.0) (vec_encodes hint IsHint hint_encoding hint_encodes h.1 plain.1)
-
 pub hints_unambiguous : Unambiguous hints
-hints_unambiguous = pair_unambiguous u32_unambiguous (vec_unambiguous hint_unambiguous)
+hints_unambiguous = hints_in_unambiguous hint_unambiguous
 
 pub hint_laws : ItemLaws hint_items
-hint_laws = record { unique = hints_unambiguous; encodes = λ h plain encodable. hints_encodes h plain }
+hint_laws = hints_in_laws hint IsHint hint_encoding hint_unambiguous hint_encodes
 
 pub hint_layout : CustomLayoutLaws hints hints_name [] (fixed [] (tt {0})) true
 hint_layout = counted_layout (ascii {bytes = hints_name} refl)

@@ -15,6 +15,7 @@ pub mod LinkLaws
 pub mod WalkLinks
 pub mod ProducerLaws
 pub mod FeatureLaws
+pub mod MetadataLaws
 pub mod HintLaws
 pub mod CoreDumpLaws
 pub mod CoreStackLaws

@@ -7,7 +7,7 @@ pub use Rattle.wasm_custom.proofs.Calls.{gains_instances, gains_linking, gains_m
 pub use Rattle.wasm_custom.proofs.Calls.{new_comdat_symbols, new_comdats, new_features, new_field, new_hints, new_indirect_map, new_inits, new_instances, new_linking, new_map, new_modules, new_names}
 pub use Rattle.wasm_custom.proofs.Calls.{new_object_symbols, new_objects, new_producers, new_segments, new_stack, new_symbols, vec_gives, adds_dylink_export, adds_dylink_import, adds_dylink_memory}
 pub use Rattle.wasm_custom.proofs.Calls.{adds_exports_flags, adds_folder, adds_imports_flags, adds_library, adds_needed, adds_runtime_path, gains_dylink, new_dylink, new_dylink_exports}
-pub use Rattle.wasm_custom.proofs.Calls.{new_dylink_imports, new_needed, new_runtime_path, adds_relocation, gains_relocations, new_relocations}
+pub use Rattle.wasm_custom.proofs.Calls.{new_dylink_imports, new_needed, new_runtime_path, adds_relocation, gains_relocations, new_relocations, adds_hinted, adds_hinted_of, gains_hinted, new_hinted}
 pub use Rattle.wasm_custom.proofs.CoreDumpLaws.{core_whole, instances_section, modules_section}
 pub use Rattle.wasm_custom.proofs.CoreStackLaws.{stack_whole}
 pub use Rattle.wasm_custom.proofs.DylinkLaws.{dylink_section}
@@ -15,10 +15,12 @@ pub use Rattle.wasm_custom.proofs.FeatureLaws.{features_section}
 pub use Rattle.wasm_custom.proofs.HintLaws.{hints_section}
 pub use Rattle.wasm_custom.proofs.LinkLaws.{linking_section, object_section}
 pub use Rattle.wasm_custom.proofs.ListLaws.{list_cut}
+pub use Rattle.wasm_custom.proofs.MetadataLaws.{call_targets_section, frequencies_section, frequency_laws, order_laws, orders_section, targets_laws}
 pub use Rattle.wasm_custom.proofs.NameLaws.{names_section}
 pub use Rattle.wasm_custom.proofs.ProducerLaws.{producers_section}
 pub use Rattle.wasm_custom.proofs.RelocationLaws.{relocations_whole}
 pub use Rattle.wasm_custom.proofs.SingleLaws.{build_id_whole, debug_file_whole, source_map_whole}
+pub use Rattle.wasm_custom.specs.CodeMetadata.{call_targets_name, call_targets_payload, call_targets_view, frequencies_name, frequencies_payload, frequencies_view, orders_name, orders_payload, orders_view}
 pub use Rattle.wasm_custom.specs.CoreDumps.{core_name, core_payload, instance_view, instances_name, instances_payload, modules_name, modules_payload}
 pub use Rattle.wasm_custom.specs.CoreStacks.{stack_name, stack_payload}
 pub use Rattle.wasm_custom.specs.Customs.{IsEncodableNamed, begins_with, named_payload, subsection_encoding}

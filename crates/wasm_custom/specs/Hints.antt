@@ -2,7 +2,8 @@
 -- `metadata.code.branch_hint`.
 use Rattle.std.specs.Prelude.{ℕ, ◌^◌, ◌<◌, List, [], ◌∷◌, ◌++◌, codes}
 use Rattle.std.specs.declared.vec.Vec.{Vec}
-use Rattle.wasm_base.specs.Words.{Kind, ContainsItems, Format, u32, byte, mapped, pair, prefixed, such, vec, unsigned_encoding, vec_encoding, IsEncodableVec, SectionDecoding}
+use Rattle.wasm_base.specs.Words.{Kind, ContainsItems, Format, u32, byte, mapped, pair, prefixed, such, unsigned_encoding, SectionDecoding}
+use Rattle.wasm_custom.specs.CodeMetadata.{HintsIn, hints_in, hints_in_items}
 use Rattle.wasm_custom.specs.Customs.{decoding_as}
 use Rattle.wasm_custom.specs.Entries.{counted_payload}
 use Rattle.wasm_custom.specs.declared.hints.BranchHint.{BranchHint}
@@ -19,16 +20,7 @@ pub record IsHint (h : BranchHint) : Type 0 where
 
 -- A function index, and the hints of the function's branches.
 abbrev pub Hints : Type 0
-Hints = ℕ × List BranchHint
-
--- The encoding of a function's hints: its index, and their vector.
-abbrev pub hints_encoding : Hints → List ℕ
-hints_encoding h = unsigned_encoding h.0 ++ vec_encoding hint_encoding h.1
-
--- The function's hints are well-formed: its index is below 2^32, and its hints are well-formed and
--- their number is at most 2^32 - 1.
-abbrev pub AreHints : Hints → Type 0
-AreHints h = (h.0 < 2 ^ 32) × IsEncodableVec IsHint h.1
+Hints = HintsIn BranchHint
 
 -- The branch hint of this offset and this value.
 abbrev pub hint_of : ℕ × ℕ → BranchHint
@@ -40,11 +32,11 @@ hint = mapped hint_of (pair u32 (prefixed (0x01 ∷ []) (such (λ b. b < 128) by
 
 -- A function's hints: its index, and a vector of branch hints.
 abbrev pub hints : Format Hints
-hints = pair u32 (vec hint)
+hints = hints_in hint
 
 -- The kind of functions with their branch hints.
 abbrev pub hint_items : Kind Hints Hints
-hint_items = record { encoding = hints_encoding; IsWellFormed = AreHints; IsWellFormedPadded = AreHints; normal_form = λ hints. hints; format = hints }
+hint_items = hints_in_items hint IsHint hint_encoding
 
 -- The section name `metadata.code.branch_hint`.
 abbrev pub hints_name : List ℕ

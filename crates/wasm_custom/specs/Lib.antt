@@ -12,6 +12,7 @@ pub mod Comdats
 pub mod Linking
 pub mod Producers
 pub mod TargetFeatures
+pub mod CodeMetadata
 pub mod Hints
 pub mod CoreDumps
 pub mod CoreValues
@@ -31,6 +32,7 @@ unfoldable pub use Rattle.wasm_custom.specs.Comdats.*
 unfoldable pub use Rattle.wasm_custom.specs.Linking.*
 unfoldable pub use Rattle.wasm_custom.specs.Producers.*
 unfoldable pub use Rattle.wasm_custom.specs.TargetFeatures.*
+unfoldable pub use Rattle.wasm_custom.specs.CodeMetadata.*
 unfoldable pub use Rattle.wasm_custom.specs.Hints.*
 unfoldable pub use Rattle.wasm_custom.specs.CoreDumps.*
 unfoldable pub use Rattle.wasm_custom.specs.CoreValues.*

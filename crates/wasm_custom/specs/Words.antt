@@ -1,4 +1,6 @@
 -- This file re-exports definitions that the specs of dependent crates use.
+pub use Rattle.wasm_custom.specs.CodeMetadata.{Frequencies, HintedTargets, HintsIn, Orders, TargetItem, call_targets_decoding, call_targets_name, call_targets_payload, call_targets_view}
+pub use Rattle.wasm_custom.specs.CodeMetadata.{frequencies_decoding, frequencies_name, frequencies_payload, frequencies_view, orders_decoding, orders_name, orders_payload, orders_view}
 pub use Rattle.wasm_custom.specs.Comdats.{Comdat, comdat_view}
 pub use Rattle.wasm_custom.specs.CoreDumps.{Instance, core_decoding, core_name, core_payload, instance_view, instances_decoding, instances_name, instances_payload, modules_decoding, modules_name}
 pub use Rattle.wasm_custom.specs.CoreDumps.{modules_payload}

@@ -3,6 +3,7 @@ ghost use Rattle.std.specs.Prelude.{◌≢◌, List, ℕ, IfErr, OnOk};
 ghost use Rattle.wasm_base.specs.Continuing.{RejectsWhole};
 ghost use Rattle.wasm_base.specs.Numbers.{padded_of};
 ghost use Rattle.wasm_base.specs.declared.fault.ReadFault.TheVariants.{Memory};
+ghost use Rattle.wasm_custom.specs.CodeMetadata.{Frequencies, HintedTargets, Orders, call_targets_payload, frequencies_payload, orders_payload};
 ghost use Rattle.wasm_custom.specs.CoreDumps.{Instance, modules_payload, instances_payload};
 ghost use Rattle.wasm_custom.specs.CoreStacks.{StackFrame, stack_payload};
 ghost use Rattle.wasm_custom.specs.Dylink.{DylinkItem as DylinkModel, dylink_payload};
@@ -13,8 +14,11 @@ ghost use Rattle.wasm_custom.specs.Producers.{Field, producers_payload};
 ghost use Rattle.wasm_custom.specs.Relocations.{Relocations, relocations_payload};
 ghost use Rattle.wasm_custom.specs.TargetFeatures.{Feature, features_payload};
 
+use crate::call_targets::walk_call_targets;
+use crate::compilation_orders::walk_orders;
 use crate::core_walks::{walk_instances, walk_modules, walk_stack};
 use crate::dylink_walks::walk_dylink;
+use crate::instruction_frequencies::walk_frequencies;
 use crate::item_walks::{walk_features, walk_hints, walk_producers, walk_relocations};
 use crate::link_walks::walk_links;
 use crate::name_walks::walk_names;
@@ -149,6 +153,72 @@ pub fn check_hints<'a, A: Allocator + Copy, G: Grammar>(
     ensures no_memory { IfErr result (λ e. e.cause ≢ Memory) }
 {
     walk_hints::<A, G, _>(bytes, alloc, &mut Discard)
+}
+
+/// Checks that the bytes are the payload of an instruction frequency section, in the grammar `G`.
+/// No item is kept.
+///
+/// ```text
+/// check_frequencies::<_, Standard>(&payload, alloc)?;
+/// ```
+///
+/// # Errors
+///
+/// An error means that the bytes are not such a payload.
+#[tactic(auto, using(wasm_base::proofs::EffectLaws::checked_whole))]
+pub fn check_frequencies<'a, A: Allocator + Copy, G: Grammar>(
+    bytes: &'a [u8],
+    alloc: A,
+) -> Result<(), DecodeError>
+    ensures found { OnOk result ((x : List Frequencies) × frequencies_payload (padded_of G.grammar) bytes.now x) }
+    ensures none { IfErr result (λ e. e.cause ≢ Memory → RejectsWhole frequencies_payload (padded_of G.grammar) bytes.now) }
+    ensures no_memory { IfErr result (λ e. e.cause ≢ Memory) }
+{
+    walk_frequencies::<A, G, _>(bytes, alloc, &mut Discard)
+}
+
+/// Checks that the bytes are the payload of a compilation order section, in the grammar `G`. No
+/// item is kept.
+///
+/// ```text
+/// check_orders::<_, Standard>(&payload, alloc)?;
+/// ```
+///
+/// # Errors
+///
+/// An error means that the bytes are not such a payload.
+#[tactic(auto, using(wasm_base::proofs::EffectLaws::checked_whole))]
+pub fn check_orders<'a, A: Allocator + Copy, G: Grammar>(
+    bytes: &'a [u8],
+    alloc: A,
+) -> Result<(), DecodeError>
+    ensures found { OnOk result ((x : List Orders) × orders_payload (padded_of G.grammar) bytes.now x) }
+    ensures none { IfErr result (λ e. e.cause ≢ Memory → RejectsWhole orders_payload (padded_of G.grammar) bytes.now) }
+    ensures no_memory { IfErr result (λ e. e.cause ≢ Memory) }
+{
+    walk_orders::<A, G, _>(bytes, alloc, &mut Discard)
+}
+
+/// Checks that the bytes are the payload of a call target section, in the grammar `G`. No item is
+/// kept.
+///
+/// ```text
+/// check_call_targets::<_, Standard>(&payload, alloc)?;
+/// ```
+///
+/// # Errors
+///
+/// An error means that the bytes are not such a payload.
+#[tactic(auto, using(wasm_base::proofs::EffectLaws::checked_whole))]
+pub fn check_call_targets<'a, A: Allocator + Copy, G: Grammar>(
+    bytes: &'a [u8],
+    alloc: A,
+) -> Result<(), DecodeError>
+    ensures found { OnOk result ((x : List HintedTargets) × call_targets_payload (padded_of G.grammar) bytes.now x) }
+    ensures none { IfErr result (λ e. e.cause ≢ Memory → RejectsWhole call_targets_payload (padded_of G.grammar) bytes.now) }
+    ensures no_memory { IfErr result (λ e. e.cause ≢ Memory) }
+{
+    walk_call_targets::<A, G, _>(bytes, alloc, &mut Discard)
 }
 
 /// Checks that the bytes are the payload of a relocation section, in the grammar `G`. No item is

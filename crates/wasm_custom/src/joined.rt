@@ -1,6 +1,9 @@
 //! The custom sections of entries, and the lists in them, over [`Entries`]: each keeps the bytes of
 //! its entries and their number. It does not keep where an entry ends.
+use crate::call_targets::CallTarget;
+use crate::code_metadata::HintsOf;
 use crate::comdats::{ComdatMembers, ComdatSymbolMembers};
+use crate::compilation_orders::CompilationOrder;
 use crate::core_dumps::{InstanceItems, ModuleItems};
 use crate::core_stack::CoreDumpStackIn;
 use crate::dylink::DylinkItems;
@@ -8,6 +11,7 @@ use crate::dylink_symbols::{ExportFlagMembers, ImportFlagMembers, NeededMembers,
 use crate::entries::CustomEntries;
 use crate::hints::HintItems;
 use crate::init_functions::InitMembers;
+use crate::instruction_frequencies::InstructionFrequency;
 use crate::linking::LinkingItems;
 use crate::lists::CountedList;
 use crate::names::{IndirectMembers, NameItems, NameMembers};
@@ -23,11 +27,17 @@ use wasm_base::Entries;
 /// Branch hints.
 pub type BranchHints<A = Global> = CustomEntries<HintItems, Entries<A>>;
 
+/// Call targets.
+pub type CallTargets<A = Global> = CustomEntries<HintsOf<Vec<CallTarget, A>>, Entries<A>>;
+
 /// The members of a COMDAT group.
 pub type ComdatSymbols<A = Global> = CountedList<ComdatSymbolMembers, Entries<A>>;
 
 /// The COMDAT groups of a module.
 pub type Comdats<A = Global> = CountedList<ComdatMembers, Entries<A>>;
+
+/// Compilation orders.
+pub type CompilationOrders<A = Global> = CustomEntries<HintsOf<CompilationOrder>, Entries<A>>;
 
 /// The instances of a core dump.
 pub type CoreDumpInstancesSection<A = Global> = CustomEntries<InstanceItems, Entries<A>>;
@@ -58,6 +68,12 @@ pub type IndirectNameMap<A = Global> = CountedList<IndirectMembers, Entries<A>>;
 
 /// The init functions of an object file.
 pub type InitFunctions<A = Global> = CountedList<InitMembers, Entries<A>>;
+
+/// Instruction frequencies.
+pub type InstructionFrequencies<A = Global> = CustomEntries<
+    HintsOf<InstructionFrequency>,
+    Entries<A>,
+>;
 
 /// The linking section.
 pub type LinkingSection<A = Global> = CustomEntries<LinkingItems, Entries<A>>;

@@ -9,6 +9,7 @@ ghost use Rattle.wasm_base.specs.Formats.{coded, custom, size_prefixed, pair, na
 ghost use Rattle.wasm_base.specs.Laws.{ContainsMore, ContainsMorePadded, RejectsAllAfterPadded};
 ghost use Rattle.wasm_base.specs.Modules.{DecodesPayloads, DecodesPayloadsPadded};
 ghost use Rattle.wasm_base.specs.Decoding.{IsIncludedIn, Unambiguous, UnambiguousPadded};
+ghost use Rattle.wasm_custom.specs.CodeMetadata.{call_target_items, call_targets_payload, frequencies_payload, frequency_items, order_items, orders_payload};
 ghost use Rattle.wasm_custom.specs.CoreDumps.{marked_name, instance, module_items, instance_items, modules_payload, instances_payload, core_payload};
 ghost use Rattle.wasm_custom.specs.CoreStacks.{stack_frame, frame_items, stack_payload};
 ghost use Rattle.wasm_custom.specs.CoreValues.{value};
@@ -41,6 +42,9 @@ pub fn sections()
     ensures dylink { Unambiguous (size_prefixed dylink_payload) }
     ensures target_features { Unambiguous (size_prefixed features_payload) }
     ensures hints { Unambiguous (size_prefixed hints_payload) }
+    ensures frequencies { Unambiguous (size_prefixed frequencies_payload) }
+    ensures orders { Unambiguous (size_prefixed orders_payload) }
+    ensures call_targets { Unambiguous (size_prefixed call_targets_payload) }
     ensures modules { Unambiguous (size_prefixed modules_payload) }
     ensures instances { Unambiguous (size_prefixed instances_payload) }
     ensures core { Unambiguous (size_prefixed core_payload) }
@@ -81,6 +85,9 @@ pub fn sections()
     ensures dylink_laws { ItemLaws dylink_items }
     ensures feature_laws { ItemLaws feature_items }
     ensures hint_laws { ItemLaws hint_items }
+    ensures frequency_laws { ItemLaws frequency_items }
+    ensures order_laws { ItemLaws order_items }
+    ensures call_target_laws { ItemLaws call_target_items }
     ensures module_laws { ItemLaws module_items }
     ensures instance_laws { ItemLaws instance_items }
     ensures frame_laws { ItemLaws frame_items }
@@ -97,6 +104,9 @@ pub fn padded()
     ensures dylink { UnambiguousPadded (size_prefixed dylink_payload) }
     ensures target_features { UnambiguousPadded (size_prefixed features_payload) }
     ensures hints { UnambiguousPadded (size_prefixed hints_payload) }
+    ensures frequencies { UnambiguousPadded (size_prefixed frequencies_payload) }
+    ensures orders { UnambiguousPadded (size_prefixed orders_payload) }
+    ensures call_targets { UnambiguousPadded (size_prefixed call_targets_payload) }
     ensures modules { UnambiguousPadded (size_prefixed modules_payload) }
     ensures instances { UnambiguousPadded (size_prefixed instances_payload) }
     ensures core { UnambiguousPadded (size_prefixed core_payload) }
@@ -118,6 +128,9 @@ pub fn calls()
     ensures dylink { ContainsMore dylink_items }
     ensures features { ContainsMore feature_items }
     ensures hints { ContainsMore hint_items }
+    ensures frequencies { ContainsMore frequency_items }
+    ensures orders { ContainsMore order_items }
+    ensures call_targets { ContainsMore call_target_items }
     ensures modules { ContainsMore module_items }
     ensures instances { ContainsMore instance_items }
     ensures frames { ContainsMore frame_items }
@@ -159,6 +172,9 @@ pub fn padded_calls()
     ensures dylink { ContainsMorePadded dylink_items }
     ensures features { ContainsMorePadded feature_items }
     ensures hints { ContainsMorePadded hint_items }
+    ensures frequencies { ContainsMorePadded frequency_items }
+    ensures orders { ContainsMorePadded order_items }
+    ensures call_targets { ContainsMorePadded call_target_items }
     ensures modules { ContainsMorePadded module_items }
     ensures instances { ContainsMorePadded instance_items }
 {}
@@ -174,6 +190,9 @@ pub fn payloads()
     ensures dylink { DecodesPayloads dylink_payload }
     ensures features { DecodesPayloads features_payload }
     ensures hints { DecodesPayloads hints_payload }
+    ensures frequencies { DecodesPayloads frequencies_payload }
+    ensures orders { DecodesPayloads orders_payload }
+    ensures call_targets { DecodesPayloads call_targets_payload }
     ensures modules { DecodesPayloads modules_payload }
     ensures instances { DecodesPayloads instances_payload }
     ensures core { DecodesPayloads core_payload }
@@ -195,6 +214,9 @@ pub fn padded_payloads()
     ensures dylink { DecodesPayloadsPadded dylink_payload }
     ensures features { DecodesPayloadsPadded features_payload }
     ensures hints { DecodesPayloadsPadded hints_payload }
+    ensures frequencies { DecodesPayloadsPadded frequencies_payload }
+    ensures orders { DecodesPayloadsPadded orders_payload }
+    ensures call_targets { DecodesPayloadsPadded call_targets_payload }
     ensures modules { DecodesPayloadsPadded modules_payload }
     ensures instances { DecodesPayloadsPadded instances_payload }
     ensures core { DecodesPayloadsPadded core_payload }

@@ -4,6 +4,7 @@ ghost use Rattle.wasm_base.specs.Continuing.{RejectsWhole};
 ghost use Rattle.wasm_base.specs.Minimal.{MinimizesWhole, IsFrontOf};
 ghost use Rattle.wasm_base.specs.Numbers.{padded_of};
 ghost use Rattle.wasm_base.specs.declared.fault.ReadFault.TheVariants.{Memory};
+ghost use Rattle.wasm_custom.specs.CodeMetadata.{call_targets_payload, frequencies_payload, orders_payload};
 ghost use Rattle.wasm_custom.specs.CoreDumps.{modules_payload, instances_payload};
 ghost use Rattle.wasm_custom.specs.CoreStacks.{stack_payload};
 ghost use Rattle.wasm_custom.specs.Dylink.{dylink_payload};
@@ -14,8 +15,11 @@ ghost use Rattle.wasm_custom.specs.Producers.{producers_payload};
 ghost use Rattle.wasm_custom.specs.Relocations.{relocations_payload};
 ghost use Rattle.wasm_custom.specs.TargetFeatures.{features_payload};
 
+use crate::call_targets::walk_call_targets;
+use crate::compilation_orders::walk_orders;
 use crate::core_walks::{walk_instances, walk_modules, walk_stack};
 use crate::dylink_walks::walk_dylink;
+use crate::instruction_frequencies::walk_frequencies;
 use crate::item_walks::{walk_features, walk_hints, walk_producers, walk_relocations};
 use crate::link_walks::walk_links;
 use crate::name_walks::walk_names;
@@ -158,6 +162,75 @@ pub fn minimize_hints<'a, A: Allocator + Copy, G: Grammar, B: Allocator>(
     ensures front { IsFrontOf sink.old.items sink.new.items }
 {
     walk_hints::<A, G, _>(bytes, alloc, sink)
+}
+
+/// Appends the minimal encoding, in the grammar `G`, of the payload of an instruction frequency
+/// section. After an error, part of it may follow the old bytes of the sink.
+///
+/// ```text
+/// minimize_frequencies::<_, Standard, _>(&payload, alloc, &mut out)?;
+/// ```
+///
+/// # Errors
+///
+/// Every error except `Memory` means that the bytes are not such a payload.
+#[tactic(auto, using(wasm_base::proofs::EffectLaws::minimized_whole, wasm_base::proofs::EffectLaws::front_kept))]
+pub fn minimize_frequencies<'a, A: Allocator + Copy, G: Grammar, B: Allocator>(
+    bytes: &'a [u8],
+    alloc: A,
+    sink: &mut Vec<u8, B>,
+) -> Result<(), DecodeError>
+    ensures found { OnOk result (MinimizesWhole G.grammar frequencies_payload bytes.now sink.old.items sink.new.items) }
+    ensures none { IfErr result (λ e. e.cause ≢ Memory → RejectsWhole frequencies_payload (padded_of G.grammar) bytes.now) }
+    ensures front { IsFrontOf sink.old.items sink.new.items }
+{
+    walk_frequencies::<A, G, _>(bytes, alloc, sink)
+}
+
+/// Appends the minimal encoding, in the grammar `G`, of the payload of a compilation order section.
+/// After an error, part of it may follow the old bytes of the sink.
+///
+/// ```text
+/// minimize_orders::<_, Standard, _>(&payload, alloc, &mut out)?;
+/// ```
+///
+/// # Errors
+///
+/// Every error except `Memory` means that the bytes are not such a payload.
+#[tactic(auto, using(wasm_base::proofs::EffectLaws::minimized_whole, wasm_base::proofs::EffectLaws::front_kept))]
+pub fn minimize_orders<'a, A: Allocator + Copy, G: Grammar, B: Allocator>(
+    bytes: &'a [u8],
+    alloc: A,
+    sink: &mut Vec<u8, B>,
+) -> Result<(), DecodeError>
+    ensures found { OnOk result (MinimizesWhole G.grammar orders_payload bytes.now sink.old.items sink.new.items) }
+    ensures none { IfErr result (λ e. e.cause ≢ Memory → RejectsWhole orders_payload (padded_of G.grammar) bytes.now) }
+    ensures front { IsFrontOf sink.old.items sink.new.items }
+{
+    walk_orders::<A, G, _>(bytes, alloc, sink)
+}
+
+/// Appends the minimal encoding, in the grammar `G`, of the payload of a call target section. After
+/// an error, part of it may follow the old bytes of the sink.
+///
+/// ```text
+/// minimize_call_targets::<_, Standard, _>(&payload, alloc, &mut out)?;
+/// ```
+///
+/// # Errors
+///
+/// Every error except `Memory` means that the bytes are not such a payload.
+#[tactic(auto, using(wasm_base::proofs::EffectLaws::minimized_whole, wasm_base::proofs::EffectLaws::front_kept))]
+pub fn minimize_call_targets<'a, A: Allocator + Copy, G: Grammar, B: Allocator>(
+    bytes: &'a [u8],
+    alloc: A,
+    sink: &mut Vec<u8, B>,
+) -> Result<(), DecodeError>
+    ensures found { OnOk result (MinimizesWhole G.grammar call_targets_payload bytes.now sink.old.items sink.new.items) }
+    ensures none { IfErr result (λ e. e.cause ≢ Memory → RejectsWhole call_targets_payload (padded_of G.grammar) bytes.now) }
+    ensures front { IsFrontOf sink.old.items sink.new.items }
+{
+    walk_call_targets::<A, G, _>(bytes, alloc, sink)
 }
 
 /// Appends the minimal encoding, in the grammar `G`, of the payload of a relocation section. After

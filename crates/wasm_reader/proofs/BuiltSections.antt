@@ -170,6 +170,9 @@ content_built kinds.ExternalDebugInfo s x e short h = absurd (not_alone e)
 content_built kinds.BuildId s x e short h = absurd (not_alone e)
 content_built kinds.Dylink s x e short h = absurd (not_alone e)
 content_built kinds.Relocations s x e short h = absurd (not_alone e)
+content_built kinds.InstructionFrequencies s x e short h = absurd (not_alone e)
+content_built kinds.CompilationOrders s x e short h = absurd (not_alone e)
+content_built kinds.CallTargets s x e short h = absurd (not_alone e)
 
 -- end: written by tools/kinds
 

@@ -24,9 +24,11 @@ use Rattle.wasm_types.proofs.Words.{type_item, types_section}
 -- begin: written by tools/kinds
 use Rattle.wasm_custom.proofs.Words.{names_section, name_name, linking_section, linking_name, producers_section, producers_name, hints_section, hints_name, core_whole, core_name, modules_section}
 use Rattle.wasm_custom.proofs.Words.{modules_name, instances_section, instances_name, stack_whole, stack_name, features_section, features_name, source_map_whole, source_map_name, debug_file_whole}
-use Rattle.wasm_custom.proofs.Words.{debug_file_name, build_id_whole, build_id_name, dylink_section, dylink_name, relocations_whole}
+use Rattle.wasm_custom.proofs.Words.{debug_file_name, build_id_whole, build_id_name, dylink_section, dylink_name, relocations_whole, frequencies_section, frequencies_name, orders_section, orders_name}
+use Rattle.wasm_custom.proofs.Words.{call_targets_section, call_targets_name}
 use Rattle.wasm_reader.specs.{Bodies, Segments, DataCount, Elements, Exports, Functions, Globals, Imports, Memories, Start, Tables, Tags, Names, Linking, Producers, Hints, Core, CoreModules}
-use Rattle.wasm_reader.specs.{CoreInstances, CoreStack, Custom, Raw, Types, TargetFeatures, SourceMappingUrl, ExternalDebugInfo, BuildId, Dylink, Relocations}
+use Rattle.wasm_reader.specs.{CoreInstances, CoreStack, Custom, Raw, Types, TargetFeatures, SourceMappingUrl, ExternalDebugInfo, BuildId, Dylink, Relocations, InstructionFrequencies, CompilationOrders}
+use Rattle.wasm_reader.specs.{CallTargets}
 -- end: written by tools/kinds
 use Rattle.wasm_custom.proofs.Words.{named_payload, begins_with, relocations_prefix}
 use Rattle.wasm_reader.specs.{Contents, Bodies, Segments, DataCount, Elements, Exports, Functions, Globals, Imports, Memories, Start, Tables, Tags, Types, Names, Linking, Producers, Hints, Core}
@@ -81,6 +83,9 @@ row kinds.ExternalDebugInfo = of ExternalDebugInfo refl (λ x y e. cc) debug_fil
 row kinds.BuildId = of BuildId refl (λ x y e. cc) build_id_whole
 row kinds.Dylink = of Dylink refl (λ x y e. cc) dylink_section.whole
 row kinds.Relocations = of Relocations refl (λ x y e. cc) relocations_whole
+row kinds.InstructionFrequencies = of InstructionFrequencies refl (λ x y e. cc) frequencies_section.whole
+row kinds.CompilationOrders = of CompilationOrders refl (λ x y e. cc) orders_section.whole
+row kinds.CallTargets = of CallTargets refl (λ x y e. cc) call_targets_section.whole
 
 -- end: written by tools/kinds
 
@@ -188,7 +193,7 @@ pub ruleset content_steps = (reads, rejects, custom_read, raw_read)
 -- ---- numbers of kinds
 
 -- begin: written by tools/kinds
-pub no_kind : (n : ℕ) → 29 ≤ n → None ≡ kind_numbered n
+pub no_kind : (n : ℕ) → 32 ≤ n → None ≡ kind_numbered n
 no_kind n past = sym (slice_get_past kinds_in_order n past)
 
 -- end: written by tools/kinds
@@ -257,7 +262,7 @@ kept_among (k ∷ ks) h n = for_if (KeepsName n) (bytes_eq n k.0) (h.0 n) (kept_
 
 pub keeps_name : (n : List ℕ) → KeepsName n (kind_named n)
 -- begin: written by tools/kinds
-keeps_name n = for_if (KeepsName n) (begins_with relocations_prefix n) (relocations_kept n) (kept_among known_names (named_kept Names name_name kinds.Names refl, (named_kept Linking linking_name kinds.Linking refl, (named_kept Producers producers_name kinds.Producers refl, (named_kept TargetFeatures features_name kinds.TargetFeatures refl, (named_kept Hints hints_name kinds.Hints refl, (named_kept Core core_name kinds.Core refl, (named_kept CoreModules modules_name kinds.CoreModules refl, (named_kept CoreInstances instances_name kinds.CoreInstances refl, (named_kept CoreStack stack_name kinds.CoreStack refl, (named_kept SourceMappingUrl source_map_name kinds.SourceMappingUrl refl, (named_kept ExternalDebugInfo debug_file_name kinds.ExternalDebugInfo refl, (named_kept BuildId build_id_name kinds.BuildId refl, (named_kept Dylink dylink_name kinds.Dylink refl, tt))))))))))))) n)
+keeps_name n = for_if (KeepsName n) (begins_with relocations_prefix n) (relocations_kept n) (kept_among known_names (named_kept Names name_name kinds.Names refl, (named_kept Linking linking_name kinds.Linking refl, (named_kept Producers producers_name kinds.Producers refl, (named_kept TargetFeatures features_name kinds.TargetFeatures refl, (named_kept Hints hints_name kinds.Hints refl, (named_kept Core core_name kinds.Core refl, (named_kept CoreModules modules_name kinds.CoreModules refl, (named_kept CoreInstances instances_name kinds.CoreInstances refl, (named_kept CoreStack stack_name kinds.CoreStack refl, (named_kept SourceMappingUrl source_map_name kinds.SourceMappingUrl refl, (named_kept ExternalDebugInfo debug_file_name kinds.ExternalDebugInfo refl, (named_kept BuildId build_id_name kinds.BuildId refl, (named_kept Dylink dylink_name kinds.Dylink refl, (named_kept InstructionFrequencies frequencies_name kinds.InstructionFrequencies refl, (named_kept CompilationOrders orders_name kinds.CompilationOrders refl, (named_kept CallTargets call_targets_name kinds.CallTargets refl, tt)))))))))))))))) n)
 
 -- end: written by tools/kinds
 
@@ -363,7 +368,16 @@ named_uncounted n = for_if IsUncounted (begins_with relocations_prefix n) (λ m 
                   λ m s x g. sym (ap number_in g.1),
                   (
                     λ m s x g. sym (ap number_in g.1),
-                    (λ m s x g. sym (ap number_in g.1), (λ m s x g. sym (ap number_in g.1), (λ m s x g. sym (ap number_in g.1), (λ m s x g. sym (ap number_in g.1), (λ m s x g. sym (ap number_in g.1), tt))))),
+                    (
+                      λ m s x g. sym (ap number_in g.1),
+                      (
+                        λ m s x g. sym (ap number_in g.1),
+                        (
+                          λ m s x g. sym (ap number_in g.1),
+                          (λ m s x g. sym (ap number_in g.1), (λ m s x g. sym (ap number_in g.1), (λ m s x g. sym (ap number_in g.1), (λ m s x g. sym (ap number_in g.1), (λ m s x g. sym (ap number_in g.1), tt))))),
+                        ),
+                      ),
+                    ),
                   ),
                 ),
               ),

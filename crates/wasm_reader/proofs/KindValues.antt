@@ -7,9 +7,10 @@ use Rattle.wasm_base.specs.declared.refused.Refused.{Refused}
 use Rattle.wasm_base.specs.declared.refused.Refused.TheVariants.{TooLong}
 -- begin: written by tools/kinds
 use Rattle.wasm_custom.proofs.Words.{name_payload, linking_payload, producers_payload, hints_payload, core_payload, modules_payload, instances_payload, stack_payload, features_payload}
-use Rattle.wasm_custom.proofs.Words.{source_map_payload, debug_file_payload, build_id_payload, dylink_payload, relocations_payload}
+use Rattle.wasm_custom.proofs.Words.{source_map_payload, debug_file_payload, build_id_payload, dylink_payload, relocations_payload, frequencies_payload, orders_payload, call_targets_payload}
 use Rattle.wasm_reader.specs.{Bodies, Segments, DataCount, Elements, Exports, Functions, Globals, Imports, Memories, Start, Tables, Tags, Names, Linking, Producers, Hints, Core, CoreModules}
-use Rattle.wasm_reader.specs.{CoreInstances, CoreStack, Custom, Raw, Types, TargetFeatures, SourceMappingUrl, ExternalDebugInfo, BuildId, Dylink, Relocations}
+use Rattle.wasm_reader.specs.{CoreInstances, CoreStack, Custom, Raw, Types, TargetFeatures, SourceMappingUrl, ExternalDebugInfo, BuildId, Dylink, Relocations, InstructionFrequencies, CompilationOrders}
+use Rattle.wasm_reader.specs.{CallTargets}
 -- end: written by tools/kinds
 use Rattle.wasm_reader.specs.{Contents, Bodies, Segments, DataCount, Elements, Exports, Functions, Globals, Imports, Memories, Start, Tables, Tags, Types, Names, Linking, Producers, Hints, Core}
 use Rattle.wasm_reader.specs.{Contents, content, grammars_of, kind_in}
@@ -47,6 +48,9 @@ value_in (ExternalDebugInfo x) = x
 value_in (BuildId x) = x
 value_in (Dylink x) = x
 value_in (Relocations x) = x
+value_in (InstructionFrequencies x) = x
+value_in (CompilationOrders x) = x
+value_in (CallTargets x) = x
 
 -- end: written by tools/kinds
 
@@ -80,6 +84,9 @@ AppendsValue (ExternalDebugInfo x) old new = AppendsMinimal both_grammars debug_
 AppendsValue (BuildId x) old new = AppendsMinimal both_grammars build_id_payload x old new
 AppendsValue (Dylink x) old new = AppendsMinimal both_grammars dylink_payload x old new
 AppendsValue (Relocations x) old new = AppendsMinimal both_grammars relocations_payload x old new
+AppendsValue (InstructionFrequencies x) old new = AppendsMinimal both_grammars frequencies_payload x old new
+AppendsValue (CompilationOrders x) old new = AppendsMinimal both_grammars orders_payload x old new
+AppendsValue (CallTargets x) old new = AppendsMinimal both_grammars call_targets_payload x old new
 AppendsValue x old new = ⊥
 
 -- end: written by tools/kinds
@@ -122,6 +129,9 @@ FitsValue (ExternalDebugInfo x) r = HasEncoding both_grammars debug_file_payload
 FitsValue (BuildId x) r = HasEncoding both_grammars build_id_payload x → r ≢ Err TooLong
 FitsValue (Dylink x) r = HasEncoding both_grammars dylink_payload x → r ≢ Err TooLong
 FitsValue (Relocations x) r = HasEncoding both_grammars relocations_payload x → r ≢ Err TooLong
+FitsValue (InstructionFrequencies x) r = HasEncoding both_grammars frequencies_payload x → r ≢ Err TooLong
+FitsValue (CompilationOrders x) r = HasEncoding both_grammars orders_payload x → r ≢ Err TooLong
+FitsValue (CallTargets x) r = HasEncoding both_grammars call_targets_payload x → r ≢ Err TooLong
 FitsValue x r = ⊥
 
 -- end: written by tools/kinds

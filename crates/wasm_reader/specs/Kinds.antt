@@ -16,7 +16,8 @@ use Rattle.wasm_custom.specs.Words.{NameItem, name_item_view, name_payload, name
 use Rattle.wasm_custom.specs.Words.{Hints as FunctionHints, hints_view, hints_payload, hints_name, core_payload, core_name, modules_payload, modules_name, Instance, instance_view, instances_payload}
 use Rattle.wasm_custom.specs.Words.{instances_name, StackFrame, stack_frame_view, stack_payload, stack_name, Feature, feature_view, features_payload, features_name, source_map_payload, source_map_name}
 use Rattle.wasm_custom.specs.Words.{debug_file_payload, debug_file_name, build_id_payload, build_id_name, DylinkItem, dylink_view, dylink_payload, dylink_name, Relocations as RelocationsModel}
-use Rattle.wasm_custom.specs.Words.{relocations_payload}
+use Rattle.wasm_custom.specs.Words.{relocations_payload, Frequencies, frequencies_view, frequencies_payload, frequencies_name, Orders, orders_view, orders_payload, orders_name, HintedTargets}
+use Rattle.wasm_custom.specs.Words.{call_targets_view, call_targets_payload, call_targets_name}
 -- end: written by tools/kinds
 use Rattle.wasm_custom.specs.Words.{begins_with, relocations_prefix}
 use Rattle.wasm_reader.specs.declared.kinds.Items.{Items}
@@ -57,6 +58,9 @@ pub data Contents : Type 0 where
   BuildId : List ℕ → Contents
   Dylink : List DylinkItem → Contents
   Relocations : RelocationsModel → Contents
+  InstructionFrequencies : List Frequencies → Contents
+  CompilationOrders : List Orders → Contents
+  CallTargets : List HintedTargets → Contents
   -- end: written by tools/kinds
 
 -- The format of the payload of a section of this kind.
@@ -91,6 +95,9 @@ content kinds.ExternalDebugInfo = mapped ExternalDebugInfo debug_file_payload
 content kinds.BuildId = mapped BuildId build_id_payload
 content kinds.Dylink = mapped Dylink dylink_payload
 content kinds.Relocations = mapped Relocations relocations_payload
+content kinds.InstructionFrequencies = mapped InstructionFrequencies frequencies_payload
+content kinds.CompilationOrders = mapped CompilationOrders orders_payload
+content kinds.CallTargets = mapped CallTargets call_targets_payload
 
 -- end: written by tools/kinds
 
@@ -142,6 +149,9 @@ kind_in (ExternalDebugInfo x) = kinds.ExternalDebugInfo
 kind_in (BuildId x) = kinds.BuildId
 kind_in (Dylink x) = kinds.Dylink
 kind_in (Relocations x) = kinds.Relocations
+kind_in (InstructionFrequencies x) = kinds.InstructionFrequencies
+kind_in (CompilationOrders x) = kinds.CompilationOrders
+kind_in (CallTargets x) = kinds.CallTargets
 
 -- end: written by tools/kinds
 
@@ -177,6 +187,9 @@ contents_of (items.ExternalDebugInfo x) = ExternalDebugInfo x.now
 contents_of (items.BuildId x) = BuildId x.now
 contents_of (items.Dylink v) = Dylink (map dylink_view v.items)
 contents_of (items.Relocations n section v) = Relocations (n.now, (section, v.items))
+contents_of (items.InstructionFrequencies v) = InstructionFrequencies (map frequencies_view v.items)
+contents_of (items.CompilationOrders v) = CompilationOrders (map orders_view v.items)
+contents_of (items.CallTargets v) = CallTargets (map call_targets_view v.items)
 
 -- end: written by tools/kinds
 
@@ -185,7 +198,7 @@ abbrev pub kinds_in_order : List SectionKind
 kinds_in_order =
     -- begin: written by tools/kinds
     kinds.Bodies ∷ kinds.Segments ∷ kinds.DataCount ∷ kinds.Elements ∷ kinds.Exports ∷ kinds.Functions ∷ kinds.Globals ∷ kinds.Imports ∷ kinds.Memories ∷ kinds.Start ∷ kinds.Tables ∷ kinds.Tags
-    ∷ kinds.Names ∷ kinds.Linking ∷ kinds.Producers ∷ kinds.Hints ∷ kinds.Core ∷ kinds.CoreModules ∷ kinds.CoreInstances ∷ kinds.CoreStack ∷ kinds.Custom ∷ kinds.Raw ∷ kinds.Types ∷ kinds.TargetFeatures ∷ kinds.SourceMappingUrl ∷ kinds.ExternalDebugInfo ∷ kinds.BuildId ∷ kinds.Dylink ∷ kinds.Relocations ∷ []
+    ∷ kinds.Names ∷ kinds.Linking ∷ kinds.Producers ∷ kinds.Hints ∷ kinds.Core ∷ kinds.CoreModules ∷ kinds.CoreInstances ∷ kinds.CoreStack ∷ kinds.Custom ∷ kinds.Raw ∷ kinds.Types ∷ kinds.TargetFeatures ∷ kinds.SourceMappingUrl ∷ kinds.ExternalDebugInfo ∷ kinds.BuildId ∷ kinds.Dylink ∷ kinds.Relocations ∷ kinds.InstructionFrequencies ∷ kinds.CompilationOrders ∷ kinds.CallTargets ∷ []
     -- end: written by tools/kinds
 
 -- The kind of a number, counted from 0.
@@ -235,6 +248,9 @@ known_names =
     ∷ (debug_file_name, kinds.ExternalDebugInfo)
     ∷ (build_id_name, kinds.BuildId)
     ∷ (dylink_name, kinds.Dylink)
+    ∷ (frequencies_name, kinds.InstructionFrequencies)
+    ∷ (orders_name, kinds.CompilationOrders)
+    ∷ (call_targets_name, kinds.CallTargets)
     ∷ []
     -- end: written by tools/kinds
 

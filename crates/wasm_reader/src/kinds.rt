@@ -13,12 +13,14 @@ use wasm_base::{DecodeError, Encode, Grammar, Readable, Result, Shorten, read_wh
 use wasm_code::Body;
 // begin: written by tools/kinds
 use wasm_custom::{
-    BranchHint, CoreFrame, DylinkItem, FeaturePrefix, LinkItem, NameItem, Relocation,
-    append_build_id, append_debug_file, append_dylink, append_features, append_hints,
-    append_instances, append_links, append_modules, append_names, append_process, append_producers,
-    append_relocations, append_source_map, append_stack, read_build_id, read_debug_file,
-    read_dylink, read_features, read_hints, read_instances, read_links, read_modules, read_names,
-    read_process, read_producers, read_relocations, read_source_map, read_stack,
+    BranchHint, CallTarget, CodeHint, CompilationOrder, CoreFrame, DylinkItem, FeaturePrefix,
+    InstructionFrequency, LinkItem, NameItem, Relocation, append_build_id, append_call_targets,
+    append_debug_file, append_dylink, append_features, append_frequencies, append_hints,
+    append_instances, append_links, append_modules, append_names, append_orders, append_process,
+    append_producers, append_relocations, append_source_map, append_stack, read_build_id,
+    read_call_targets, read_debug_file, read_dylink, read_features, read_frequencies, read_hints,
+    read_instances, read_links, read_modules, read_names, read_orders, read_process,
+    read_producers, read_relocations, read_source_map, read_stack,
 };
 // end: written by tools/kinds
 use wasm_sections::{
@@ -77,6 +79,12 @@ pub enum SectionKind {
     Dylink,
     /// A relocation section, whose name begins with `reloc.`.
     Relocations,
+    /// The section of instruction frequencies.
+    InstructionFrequencies,
+    /// The section of compilation orders.
+    CompilationOrders,
+    /// The section of call targets.
+    CallTargets,
 }
 
 impl SectionKind {
@@ -116,6 +124,9 @@ impl SectionKind {
             26 => Some(SectionKind::BuildId),
             27 => Some(SectionKind::Dylink),
             28 => Some(SectionKind::Relocations),
+            29 => Some(SectionKind::InstructionFrequencies),
+            30 => Some(SectionKind::CompilationOrders),
+            31 => Some(SectionKind::CallTargets),
             // end: written by tools/kinds
             _ => None,
         }
@@ -181,6 +192,12 @@ pub enum Items<'a, A: Allocator = Global> {
         section: u32,
         relocations: Vec<Relocation, A>,
     },
+    /// For each function its index, and the frequencies of its instructions.
+    InstructionFrequencies(Vec<(u32, Vec<CodeHint<InstructionFrequency>, A>), A>),
+    /// For each function its index, and its compilation orders.
+    CompilationOrders(Vec<(u32, Vec<CodeHint<CompilationOrder>, A>), A>),
+    /// For each function its index, and the targets of its calls.
+    CallTargets(Vec<(u32, Vec<CodeHint<Vec<CallTarget, A>>, A>), A>),
 }
 
 impl<'a, A: Allocator> Items<'a, A> {
@@ -219,6 +236,9 @@ impl<'a, A: Allocator> Items<'a, A> {
             Items::BuildId(_) => SectionKind::BuildId,
             Items::Dylink(_) => SectionKind::Dylink,
             Items::Relocations { .. } => SectionKind::Relocations,
+            Items::InstructionFrequencies(_) => SectionKind::InstructionFrequencies,
+            Items::CompilationOrders(_) => SectionKind::CompilationOrders,
+            Items::CallTargets(_) => SectionKind::CallTargets,
             // end: written by tools/kinds
         }
     }
@@ -268,6 +288,9 @@ fn kind_of_whole_name(name: &str) -> SectionKind
         "external_debug_info" => SectionKind::ExternalDebugInfo,
         "build_id" => SectionKind::BuildId,
         "dylink.0" => SectionKind::Dylink,
+        "metadata.code.instr_freq" => SectionKind::InstructionFrequencies,
+        "metadata.code.compilation_order" => SectionKind::CompilationOrders,
+        "metadata.code.call_targets" => SectionKind::CallTargets,
         // end: written by tools/kinds
         _ => SectionKind::Custom,
     }
@@ -362,6 +385,16 @@ pub(crate) fn read_content<'a, A: Allocator + Copy + 'a, G: Grammar>(
                 relocations,
             })
         }
+        SectionKind::InstructionFrequencies => Ok(Items::InstructionFrequencies(read_frequencies::<
+            A,
+            G,
+        >(bytes, alloc)?)),
+        SectionKind::CompilationOrders => Ok(Items::CompilationOrders(read_orders::<A, G>(
+            bytes, alloc,
+        )?)),
+        SectionKind::CallTargets => Ok(Items::CallTargets(read_call_targets::<A, G>(
+            bytes, alloc,
+        )?)),
         // end: written by tools/kinds
     }
 }
@@ -455,6 +488,9 @@ pub fn encode_items<A: Allocator, B: Allocator>(
             section,
             relocations,
         } => append_relocations(name, *section, relocations, sink),
+        Items::InstructionFrequencies(items) => append_frequencies(items, sink),
+        Items::CompilationOrders(items) => append_orders(items, sink),
+        Items::CallTargets(items) => append_call_targets(items, sink),
         // end: written by tools/kinds
     }
 }

@@ -16,9 +16,9 @@ use wasm_base::{
 use wasm_code::Body;
 // begin: written by tools/kinds
 use wasm_custom::{
-    walk_build_id, walk_debug_file, walk_dylink, walk_features, walk_hints, walk_instances,
-    walk_links, walk_modules, walk_names, walk_process, walk_producers, walk_relocations,
-    walk_source_map, walk_stack,
+    walk_build_id, walk_call_targets, walk_debug_file, walk_dylink, walk_features,
+    walk_frequencies, walk_hints, walk_instances, walk_links, walk_modules, walk_names,
+    walk_orders, walk_process, walk_producers, walk_relocations, walk_source_map, walk_stack,
 };
 // end: written by tools/kinds
 use wasm_sections::{
@@ -103,6 +103,9 @@ pub(crate) fn walk_content<A: Allocator + Copy, G: Grammar, E: Effect>(
         SectionKind::BuildId => walk_build_id::<A, G, _>(bytes, alloc, effect),
         SectionKind::Dylink => walk_dylink::<A, G, _>(bytes, alloc, effect),
         SectionKind::Relocations => walk_relocations::<A, G, _>(bytes, alloc, effect),
+        SectionKind::InstructionFrequencies => walk_frequencies::<A, G, _>(bytes, alloc, effect),
+        SectionKind::CompilationOrders => walk_orders::<A, G, _>(bytes, alloc, effect),
+        SectionKind::CallTargets => walk_call_targets::<A, G, _>(bytes, alloc, effect),
         // end: written by tools/kinds
     }
 }

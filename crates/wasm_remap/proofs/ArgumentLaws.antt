@@ -1,6 +1,6 @@
 -- This file proves the steps of the loop that maps the immediates of an instruction.
-use Rattle.std.proofs.Common.{◌≡◌, ℕ, List, map, take, drop, ◌+◌, ◌<◌, ◌++◌, ◌∷◌, [], length, slice_set, slice_index_or, arith, ap, ap₂, sym, ◌∙◌}
-use Rattle.std.proofs.lemmas.List.{take_more_set, drop_more, drop-set-lt, map-append, append_assoc}
+use Rattle.std.proofs.Common.{◌≡◌, ℕ, List, map, take, drop, ◌+◌, ◌<◌, ◌++◌, ◌∷◌, [], ◌≤◌, length, slice_set, slice_index_or, arith, ap, ap₂, sym, ◌∙◌}
+use Rattle.std.proofs.lemmas.List.{take_more_set, take_all, drop_all, drop_more, drop-set-lt, map-append, append_assoc, append-nil}
 use Rattle.wasm_insn.specs.Views.{argument_view}
 use Rattle.wasm_insn.specs.declared.arguments.Arg.{Arg}
 use Rattle.wasm_remap.specs.Instructions.{remapped_argument, remapped_arguments, spaces_after}
@@ -30,3 +30,6 @@ argument_step m all old now k s after x d lt h v e =
       others = set ∙ tails now old k d lt h.others;
       mapped = ahead ∙ split ∙ ap₂ (λ z w. z ++ remapped_arguments m after (map argument_view w)) (sym first) (sym set);
     }
+
+pub arguments_done : {A : Type 0} (m : Mapping) (all : Spaces) (old now : List (Arg A)) (k : ℕ) (s : Spaces) → HasMapped m all old now k s → length now ≤ k → map argument_view now ≡ remapped_arguments m all (map argument_view old)
+arguments_done m all old now k s h l = sym (h.mapped ∙ ap₂ (λ a b. map argument_view a ++ remapped_arguments m s (map argument_view b)) (take_all k now l) (drop_all k now l) ∙ append-nil (map argument_view now))

@@ -19,3 +19,4 @@ pub mod BodyLaws
 pub mod ContentLaws
 pub mod CountedImports
 pub mod InstrumentedLaws
+pub mod RemovedLaws

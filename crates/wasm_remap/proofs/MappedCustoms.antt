@@ -2,6 +2,7 @@
 use Rattle.wasm_base.proofs.Words.{ℕ, ◌∷◌, [], map, Option, Some, refl}
 use Rattle.std.specs.Option.{option_map}
 use Rattle.wasm_base.specs.Formats.{Format, u32, pair}
+use Rattle.wasm_custom.specs.CodeMetadata.{call_targets_payload, frequencies_payload, hinted, orders_payload, targets}
 use Rattle.wasm_custom.specs.CoreDumps.{instance_of, instance, instances_payload}
 use Rattle.wasm_custom.specs.Comdats.{comdat_symbol_of, comdat_symbol, comdat_of, comdat}
 use Rattle.wasm_custom.specs.Hints.{hints_payload}
@@ -13,7 +14,7 @@ use Rattle.wasm_custom.specs.declared.relocations.RelocationKind.{RelocationKind
 use Rattle.wasm_custom.specs.declared.relocations.RelocationKind.TheVariants as kinds
 use Rattle.wasm_custom.specs.declared.symbols.SymbolKind.{SymbolKind}
 use Rattle.wasm_custom.specs.declared.symbols.SymbolKind.TheVariants.{Function, Global, Table, Tag}
-use Rattle.wasm_remap.specs.Customs.{space_among, name_spaces, remapped_name, remapped_hints, remapped_instance, space_of_symbol, remapped_definition, remapped_symbol, comdat_spaces, remapped_member, remapped_comdat, remapped_link, space_of_relocation, remapped_relocation}
+use Rattle.wasm_remap.specs.Customs.{space_among, name_spaces, remapped_name, remapped_hints, remapped_hints_in, remapped_target_hint, remapped_targets, remapped_instance, space_of_symbol, remapped_definition, remapped_symbol, comdat_spaces, remapped_member, remapped_comdat, remapped_link, space_of_relocation, remapped_relocation}
 use Rattle.wasm_remap.specs.Mapping.{Mapping, IsSmall, mapped_first, mapped_in}
 use Rattle.wasm_remap.specs.declared.spaces.IndexSpace.{IndexSpace}
 use Rattle.wasm_remap.specs.declared.spaces.IndexSpace.TheVariants as spaces
@@ -23,7 +24,7 @@ use Rattle.wasm_remap.proofs.MappedForms.{Maps, kept, mapped_maps, pair_maps, pr
 module _ (m : Mapping) (small : IsSmall m) where
   -- ---- names
 
-  first_maps : {X : Type 0} {F : Format X} (space : Option IndexSpace) → Maps (mapped_first m space) (pair u32 F)
+  pub first_maps : {X : Type 0} {F : Format X} (space : Option IndexSpace) → Maps (mapped_first m space) (pair u32 F)
   first_maps space = pair_maps (number_maps m small space) (λ n. kept)
 
   after_id_maps : (kind : NameKind) (id : ℕ) → Maps (remapped_name m) (after_id kind id)
@@ -39,6 +40,18 @@ module _ (m : Mapping) (small : IsSmall m) where
 
   pub hints_maps : Maps (map (remapped_hints m)) hints_payload
   hints_maps = tagged_maps (λ u. tagged_maps (λ v. vec_maps (first_maps (Some spaces.Functions))))
+
+  pub frequencies_maps : Maps (map (remapped_hints_in m)) frequencies_payload
+  frequencies_maps = tagged_maps (λ u. tagged_maps (λ v. vec_maps (first_maps (Some spaces.Functions))))
+
+  pub orders_maps : Maps (map (remapped_hints_in m)) orders_payload
+  orders_maps = tagged_maps (λ u. tagged_maps (λ v. vec_maps (first_maps (Some spaces.Functions))))
+
+  target_hint_maps : Maps (remapped_target_hint m) (hinted targets)
+  target_hint_maps = pair_maps kept (λ n. size_prefixed_maps (members_maps (first_maps (Some spaces.Functions))))
+
+  pub call_targets_maps : Maps (map (remapped_targets m)) call_targets_payload
+  call_targets_maps = tagged_maps (λ u. tagged_maps (λ v. vec_maps (pair_maps (index_maps m small spaces.Functions) (λ n. vec_maps target_hint_maps))))
 
   -- ---- core dumps
 

@@ -1,6 +1,7 @@
 -- This file defines what a map of indices makes of the items of custom sections.
 use Rattle.std.specs.Prelude.{ℕ, ◌==◌, List, [], ◌∷◌, Option, Some, None, cond, map}
 use Rattle.std.specs.Option.{option_map}
+use Rattle.wasm_custom.specs.CodeMetadata.{HintedTargets, HintsIn, TargetItem}
 use Rattle.wasm_custom.specs.Comdats.{Comdat}
 use Rattle.wasm_custom.specs.CoreDumps.{Instance}
 use Rattle.wasm_custom.specs.Hints.{Hints}
@@ -49,9 +50,25 @@ remapped_name m (Other id bytes) = Other id bytes
 
 -- ---- hints
 
+-- The hints of a function, which have no index.
+abbrev pub remapped_hints_in : {Hint : Type 0} → Mapping → HintsIn Hint → HintsIn Hint
+remapped_hints_in m h = mapped_first m (Some spaces.Functions) h
+
 -- The branch hints of a function.
 abbrev pub remapped_hints : Mapping → Hints → Hints
-remapped_hints m h = mapped_first m (Some spaces.Functions) h
+remapped_hints m h = remapped_hints_in m h
+
+-- A call target.
+abbrev pub remapped_target : Mapping → TargetItem → TargetItem
+remapped_target m t = mapped_first m (Some spaces.Functions) t
+
+-- The targets of the call at an offset.
+abbrev pub remapped_target_hint : Mapping → ℕ × List TargetItem → ℕ × List TargetItem
+remapped_target_hint m h = (h.0, map (remapped_target m) h.1)
+
+-- The targets of the calls of a function.
+abbrev pub remapped_targets : Mapping → HintedTargets → HintedTargets
+remapped_targets m h = (m spaces.Functions h.0, map (remapped_target_hint m) h.1)
 
 -- ---- core dumps
 

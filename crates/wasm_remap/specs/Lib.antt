@@ -13,3 +13,4 @@ pub mod Imported
 pub mod Begun
 pub mod Instrumented
 pub mod Streamed
+pub mod Removed

@@ -13,6 +13,11 @@ Mapping = IndexSpace → ℕ → ℕ
 abbrev pub IsSmall : Mapping → Type 0
 IsSmall m = (space : IndexSpace) (n : ℕ) → n < 2 ^ 32 → m space n < 2 ^ 32
 
+-- The mapping has the new index of each index that the map accepts. What it has for rejected indices is
+-- free, so a result that is the same by each such mapping does not depend on them.
+abbrev pub Follows : {E : Type 0} → Mapping → (IndexSpace → ℕ → E → Type 0) → Mapping → Type 0
+Follows {E = E} mapped rejects m = (space : IndexSpace) (n : ℕ) → ((e : E) → rejects space n e → ⊥) → m space n ≡ mapped space n
+
 -- A number, which is an index if it has an index space.
 abbrev pub mapped_in : Mapping → Option IndexSpace → ℕ → ℕ
 mapped_in m None n = n

@@ -8,10 +8,10 @@ use Rattle.wasm_reader.specs.Shortening.{contains_offsets}
 use Rattle.wasm_reader.specs.declared.whole.Offsets.{Offsets}
 use Rattle.wasm_reader.specs.declared.whole.Offsets.TheVariants.{Refuse}
 use Rattle.wasm_reader.specs.Kinds.{Contents, content, Bodies, Segments, DataCount, Elements, Exports, Functions, Globals, Imports, Memories, Start, Tables, Tags, Names, Linking, Producers, Hints, Core, CoreModules, CoreInstances}
-use Rattle.wasm_reader.specs.Kinds.{CoreStack, Custom, Raw, Types, TargetFeatures, SourceMappingUrl, ExternalDebugInfo, BuildId, Dylink, Relocations}
+use Rattle.wasm_reader.specs.Kinds.{CoreStack, Custom, Raw, Types, TargetFeatures, SourceMappingUrl, ExternalDebugInfo, BuildId, Dylink, Relocations, InstructionFrequencies, CompilationOrders, CallTargets}
 use Rattle.wasm_reader.specs.Sections.{AppendsContentIn, HasContentIn}
 use Rattle.wasm_reader.specs.Words.{Section, section_kind_of}
-use Rattle.wasm_remap.specs.Customs.{remapped_hints, remapped_instance, remapped_link, remapped_name, remapped_relocation}
+use Rattle.wasm_remap.specs.Customs.{remapped_hints, remapped_hints_in, remapped_instance, remapped_link, remapped_name, remapped_relocation, remapped_targets}
 use Rattle.wasm_remap.specs.Instructions.{remapped_body}
 use Rattle.wasm_remap.specs.Items.{remapped_data, remapped_element, remapped_export, remapped_global, remapped_import, remapped_table, remapped_tag}
 use Rattle.wasm_remap.specs.Mapping.{Mapping, IsSmall}
@@ -51,6 +51,9 @@ remapped m (ExternalDebugInfo x) = ExternalDebugInfo x
 remapped m (BuildId x) = BuildId x
 remapped m (Dylink xs) = Dylink xs
 remapped m (Relocations x) = Relocations (x.0, (x.1.0, map (remapped_relocation m) x.1.1))
+remapped m (InstructionFrequencies xs) = InstructionFrequencies (map (remapped_hints_in m) xs)
+remapped m (CompilationOrders xs) = CompilationOrders (map (remapped_hints_in m) xs)
+remapped m (CallTargets xs) = CallTargets (map (remapped_targets m) xs)
 
 -- end: written by tools/kinds
 
@@ -65,20 +68,33 @@ pub record RemapsSection (m : Mapping) (s : Section) (old new : List ℕ) : Type
 
 -- ---- modules
 
--- The sections of the new module for those of the old one, each an id and a payload: the payload has
--- the items with each index mapped. Sections that hold offsets are left out.
-abbrev pub AreRemapped : Mapping → List Section → List (ℕ × List ℕ) → Type 0
-AreRemapped m [] news = news ≡ []
-AreRemapped m (s ∷ olds) news =
-    ((contains_offsets s.name ≡ true) × AreRemapped m olds news)
-    ⊎ ((payload : List ℕ) × (others : List (ℕ × List ℕ)) × (contains_offsets s.name ≡ false) × (news ≡ (s.id, payload) ∷ others) × RemapsSection m s [] payload × AreRemapped m olds others)
+-- The sections of the new module for those of the old one, each an id and a payload, which is related
+-- to the old section. Sections that hold offsets are left out.
+abbrev pub AreChanged : (Section → List ℕ → Type 0) → List Section → List (ℕ × List ℕ) → Type 0
+AreChanged R [] news = news ≡ []
+AreChanged R (s ∷ olds) news =
+    ((contains_offsets s.name ≡ true) × AreChanged R olds news)
+    ⊎ ((payload : List ℕ) × (others : List (ℕ × List ℕ)) × (contains_offsets s.name ≡ false) × (news ≡ (s.id, payload) ∷ others) × R s payload × AreChanged R olds others)
 
--- The bytes are a module, and the new bytes are a module of its sections with each index mapped. With
--- `Refuse`, no section holds offsets.
-pub record RemapsModule (m : Mapping) (offsets : Offsets) (bytes new : List ℕ) : Type 0 where
+-- The bytes are a module, and the new bytes are a module of its changed sections. With `Refuse`, no
+-- section holds offsets.
+pub record ChangesModule (R : Section → List ℕ → Type 0) (offsets : Offsets) (bytes new : List ℕ) : Type 0 where
   pub olds : List Section
   pub has : HasSections bytes olds
   pub news : List (ℕ × List ℕ)
-  pub are : AreRemapped m olds news
+  pub are : AreChanged R olds news
   pub refused : offsets ≡ Refuse → AllByRecursion (λ s. contains_offsets s.name ≡ false) olds
   pub decodes : DecodesWhole wasm_module new news
+
+-- The payload is that of the section with each index mapped.
+abbrev pub IsRemapped : Mapping → Section → List ℕ → Type 0
+IsRemapped m s payload = RemapsSection m s [] payload
+
+-- The sections of the new module have the items of the old ones, with each index mapped.
+abbrev pub AreRemapped : Mapping → List Section → List (ℕ × List ℕ) → Type 0
+AreRemapped m olds news = AreChanged (IsRemapped m) olds news
+
+-- The bytes are a module, and the new bytes are a module of its sections with each index mapped. With
+-- `Refuse`, no section holds offsets.
+abbrev pub RemapsModule : Mapping → Offsets → List ℕ → List ℕ → Type 0
+RemapsModule m offsets bytes new = ChangesModule (IsRemapped m) offsets bytes new

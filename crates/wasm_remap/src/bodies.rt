@@ -16,6 +16,7 @@ ghost use Rattle.wasm_insn.specs.declared.op.Shape.TheVariants as shapes;
 ghost use Rattle.wasm_reader.specs.Words.{section_kind_of};
 ghost use Rattle.wasm_reader.specs.declared.kinds.SectionKind.TheVariants as kinds;
 ghost use Rattle.wasm_remap.specs.Instructions.{remapped_argument, remapped_body, remapped_instruction, remapped_val};
+ghost use Rattle.wasm_remap.specs.Mapping.{Follows, Mapping};
 ghost use Rattle.wasm_remap.specs.Sections.{RemapsSection};
 ghost use Rattle.wasm_remap.specs.Spaces.{spaces_of as spaces_of_op};
 ghost use Rattle.wasm_remap.specs.Streamed.{AppendsForm, HaveNoIndex, Remaps, RemapsWhole, bytes_without_index, is_within};
@@ -68,7 +69,7 @@ fn append_number<M: Remap, B: Allocator>(
     indices: &M,
     sink: &mut Vec<u8, B>,
 ) -> Result<(), Stopped<M::Error>>
-    ensures ok { OnOk result (AppendsForm (instruction table) (record { op = op; arguments = remapped_argument (M.mapped indices.now) (spaces_of_op op) (unsigned number) ∷ [] }) sink.old.items sink.new.items) }
+    ensures ok { OnOk result ((m : Mapping) → Follows (M.mapped indices.now) (M.rejects indices.now) m → AppendsForm (instruction table) (record { op = op; arguments = remapped_argument m (spaces_of_op op) (unsigned number) ∷ [] }) sink.old.items sink.new.items) }
     ensures front { IsFrontOf sink.old.items sink.new.items }
 {
     let number = mapped_number(indices, spaces_of(op).0, number)?;
@@ -85,7 +86,7 @@ fn append_numbers<A: Allocator + Copy, M: Remap, B: Allocator>(
     indices: &M,
     sink: &mut Vec<u8, B>,
 ) -> Result<(), Stopped<M::Error>>
-    ensures ok { OnOk result ((xs : List Argument) → arguments (parts_of shapes.Uu) standard bytes.now xs → AppendsForm (instruction table) (remapped_instruction (M.mapped indices.now) (record { op = op; arguments = xs })) sink.old.items sink.new.items) }
+    ensures ok { OnOk result ((m : Mapping) → Follows (M.mapped indices.now) (M.rejects indices.now) m → (xs : List Argument) → arguments (parts_of shapes.Uu) standard bytes.now xs → AppendsForm (instruction table) (remapped_instruction m (record { op = op; arguments = xs })) sink.old.items sink.new.items) }
     ensures front { IsFrontOf sink.old.items sink.new.items }
 {
     let (numbers, _rest) = <(u32, u32) as Readable<'_, A, Standard>>::read(bytes, alloc)?;
@@ -107,7 +108,7 @@ fn append_memory<A: Allocator + Copy, M: Remap, B: Allocator>(
     indices: &M,
     sink: &mut Vec<u8, B>,
 ) -> Result<(), Stopped<M::Error>>
-    ensures ok { OnOk result (AppendsForm (instruction table) (record { op = op; arguments = remapped_argument (M.mapped indices.now) (spaces_of_op op) (memory argument) ∷ [] }) sink.old.items sink.new.items) }
+    ensures ok { OnOk result ((m : Mapping) → Follows (M.mapped indices.now) (M.rejects indices.now) m → AppendsForm (instruction table) (record { op = op; arguments = remapped_argument m (spaces_of_op op) (memory argument) ∷ [] }) sink.old.items sink.new.items) }
     ensures front { IsFrontOf sink.old.items sink.new.items }
 {
     let mut argument = argument;
@@ -126,7 +127,7 @@ fn append_block<A: Allocator + Copy, M: Remap, B: Allocator>(
     indices: &M,
     sink: &mut Vec<u8, B>,
 ) -> Result<(), Stopped<M::Error>>
-    ensures ok { OnOk result (AppendsForm (instruction table) (record { op = op; arguments = remapped_argument (M.mapped indices.now) (spaces_of_op op) (block ty) ∷ [] }) sink.old.items sink.new.items) }
+    ensures ok { OnOk result ((m : Mapping) → Follows (M.mapped indices.now) (M.rejects indices.now) m → AppendsForm (instruction table) (record { op = op; arguments = remapped_argument m (spaces_of_op op) (block ty) ∷ [] }) sink.old.items sink.new.items) }
     ensures front { IsFrontOf sink.old.items sink.new.items }
 {
     let mut ty = ty;
@@ -147,7 +148,7 @@ fn append_rare<A: Allocator + Copy, M: Remap, B: Allocator>(
     indices: &M,
     sink: &mut Vec<u8, B>,
 ) -> Result<(), Stopped<M::Error>>
-    ensures ok { OnOk result ((xs : List Argument) → AreOperands operands.entry xs → AppendsForm (instruction table) (remapped_instruction (M.mapped indices.now) (record { op = op; arguments = xs })) sink.old.items sink.new.items) }
+    ensures ok { OnOk result ((m : Mapping) → Follows (M.mapped indices.now) (M.rejects indices.now) m → (xs : List Argument) → AreOperands operands.entry xs → AppendsForm (instruction table) (remapped_instruction m (record { op = op; arguments = xs })) sink.old.items sink.new.items) }
     ensures front { IsFrontOf sink.old.items sink.new.items }
 {
     let args = operands.to_args(alloc)?;
@@ -168,7 +169,7 @@ fn append_operation<A: Allocator + Copy, M: Remap, B: Allocator>(
     indices: &M,
     sink: &mut Vec<u8, B>,
 ) -> Result<(), Stopped<M::Error>>
-    ensures ok { OnOk result ((xs : List Argument) → AreOperands operands.entry xs → AppendsForm (instruction table) (remapped_instruction (M.mapped indices.now) (record { op = op; arguments = xs })) sink.old.items sink.new.items) }
+    ensures ok { OnOk result ((m : Mapping) → Follows (M.mapped indices.now) (M.rejects indices.now) m → (xs : List Argument) → AreOperands operands.entry xs → AppendsForm (instruction table) (remapped_instruction m (record { op = op; arguments = xs })) sink.old.items sink.new.items) }
     ensures front { IsFrontOf sink.old.items sink.new.items }
 {
     match operands {
@@ -190,7 +191,7 @@ fn append_instruction<'a, A: Allocator + Copy, M: Remap, B: Allocator>(
     indices: &M,
     sink: &mut Vec<u8, B>,
 ) -> Result<&'a [u8], Stopped<M::Error>>
-    ensures found { IfOk result (λ rest. Remaps (remapped_instruction (M.mapped indices.now)) (instruction table) bytes.now rest.now sink.old.items sink.new.items) }
+    ensures found { IfOk result (λ rest. (m : Mapping) → Follows (M.mapped indices.now) (M.rejects indices.now) m → Remaps (remapped_instruction m) (instruction table) bytes.now rest.now sink.old.items sink.new.items) }
     ensures front { IsFrontOf sink.old.items sink.new.items }
 {
     if let [byte, ..] = bytes {
@@ -213,7 +214,7 @@ fn append_code<A: Allocator + Copy, M: Remap, B: Allocator>(
     indices: &M,
     sink: &mut Vec<u8, B>,
 ) -> Result<(), Stopped<M::Error>>
-    ensures found { OnOk result (RemapsWhole (map (remapped_instruction (M.mapped indices.now))) (members (instruction table)) bytes.now sink.old.items sink.new.items) }
+    ensures found { OnOk result ((m : Mapping) → Follows (M.mapped indices.now) (M.rejects indices.now) m → RemapsWhole (map (remapped_instruction m)) (members (instruction table)) bytes.now sink.old.items sink.new.items) }
     ensures front { IsFrontOf sink.old.items sink.new.items }
 {
     let mut rest = bytes;
@@ -255,7 +256,7 @@ fn append_content<A: Allocator + Copy, M: Remap, B: Allocator>(
     indices: &M,
     sink: &mut Vec<u8, B>,
 ) -> Result<(), Stopped<M::Error>>
-    ensures found { OnOk result (RemapsWhole (remapped_body (M.mapped indices.now)) body bytes.now sink.old.items sink.new.items) }
+    ensures found { OnOk result ((m : Mapping) → Follows (M.mapped indices.now) (M.rejects indices.now) m → RemapsWhole (remapped_body m) body bytes.now sink.old.items sink.new.items) }
     ensures front { IsFrontOf sink.old.items sink.new.items }
 {
     let code = append_many::<(u32, ValType), _, _, _>(bytes, alloc, indices, sink)?;
@@ -295,7 +296,7 @@ fn append_bodies<A: Allocator + Copy, M: Remap, B: Allocator>(
     indices: &M,
     sink: &mut Vec<u8, B>,
 ) -> Result<(), Stopped<M::Error>>
-    ensures found { OnOk result (RemapsWhole (map (remapped_body (M.mapped indices.now))) (vec (size_prefixed body)) bytes.now sink.old.items sink.new.items) }
+    ensures found { OnOk result ((m : Mapping) → Follows (M.mapped indices.now) (M.rejects indices.now) m → RemapsWhole (map (remapped_body m)) (vec (size_prefixed body)) bytes.now sink.old.items sink.new.items) }
     ensures front { IsFrontOf sink.old.items sink.new.items }
 {
     let rest = append_many::<Body<A>, _, _, _>(bytes, alloc, indices, sink)?;
@@ -334,7 +335,7 @@ pub(crate) fn remap_bodies<A: Allocator + Copy, M: Remap, B: Allocator>(
     sink: &mut Vec<u8, B>,
 ) -> Result<(), RemapError<M::Error>>
     requires { section_kind_of section.now.section ≡ kinds.Bodies }
-    ensures ok { OnOk result (RemapsSection (M.mapped indices.now) section.now.section sink.old.items sink.new.items) }
+    ensures ok { OnOk result ((m : Mapping) → Follows (M.mapped indices.now) (M.rejects indices.now) m → RemapsSection m section.now.section sink.old.items sink.new.items) }
     ensures err { OnErr result (sink.new.items ≡ sink.old.items) }
 {
     let start = sink.len();

@@ -1,12 +1,13 @@
 // Items of custom sections whose indices are mapped.
 ghost use Rattle.std.specs.Prelude.{◌≡◌, ℕ, List, IfOk, IfErr, OnOk, Option, map};
 ghost use Rattle.wasm_custom.specs.Words.{Comdat as ComdatModel, Hints, Instance, LinkItem as LinkModel, NameItem as NameModel, Symbol as SymbolModel, comdat_view, hints_view, instance_view, link_view, name_item_view};
+ghost use Rattle.wasm_custom.specs.CodeMetadata.{Frequencies, HintedTargets, Orders, TargetItem, call_targets_view, frequencies_view, hint_as, orders_view, target_view, targets_view};
 ghost use Rattle.wasm_custom.specs.Names.{id_of, inside_view, names_view};
 ghost use Rattle.wasm_custom.specs.Symbols.{symbol_view};
 ghost use Rattle.wasm_custom.specs.declared.comdats.ComdatSymbol.{ComdatSymbol};
 ghost use Rattle.wasm_custom.specs.declared.relocations.Relocation.{Relocation};
-ghost use Rattle.wasm_remap.specs.Mapping.{ComesFrom, mapped_first};
-ghost use Rattle.wasm_remap.specs.Customs.{comdat_spaces, name_spaces, remapped_comdat, remapped_hints, remapped_instance, remapped_link, remapped_member, remapped_name, remapped_relocation, remapped_symbol, space_among, space_of_relocation as relocation_space};
+ghost use Rattle.wasm_remap.specs.Mapping.{ComesFrom, Follows, Mapping, mapped_first};
+ghost use Rattle.wasm_remap.specs.Customs.{comdat_spaces, name_spaces, remapped_comdat, remapped_hints, remapped_hints_in, remapped_instance, remapped_link, remapped_member, remapped_name, remapped_relocation, remapped_symbol, remapped_target, remapped_target_hint, remapped_targets, space_among, space_of_relocation as relocation_space};
 
 use crate::indexed::{
     Indexed, Remap, RemapError, mapped, mapped_number, remap_each, remap_firsts, remap_numbers,
@@ -14,7 +15,8 @@ use crate::indexed::{
 use crate::spaces::IndexSpace;
 use std::alloc::Allocator;
 use wasm_custom::{
-    BranchHint, Comdat, ComdatSymbol, LinkItem, NameItem, PlainRelocation, Relocation, Symbol,
+    BranchHint, CallTarget, CodeHint, Comdat, ComdatSymbol, CompilationOrder, InstructionFrequency,
+    LinkItem, NameItem, PlainRelocation, Relocation, Symbol,
 };
 
 /// Returns the index space of a name map, or of the outer indices of an indirect one, by its id.
@@ -35,7 +37,7 @@ fn space_of_names(id: u8) -> Option<IndexSpace>
 }
 
 /// Returns the index space of the indices of a subsection, or of the outer ones.
-fn space_of_subsection<A: Allocator>(item: &NameItem<'_, A>) -> Option<IndexSpace>
+pub(crate) fn space_of_subsection<A: Allocator>(item: &NameItem<'_, A>) -> Option<IndexSpace>
     ensures { result ≡ space_among name_spaces (id_of (name_item_view item.now)) }
 {
     match item {
@@ -53,7 +55,7 @@ fn remap_names<M: Remap>(
     space: Option<IndexSpace>,
     indices: &M,
 ) -> Result<(), RemapError<M::Error>>
-    ensures ok { OnOk result (names_view names.new ≡ map (mapped_first (M.mapped indices.now) space) (names_view names.old)) }
+    ensures ok { OnOk result ((m : Mapping) → Follows (M.mapped indices.now) (M.rejects indices.now) m → names_view names.new ≡ map (mapped_first m space) (names_view names.old)) }
     ensures err { IfErr result (λ e. ComesFrom (M.rejects indices.now) e) }
 {
     remap_firsts(names, space, indices)
@@ -66,7 +68,7 @@ fn remap_maps<A: Allocator, M: Remap>(
     space: Option<IndexSpace>,
     indices: &M,
 ) -> Result<(), RemapError<M::Error>>
-    ensures ok { OnOk result (map inside_view maps.new ≡ map (mapped_first (M.mapped indices.now) space) (map inside_view maps.old)) }
+    ensures ok { OnOk result ((m : Mapping) → Follows (M.mapped indices.now) (M.rejects indices.now) m → map inside_view maps.new ≡ map (mapped_first m space) (map inside_view maps.old)) }
     ensures err { IfErr result (λ e. ComesFrom (M.rejects indices.now) e) }
 {
     remap_firsts(maps, space, indices)
@@ -99,6 +101,70 @@ impl<A: Allocator + Copy> Indexed<A> for (u32, Vec<BranchHint, A>) {
     fn remap<M: Remap>(&mut self, _alloc: A, indices: &M) -> Result<(), RemapError<M::Error>> {
         self.0 = mapped(indices, IndexSpace::Functions, self.0)?;
         Ok(())
+    }
+}
+
+impl<A: Allocator + Copy> Indexed<A> for (u32, Vec<CodeHint<InstructionFrequency>, A>) {
+    ghost Value = { Frequencies };
+
+    ghost view = { frequencies_view };
+
+    ghost remapped = { remapped_hints_in };
+
+    fn remap<M: Remap>(&mut self, _alloc: A, indices: &M) -> Result<(), RemapError<M::Error>> {
+        self.0 = mapped(indices, IndexSpace::Functions, self.0)?;
+        Ok(())
+    }
+}
+
+impl<A: Allocator + Copy> Indexed<A> for (u32, Vec<CodeHint<CompilationOrder>, A>) {
+    ghost Value = { Orders };
+
+    ghost view = { orders_view };
+
+    ghost remapped = { remapped_hints_in };
+
+    fn remap<M: Remap>(&mut self, _alloc: A, indices: &M) -> Result<(), RemapError<M::Error>> {
+        self.0 = mapped(indices, IndexSpace::Functions, self.0)?;
+        Ok(())
+    }
+}
+
+impl<A: Allocator + Copy> Indexed<A> for CallTarget {
+    ghost Value = { TargetItem };
+
+    ghost view = { target_view };
+
+    ghost remapped = { remapped_target };
+
+    fn remap<M: Remap>(&mut self, _alloc: A, indices: &M) -> Result<(), RemapError<M::Error>> {
+        self.function_index = mapped(indices, IndexSpace::Functions, self.function_index)?;
+        Ok(())
+    }
+}
+
+impl<A: Allocator + Copy> Indexed<A> for CodeHint<Vec<CallTarget, A>> {
+    ghost Value = { ℕ × List TargetItem };
+
+    ghost view = { hint_as targets_view };
+
+    ghost remapped = { remapped_target_hint };
+
+    fn remap<M: Remap>(&mut self, alloc: A, indices: &M) -> Result<(), RemapError<M::Error>> {
+        remap_each(&mut self.value, alloc, indices)
+    }
+}
+
+impl<A: Allocator + Copy> Indexed<A> for (u32, Vec<CodeHint<Vec<CallTarget, A>>, A>) {
+    ghost Value = { HintedTargets };
+
+    ghost view = { call_targets_view };
+
+    ghost remapped = { remapped_targets };
+
+    fn remap<M: Remap>(&mut self, alloc: A, indices: &M) -> Result<(), RemapError<M::Error>> {
+        self.0 = mapped(indices, IndexSpace::Functions, self.0)?;
+        remap_each(&mut self.1, alloc, indices)
     }
 }
 

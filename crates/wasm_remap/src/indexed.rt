@@ -1,7 +1,7 @@
 // Maps of indices, and items whose indices are mapped in place.
 ghost use Rattle.std.specs.Prelude.{◌≡◌, ℕ, List, IfOk, IfErr, OnOk, OnErr, Option, map};
 ghost use Rattle.wasm_base.specs.declared.refused.Refused.TheVariants.{Memory, TooLong};
-ghost use Rattle.wasm_remap.specs.Mapping.{ComesFrom, Mapping, mapped_in, mapped_first};
+ghost use Rattle.wasm_remap.specs.Mapping.{ComesFrom, Follows, Mapping, mapped_first, mapped_in};
 ghost use Rattle.wasm_remap.specs.declared.indexed.RemapError.TheVariants as errors;
 ghost use Rattle.wasm_remap.specs.declared.spaces.IndexSpace.{IndexSpace};
 
@@ -28,6 +28,7 @@ pub trait Remap {
     /// Returns an error if the map rejects the index: an entity that was removed, say.
     fn index(&self, space: IndexSpace, index: u32) -> Result<u32, Self::Error>
         ensures ok { IfOk result (λ n. n ≡ mapped self.now space index) }
+        ensures accepted { IfOk result (λ _. (e : Self.Error) → rejects self.now space index e → ⊥) }
         ensures err { IfErr result (λ e. rejects self.now space index e) };
 }
 
@@ -74,7 +75,7 @@ pub(crate) fn mapped<M: Remap>(
     space: IndexSpace,
     index: u32,
 ) -> Result<u32, RemapError<M::Error>>
-    ensures ok { IfOk result (λ n. n ≡ M.mapped indices.now space index) }
+    ensures ok { IfOk result (λ n. (m : Mapping) → Follows (M.mapped indices.now) (M.rejects indices.now) m → n ≡ m space index) }
     ensures err { IfErr result (λ e. ComesFrom (M.rejects indices.now) e) }
 {
     match indices.index(space, index) {
@@ -89,7 +90,7 @@ pub(crate) fn mapped_number<M: Remap>(
     space: Option<IndexSpace>,
     number: u32,
 ) -> Result<u32, RemapError<M::Error>>
-    ensures ok { IfOk result (λ n. n ≡ mapped_in (M.mapped indices.now) space number) }
+    ensures ok { IfOk result (λ n. (m : Mapping) → Follows (M.mapped indices.now) (M.rejects indices.now) m → n ≡ mapped_in m space number) }
     ensures err { IfErr result (λ e. ComesFrom (M.rejects indices.now) e) }
 {
     match space {
@@ -112,7 +113,7 @@ pub(crate) trait Indexed<A: Allocator + Copy> {
 
     /// Maps each index. After an error, some of them are mapped.
     fn remap<M: Remap>(&mut self, alloc: A, indices: &M) -> Result<(), RemapError<M::Error>>
-        ensures ok { OnOk result (view self.new ≡ remapped (M.mapped indices.now) (view self.old)) }
+        ensures ok { OnOk result ((m : Mapping) → Follows (M.mapped indices.now) (M.rejects indices.now) m → view self.new ≡ remapped m (view self.old)) }
         ensures err { IfErr result (λ e. ComesFrom (M.rejects indices.now) e) };
 }
 
@@ -122,7 +123,7 @@ pub(crate) fn remap_each<T: Indexed<A>, A: Allocator + Copy, M: Remap>(
     alloc: A,
     indices: &M,
 ) -> Result<(), RemapError<M::Error>>
-    ensures ok { OnOk result (map T.view items.new ≡ map (T.remapped (M.mapped indices.now)) (map T.view items.old)) }
+    ensures ok { OnOk result ((m : Mapping) → Follows (M.mapped indices.now) (M.rejects indices.now) m → map T.view items.new ≡ map (T.remapped m) (map T.view items.old)) }
     ensures err { IfErr result (λ e. ComesFrom (M.rejects indices.now) e) }
 {
     for item in items.iter_mut() {
@@ -137,7 +138,7 @@ pub(crate) fn remap_numbers<M: Remap>(
     space: IndexSpace,
     indices: &M,
 ) -> Result<(), RemapError<M::Error>>
-    ensures ok { OnOk result (items.new ≡ map (M.mapped indices.now space) items.old) }
+    ensures ok { OnOk result ((m : Mapping) → Follows (M.mapped indices.now) (M.rejects indices.now) m → items.new ≡ map (m space) items.old) }
     ensures err { IfErr result (λ e. ComesFrom (M.rejects indices.now) e) }
 {
     for item in items.iter_mut() {
@@ -152,7 +153,7 @@ pub(crate) fn remap_firsts<T, M: Remap>(
     space: Option<IndexSpace>,
     indices: &M,
 ) -> Result<(), RemapError<M::Error>>
-    ensures ok { OnOk result (items.new ≡ map (mapped_first (M.mapped indices.now) space) items.old) }
+    ensures ok { OnOk result ((m : Mapping) → Follows (M.mapped indices.now) (M.rejects indices.now) m → items.new ≡ map (mapped_first m space) items.old) }
     ensures err { IfErr result (λ e. ComesFrom (M.rejects indices.now) e) }
 {
     for item in items.iter_mut() {

@@ -8,7 +8,7 @@ ghost use Rattle.wasm_immediates.specs.declared.memory.MemArg.{MemArg};
 ghost use Rattle.wasm_insn.specs.Views.{argument_view};
 ghost use Rattle.wasm_insn.specs.Words.{Plain as PlainModel, plain_view};
 ghost use Rattle.wasm_remap.specs.Instructions.{remapped_argument, remapped_arguments, remapped_block, remapped_body, remapped_catch, remapped_handle, remapped_instruction, remapped_memory, spaces_after};
-ghost use Rattle.wasm_remap.specs.Mapping.{ComesFrom};
+ghost use Rattle.wasm_remap.specs.Mapping.{ComesFrom, Follows, Mapping};
 
 use crate::indexed::{Indexed, Remap, RemapError, mapped, mapped_number, remap_each};
 use crate::spaces::{IndexSpace, spaces_of};
@@ -99,7 +99,7 @@ fn remap_argument<A: Allocator + Copy, M: Remap>(
     alloc: A,
     indices: &M,
 ) -> Result<(Option<IndexSpace>, Option<IndexSpace>), RemapError<M::Error>>
-    ensures ok { IfOk result (λ _. argument_view argument.new ≡ remapped_argument (M.mapped indices.now) spaces (argument_view argument.old)) }
+    ensures ok { IfOk result (λ _. (m : Mapping) → Follows (M.mapped indices.now) (M.rejects indices.now) m → argument_view argument.new ≡ remapped_argument m spaces (argument_view argument.old)) }
     ensures after { IfOk result (λ after. after ≡ spaces_after (argument_view argument.old) spaces) }
     ensures err { IfErr result (λ e. ComesFrom (M.rejects indices.now) e) }
 {
@@ -135,7 +135,7 @@ fn remap_arguments<A: Allocator + Copy, M: Remap>(
     alloc: A,
     indices: &M,
 ) -> Result<(), RemapError<M::Error>>
-    ensures ok { OnOk result (map argument_view arguments.new ≡ remapped_arguments (M.mapped indices.now) spaces (map argument_view arguments.old)) }
+    ensures ok { OnOk result ((m : Mapping) → Follows (M.mapped indices.now) (M.rejects indices.now) m → map argument_view arguments.new ≡ remapped_arguments m spaces (map argument_view arguments.old)) }
     ensures err { IfErr result (λ e. ComesFrom (M.rejects indices.now) e) }
 {
     let mut spaces = spaces;

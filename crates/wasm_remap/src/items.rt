@@ -4,7 +4,7 @@ ghost use Rattle.wasm_base.specs.Minimal.{both_grammars};
 ghost use Rattle.wasm_base.specs.Numbers.{admitted};
 ghost use Rattle.wasm_reader.specs.Kinds.{contents_of, grammars_of};
 ghost use Rattle.wasm_reader.specs.Sections.{AppendsContentIn};
-ghost use Rattle.wasm_remap.specs.Mapping.{ComesFrom};
+ghost use Rattle.wasm_remap.specs.Mapping.{ComesFrom, Follows, Mapping};
 ghost use Rattle.wasm_remap.specs.Sections.{RemapsSection, remapped};
 
 use crate::bodies::remap_bodies;
@@ -15,16 +15,12 @@ use wasm_base::{Refused, Standard};
 use wasm_reader::{Items, Section, SectionKind, encode_items, encode_items_in};
 
 /// Maps each index of the items of a section. After an error, some of them are mapped.
-///
-/// # Errors
-///
-/// Returns the error of the map if it rejects an index, and `Memory` if an allocation fails.
-pub fn remap_items<A: Allocator + Copy, M: Remap>(
+fn remap_content<A: Allocator + Copy, M: Remap>(
     items: &mut Items<'_, A>,
     alloc: A,
     indices: &M,
 ) -> Result<(), RemapError<M::Error>>
-    ensures ok { OnOk result (contents_of items.new ≡ remapped (M.mapped indices.now) (contents_of items.old)) }
+    ensures ok { OnOk result ((m : Mapping) → Follows (M.mapped indices.now) (M.rejects indices.now) m → contents_of items.new ≡ remapped m (contents_of items.old)) }
     ensures err { IfErr result (λ e. ComesFrom (M.rejects indices.now) e) }
 {
     match items {
@@ -44,6 +40,9 @@ pub fn remap_items<A: Allocator + Copy, M: Remap>(
         Items::Names(items) => remap_each(items, alloc, indices),
         Items::Linking(items) => remap_each(items, alloc, indices),
         Items::Hints(items) => remap_each(items, alloc, indices),
+        Items::InstructionFrequencies(items) => remap_each(items, alloc, indices),
+        Items::CompilationOrders(items) => remap_each(items, alloc, indices),
+        Items::CallTargets(items) => remap_each(items, alloc, indices),
         Items::CoreInstances(items) => remap_each(items, alloc, indices),
         Items::Types(items) => remap_each(items, alloc, indices),
         Items::Relocations { relocations, .. } => remap_each(relocations, alloc, indices),
@@ -63,6 +62,26 @@ pub fn remap_items<A: Allocator + Copy, M: Remap>(
         | Items::Dylink(_) => Ok(()),
         // end: written by tools/kinds
     }
+}
+
+/// Maps each index of the items of a section. After an error, some of them are mapped.
+///
+/// The items depend on the new indices of accepted ones alone: no index that the map rejects is among
+/// those of the old items.
+///
+/// # Errors
+///
+/// Returns the error of the map if it rejects an index, and `Memory` if an allocation fails.
+pub fn remap_items<A: Allocator + Copy, M: Remap>(
+    items: &mut Items<'_, A>,
+    alloc: A,
+    indices: &M,
+) -> Result<(), RemapError<M::Error>>
+    ensures ok { OnOk result (contents_of items.new ≡ remapped (M.mapped indices.now) (contents_of items.old)) }
+    ensures every { OnOk result ((m : Mapping) → Follows (M.mapped indices.now) (M.rejects indices.now) m → contents_of items.new ≡ remapped m (contents_of items.old)) }
+    ensures err { IfErr result (λ e. ComesFrom (M.rejects indices.now) e) }
+{
+    remap_content(items, alloc, indices)
 }
 
 /// Returns `true` if the encoding that builders write of items of this kind is minimal in the
@@ -86,7 +105,7 @@ fn is_minimal_when_built(kind: SectionKind) -> bool
 
 /// Appends the minimal encoding of the items in the standard's grammar. On an error, the sink is
 /// unchanged.
-fn append_items<A: Allocator + Copy, B: Allocator>(
+pub(crate) fn append_items<A: Allocator + Copy, B: Allocator>(
     items: &Items<'_, A>,
     alloc: A,
     sink: &mut Vec<u8, B>,
@@ -126,13 +145,14 @@ pub fn remap_section<A: Allocator + Copy, M: Remap, B: Allocator>(
     sink: &mut Vec<u8, B>,
 ) -> Result<(), RemapError<M::Error>>
     ensures ok { OnOk result (RemapsSection (M.mapped indices.now) section.now.section sink.old.items sink.new.items) }
+    ensures every { OnOk result ((m : Mapping) → Follows (M.mapped indices.now) (M.rejects indices.now) m → RemapsSection m section.now.section sink.old.items sink.new.items) }
     ensures err { OnErr result (sink.new.items ≡ sink.old.items) }
 {
     if let Some(SectionKind::Bodies) = section.kind() {
         return remap_bodies(section, alloc, indices, sink);
     }
     let mut items = section.items()?;
-    remap_items(&mut items, alloc, indices)?;
+    remap_content(&mut items, alloc, indices)?;
     append_items(&items, alloc, sink)?;
     Ok(())
 }

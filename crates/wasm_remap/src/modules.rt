@@ -1,7 +1,9 @@
-// Modules whose indices are mapped.
+// Modules whose sections are changed one after another, and those whose indices are mapped.
 ghost use Rattle.std.specs.Prelude.{◌≡◌, ℕ, List, [], IfOk, OnOk};
 ghost use Rattle.wasm_base.specs.Calls.{DecodesOneMore};
-ghost use Rattle.wasm_remap.specs.Sections.{RemapsModule, RemapsSection};
+ghost use Rattle.wasm_reader.specs.Words.{Section as SectionModel};
+ghost use Rattle.wasm_remap.specs.Mapping.{Follows, Mapping};
+ghost use Rattle.wasm_remap.specs.Sections.{ChangesModule, RemapsModule, RemapsSection};
 
 use crate::indexed::{Remap, RemapError};
 use crate::items::remap_section;
@@ -9,23 +11,86 @@ use std::alloc::Allocator;
 use wasm_base::{Module, RawSection};
 use wasm_reader::{Offsets, Section, Sections};
 
-/// Appends a section with each index mapped to a module.
-fn append_remapped<A: Allocator + Copy, M: Remap>(
+/// A change of each section of a module.
+pub(crate) trait Change {
+    /// The reason for which an index is rejected.
+    type Error;
+
+    // The bytes are the payload of the new section for this one.
+    ghost changes: { Self → SectionModel → List ℕ → Type 0 };
+
+    /// Returns the payload of the new section.
+    fn payload<A: Allocator + Copy>(
+        &self,
+        section: &Section<'_, A>,
+        alloc: A,
+    ) -> Result<Vec<u8, A>, RemapError<Self::Error>>
+        ensures { IfOk result (λ new. changes self.now section.now.section new.items) };
+}
+
+/// Appends the changed section to a module.
+fn append_changed<A: Allocator + Copy, C: Change>(
     section: &Section<'_, A>,
     alloc: A,
-    indices: &M,
+    change: &C,
     module: &mut Module<A>,
-) -> Result<(), RemapError<M::Error>>
-    ensures ok { OnOk result ((payload : List ℕ) × RemapsSection (M.mapped indices.now) section.now.section [] payload × DecodesOneMore (λ p. p ≡ payload) section.now.section.id module.old module.new) }
+) -> Result<(), RemapError<C::Error>>
+    ensures { OnOk result ((payload : List ℕ) × C.changes change.now section.now.section payload × DecodesOneMore (λ p. p ≡ payload) section.now.section.id module.old module.new) }
 {
-    let mut payload = Vec::new(alloc);
-    remap_section(section, alloc, indices, &mut payload)?;
-    let remapped = RawSection {
+    let payload = change.payload(section, alloc)?;
+    let changed = RawSection {
         id: section.id(),
         bytes: &payload,
     };
-    module.section(&remapped)?;
+    module.section(&changed)?;
     Ok(())
+}
+
+/// Returns a module whose sections are changed. Those that hold offsets are left out, or an error.
+pub(crate) fn change_module<A: Allocator + Copy, C: Change>(
+    bytes: &[u8],
+    alloc: A,
+    change: &C,
+    offsets: Offsets,
+) -> Result<Vec<u8, A>, RemapError<C::Error>>
+    ensures { IfOk result (λ new. ChangesModule (C.changes change.now) offsets bytes.now new.items) }
+{
+    let mut sections = Sections::new(alloc, bytes)?;
+    let mut module = Module::new(alloc)?;
+    loop {
+        let section = match sections.next() {
+            None => return Ok(module.finish()),
+            Some(section) => section?,
+        };
+        if section.has_offsets() {
+            match offsets {
+                Offsets::Refuse => return Err(RemapError::Offsets(section.offset())),
+                Offsets::LeaveOut => {}
+            }
+        } else {
+            append_changed(&section, alloc, change, &mut module)?;
+        }
+    }
+}
+
+/// The change that maps each index.
+#[derive(Clone, Copy)]
+struct Remapped<'m, M>(&'m M);
+
+impl<M: Remap> Change for Remapped<'_, M> {
+    type Error = M::Error;
+
+    ghost changes = { λ by s payload. (m : Mapping) → Follows (M.mapped by.0.now) (M.rejects by.0.now) m → RemapsSection m s [] payload };
+
+    fn payload<A: Allocator + Copy>(
+        &self,
+        section: &Section<'_, A>,
+        alloc: A,
+    ) -> Result<Vec<u8, A>, RemapError<M::Error>> {
+        let mut payload = Vec::new(alloc);
+        remap_section(section, alloc, self.0, &mut payload)?;
+        Ok(payload)
+    }
 }
 
 /// Returns a module with each index mapped.
@@ -49,22 +114,8 @@ pub fn remap_module<A: Allocator + Copy, M: Remap>(
     indices: &M,
     offsets: Offsets,
 ) -> Result<Vec<u8, A>, RemapError<M::Error>>
-    ensures { IfOk result (λ new. RemapsModule (M.mapped indices.now) offsets bytes.now new.items) }
+    ensures ok { IfOk result (λ new. RemapsModule (M.mapped indices.now) offsets bytes.now new.items) }
+    ensures every { IfOk result (λ new. (m : Mapping) → Follows (M.mapped indices.now) (M.rejects indices.now) m → RemapsModule m offsets bytes.now new.items) }
 {
-    let mut sections = Sections::new(alloc, bytes)?;
-    let mut module = Module::new(alloc)?;
-    loop {
-        let section = match sections.next() {
-            None => return Ok(module.finish()),
-            Some(section) => section?,
-        };
-        if section.has_offsets() {
-            match offsets {
-                Offsets::Refuse => return Err(RemapError::Offsets(section.offset())),
-                Offsets::LeaveOut => {}
-            }
-        } else {
-            append_remapped(&section, alloc, indices, &mut module)?;
-        }
-    }
+    change_module(bytes, alloc, &Remapped(indices), offsets)
 }

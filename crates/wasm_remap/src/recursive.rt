@@ -6,7 +6,7 @@ ghost use Rattle.wasm_types.specs.Items.{entry_view, sub_view};
 ghost use Rattle.wasm_types.specs.RecTypes.{Composite, Shape, Sub, TypeItem};
 ghost use Rattle.wasm_types.specs.declared.types.FieldType.{FieldType};
 ghost use Rattle.wasm_types.specs.declared.types.StorageType.{StorageType};
-ghost use Rattle.wasm_remap.specs.Mapping.{ComesFrom};
+ghost use Rattle.wasm_remap.specs.Mapping.{ComesFrom, Follows, Mapping};
 ghost use Rattle.wasm_remap.specs.Types.{remapped_composite, remapped_field, remapped_shape, remapped_storage, remapped_sub, remapped_type};
 ghost use Rattle.wasm_remap.specs.declared.spaces.IndexSpace.TheVariants as spaces;
 
@@ -87,7 +87,7 @@ fn mapped_type<M: Remap>(
     indices: &M,
     index: Option<u32>,
 ) -> Result<Option<u32>, RemapError<M::Error>>
-    ensures ok { IfOk result (λ n. n ≡ option_map (M.mapped indices.now spaces.Types) index) }
+    ensures ok { IfOk result (λ n. (m : Mapping) → Follows (M.mapped indices.now) (M.rejects indices.now) m → n ≡ option_map (m spaces.Types) index) }
     ensures err { IfErr result (λ e. ComesFrom (M.rejects indices.now) e) }
 {
     match index {

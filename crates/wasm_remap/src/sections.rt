@@ -10,7 +10,7 @@ ghost use Rattle.wasm_sections.specs.declared.import.EntityType.{EntityType};
 ghost use Rattle.wasm_sections.specs.declared.table.TableType.{TableType};
 ghost use Rattle.wasm_sections.specs.declared.tag.TagType.{TagType};
 ghost use Rattle.wasm_remap.specs.Items.{remapped_data, remapped_element, remapped_elements, remapped_entity, remapped_export, remapped_global, remapped_global_type, remapped_import, remapped_mode, remapped_table, remapped_table_index, remapped_table_type, remapped_tag, space_of_export};
-ghost use Rattle.wasm_remap.specs.Mapping.{ComesFrom};
+ghost use Rattle.wasm_remap.specs.Mapping.{ComesFrom, Follows, Mapping};
 
 use crate::indexed::{Indexed, Remap, RemapError, mapped, remap_each, remap_numbers};
 use crate::spaces::IndexSpace;
@@ -67,16 +67,19 @@ impl<A: Allocator + Copy> Indexed<A> for EntityType {
 
     fn remap<M: Remap>(&mut self, alloc: A, indices: &M) -> Result<(), RemapError<M::Error>> {
         match self {
-            EntityType::Function(index) => *index = mapped(indices, IndexSpace::Types, *index)?,
+            EntityType::Function(index) => {
+                *index = mapped(indices, IndexSpace::Types, *index)?;
+                Ok(())
+            }
             EntityType::FunctionExact(index) => {
                 *index = mapped(indices, IndexSpace::Types, *index)?;
+                Ok(())
             }
-            EntityType::Table(ty) => ty.remap(alloc, indices)?,
-            EntityType::Memory(_) => {}
-            EntityType::Global(ty) => ty.remap(alloc, indices)?,
-            EntityType::Tag(ty) => ty.remap(alloc, indices)?,
+            EntityType::Table(ty) => ty.remap(alloc, indices),
+            EntityType::Memory(_) => Ok(()),
+            EntityType::Global(ty) => ty.remap(alloc, indices),
+            EntityType::Tag(ty) => ty.remap(alloc, indices),
         }
-        Ok(())
     }
 }
 
@@ -174,7 +177,7 @@ fn mapped_table<M: Remap>(
     indices: &M,
     table: Option<u32>,
 ) -> Result<Option<u32>, RemapError<M::Error>>
-    ensures ok { IfOk result (λ n. n ≡ remapped_table_index (M.mapped indices.now) table) }
+    ensures ok { IfOk result (λ n. (m : Mapping) → Follows (M.mapped indices.now) (M.rejects indices.now) m → n ≡ remapped_table_index m table) }
     ensures err { IfErr result (λ e. ComesFrom (M.rejects indices.now) e) }
 {
     match table {

@@ -3,7 +3,7 @@ ghost use Rattle.std.specs.Prelude.{◌≡◌, ℕ, IfOk, List, map};
 ghost use Rattle.wasm_base.specs.Formats.{vec};
 ghost use Rattle.wasm_base.specs.Minimal.{IsFrontOf};
 ghost use Rattle.wasm_base.specs.Numbers.{Mode};
-ghost use Rattle.wasm_remap.specs.Mapping.{Mapping};
+ghost use Rattle.wasm_remap.specs.Mapping.{Follows, Mapping};
 ghost use Rattle.wasm_remap.specs.Streamed.{Remaps};
 ghost use Rattle.wasm_remap.specs.declared.streamed.Stopped.TheVariants as stops;
 ghost use Rattle.wasm_remap.specs.declared.indexed.RemapError.TheVariants as errors;
@@ -73,7 +73,7 @@ pub(crate) trait Streamed<A: Allocator + Copy> {
         indices: &M,
         sink: &mut Vec<u8, B>,
     ) -> Result<&'a [u8], Stopped<M::Error>>
-        ensures found { IfOk result (λ rest. Remaps (image (M.mapped indices.now)) format bytes.now rest.now sink.old.items sink.new.items) }
+        ensures found { IfOk result (λ rest. (m : Mapping) → Follows (M.mapped indices.now) (M.rejects indices.now) m → Remaps (image m) format bytes.now rest.now sink.old.items sink.new.items) }
         ensures front { IsFrontOf sink.old.items sink.new.items };
 }
 
@@ -86,7 +86,7 @@ pub(crate) fn append_many<'a, T: Streamed<A>, A: Allocator + Copy, M: Remap, B: 
     indices: &M,
     sink: &mut Vec<u8, B>,
 ) -> Result<&'a [u8], Stopped<M::Error>>
-    ensures found { IfOk result (λ rest. Remaps (map (T.image (M.mapped indices.now))) (vec T.format) bytes.now rest.now sink.old.items sink.new.items) }
+    ensures found { IfOk result (λ rest. (m : Mapping) → Follows (M.mapped indices.now) (M.rejects indices.now) m → Remaps (map (T.image m)) (vec T.format) bytes.now rest.now sink.old.items sink.new.items) }
     ensures front { IsFrontOf sink.old.items sink.new.items }
 {
     let (count, mut rest) = <u32 as Readable<'a, A, Standard>>::read(bytes, alloc)?;

@@ -174,7 +174,7 @@ int main(void) {
     shorten(DZ_NAMES, "\x0C\x84\x00name\x00\x83\x00\x82\x00m", 13);
     shorten(DZ_NAMES, "\x0C\x84\x00name\x00\x83\x00\x81\x00m", 13);
     shorten(DZ_TAGS, "\x03\x01\x01\x00", 4);
-    shorten(29, "", 0);
+    shorten(32, "", 0);
     outline((const uint8_t *)outlined, sizeof outlined - 1);
     outline((const uint8_t *)outlined, 9);
     shorten_module(outlined, sizeof outlined - 1, 0);

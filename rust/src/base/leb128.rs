@@ -220,7 +220,7 @@ impl Encode for usize {
 ///
 /// Definitions: [`signed_encoding`](crate::definitions::base::numbers::signed_encoding). [How to read clauses](crate::definitions).
 impl Encode for i32 {
-    #[inline]
+    #[inline(always)]
     fn encode<A: Sink>(&self, sink: &mut A) -> Result<()> {
         append_signed(sink, i64::from(*self))
     }
@@ -237,7 +237,7 @@ impl Encode for i32 {
 ///
 /// Definitions: [`signed_encoding`](crate::definitions::base::numbers::signed_encoding). [How to read clauses](crate::definitions).
 impl Encode for i64 {
-    #[inline]
+    #[inline(always)]
     fn encode<A: Sink>(&self, sink: &mut A) -> Result<()> {
         append_signed(sink, *self)
     }

@@ -1,8 +1,11 @@
 // Written by tools/to-rust from crates/wasm_custom/src/checks.rt: change that.
 // Checks that payloads of custom sections decode. No item is kept.
 
+use crate::custom::call_targets::walk_call_targets;
+use crate::custom::compilation_orders::walk_orders;
 use crate::custom::core_walks::{walk_instances, walk_modules, walk_stack};
 use crate::custom::dylink_walks::walk_dylink;
+use crate::custom::instruction_frequencies::walk_frequencies;
 use crate::custom::item_walks::{walk_features, walk_hints, walk_producers, walk_relocations};
 use crate::custom::link_walks::walk_links;
 use crate::custom::name_walks::walk_names;
@@ -257,6 +260,133 @@ pub fn check_hints<'a, A: Allocator + Copy, G: Grammar>(
     alloc: A,
 ) -> Result<(), DecodeError> {
     walk_hints::<A, G, _>(bytes, alloc, &mut Discard)
+}
+
+/// Checks that the bytes are the payload of an instruction frequency section, in the grammar `G`.
+/// No item is kept.
+///
+/// # Errors
+///
+/// An error means that the bytes are not such a payload.
+///
+/// # Examples
+///
+/// ```
+/// use dolzhytik::fallible::{Global, check_frequencies};
+/// use dolzhytik::reader::Standard;
+///
+/// // Function 0 has one hint.
+/// let payload = b"\x18metadata.code.instr_freq\x01\x00\x01\x05\x01\x20";
+/// check_frequencies::<_, Standard>(payload, Global)?;
+/// // The last byte is missing.
+/// assert!(check_frequencies::<_, Standard>(&payload[..payload.len() - 1], Global).is_err());
+/// # Ok::<(), dolzhytik::reader::DecodeError>(())
+/// ```
+///
+/// # Proved
+///
+/// After `Ok`: `found`, the bytes as a whole are such an encoding. After an error: `none`, the bytes as a whole are no such encoding, unless the cause is `Memory`.
+///
+/// ```text
+/// ensures found { OnOk result
+///     ((x : List Frequencies) × frequencies_payload (padded_of G.grammar) bytes.now x) }
+/// ensures none { IfErr result
+///     (λ e. e.cause ≢ Memory → RejectsWhole frequencies_payload
+///         (padded_of G.grammar) bytes.now) }
+/// ensures no_memory { IfErr result (λ e. e.cause ≢ Memory) }
+/// ```
+///
+/// Definitions: [`Frequencies`](crate::definitions::custom::code_metadata::Frequencies), [`frequencies_payload`](crate::definitions::custom::code_metadata::frequencies_payload), [`padded_of`](crate::definitions::base::numbers::padded_of), [`RejectsWhole`](crate::definitions::base::continuing::RejectsWhole). [How to read clauses](crate::definitions).
+pub fn check_frequencies<'a, A: Allocator + Copy, G: Grammar>(
+    bytes: &'a [u8],
+    alloc: A,
+) -> Result<(), DecodeError> {
+    walk_frequencies::<A, G, _>(bytes, alloc, &mut Discard)
+}
+
+/// Checks that the bytes are the payload of a compilation order section, in the grammar `G`. No
+/// item is kept.
+///
+/// # Errors
+///
+/// An error means that the bytes are not such a payload.
+///
+/// # Examples
+///
+/// ```
+/// use dolzhytik::fallible::{Global, check_orders};
+/// use dolzhytik::reader::Standard;
+///
+/// // Function 0 has one hint.
+/// let payload = b"\x1fmetadata.code.compilation_order\x01\x00\x01\x00\x01\x03";
+/// check_orders::<_, Standard>(payload, Global)?;
+/// // The last byte is missing.
+/// assert!(check_orders::<_, Standard>(&payload[..payload.len() - 1], Global).is_err());
+/// # Ok::<(), dolzhytik::reader::DecodeError>(())
+/// ```
+///
+/// # Proved
+///
+/// After `Ok`: `found`, the bytes as a whole are such an encoding. After an error: `none`, the bytes as a whole are no such encoding, unless the cause is `Memory`.
+///
+/// ```text
+/// ensures found { OnOk result
+///     ((x : List Orders) × orders_payload (padded_of G.grammar) bytes.now x) }
+/// ensures none { IfErr result
+///     (λ e. e.cause ≢ Memory → RejectsWhole orders_payload
+///         (padded_of G.grammar) bytes.now) }
+/// ensures no_memory { IfErr result (λ e. e.cause ≢ Memory) }
+/// ```
+///
+/// Definitions: [`Orders`](crate::definitions::custom::code_metadata::Orders), [`orders_payload`](crate::definitions::custom::code_metadata::orders_payload), [`padded_of`](crate::definitions::base::numbers::padded_of), [`RejectsWhole`](crate::definitions::base::continuing::RejectsWhole). [How to read clauses](crate::definitions).
+pub fn check_orders<'a, A: Allocator + Copy, G: Grammar>(
+    bytes: &'a [u8],
+    alloc: A,
+) -> Result<(), DecodeError> {
+    walk_orders::<A, G, _>(bytes, alloc, &mut Discard)
+}
+
+/// Checks that the bytes are the payload of a call target section, in the grammar `G`. No item is
+/// kept.
+///
+/// # Errors
+///
+/// An error means that the bytes are not such a payload.
+///
+/// # Examples
+///
+/// ```
+/// use dolzhytik::fallible::{Global, check_call_targets};
+/// use dolzhytik::reader::Standard;
+///
+/// // Function 0 has one hint.
+/// let payload = b"\x1ametadata.code.call_targets\x01\x00\x01\x05\x02\x07\x5a";
+/// check_call_targets::<_, Standard>(payload, Global)?;
+/// // The last byte is missing.
+/// assert!(check_call_targets::<_, Standard>(&payload[..payload.len() - 1], Global).is_err());
+/// # Ok::<(), dolzhytik::reader::DecodeError>(())
+/// ```
+///
+/// # Proved
+///
+/// After `Ok`: `found`, the bytes as a whole are such an encoding. After an error: `none`, the bytes as a whole are no such encoding, unless the cause is `Memory`.
+///
+/// ```text
+/// ensures found { OnOk result
+///     ((x : List HintedTargets) × call_targets_payload (padded_of G.grammar) bytes.now x)
+///     }
+/// ensures none { IfErr result
+///     (λ e. e.cause ≢ Memory → RejectsWhole call_targets_payload
+///         (padded_of G.grammar) bytes.now) }
+/// ensures no_memory { IfErr result (λ e. e.cause ≢ Memory) }
+/// ```
+///
+/// Definitions: [`HintedTargets`](crate::definitions::custom::code_metadata::HintedTargets), [`call_targets_payload`](crate::definitions::custom::code_metadata::call_targets_payload), [`padded_of`](crate::definitions::base::numbers::padded_of), [`RejectsWhole`](crate::definitions::base::continuing::RejectsWhole). [How to read clauses](crate::definitions).
+pub fn check_call_targets<'a, A: Allocator + Copy, G: Grammar>(
+    bytes: &'a [u8],
+    alloc: A,
+) -> Result<(), DecodeError> {
+    walk_call_targets::<A, G, _>(bytes, alloc, &mut Discard)
 }
 
 /// Checks that the bytes are the payload of a relocation section, in the grammar `G`. No item is

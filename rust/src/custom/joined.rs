@@ -2,7 +2,11 @@
 //! The custom sections of entries, and the lists in them, over [`Entries`]: each keeps the bytes of
 //! its entries and their number. It does not keep where an entry ends.
 
+use crate::vec::Vec;
+use crate::custom::call_targets::CallTarget;
+use crate::custom::code_metadata::HintsOf;
 use crate::custom::comdats::{ComdatMembers, ComdatSymbolMembers};
+use crate::custom::compilation_orders::CompilationOrder;
 use crate::custom::core_dumps::{InstanceItems, ModuleItems};
 use crate::custom::core_stack::CoreDumpStackIn;
 use crate::custom::dylink::DylinkItems;
@@ -10,6 +14,7 @@ use crate::custom::dylink_symbols::{ExportFlagMembers, ImportFlagMembers, Needed
 use crate::custom::entries::CustomEntries;
 use crate::custom::hints::HintItems;
 use crate::custom::init_functions::InitMembers;
+use crate::custom::instruction_frequencies::InstructionFrequency;
 use crate::custom::linking::LinkingItems;
 use crate::custom::lists::CountedList;
 use crate::custom::names::{IndirectMembers, NameItems, NameMembers};
@@ -24,6 +29,25 @@ use crate::base::Entries;
 
 /// Branch hints.
 pub type BranchHints<A = Global> = CustomEntries<HintItems, Entries<A>>;
+
+/// Call targets.
+///
+/// # Examples
+///
+/// ```
+/// use dolzhytik::fallible::{CallTarget, CallTargets, CodeHint, Encode, Global, Vec};
+///
+/// let target = CallTarget { function_index: 9, percent: 90 };
+/// let value = Vec::from_slice(Global, &[target])?;
+/// let mut targets = CallTargets::new(Global);
+/// targets.function_hints(7, [CodeHint { offset: 3, value }])?;
+/// let mut bytes = vec![];
+/// targets.encode(&mut bytes)?;
+/// // Size 34, the name; one function, 7, with one hint: offset 3, two bytes, function 9, 90 percent.
+/// assert_eq!(bytes, *b"\x22\x1ametadata.code.call_targets\x01\x07\x01\x03\x02\x09\x5a");
+/// # Ok::<(), dolzhytik::fallible::Refused>(())
+/// ```
+pub type CallTargets<A = Global> = CustomEntries<HintsOf<Vec<CallTarget, A>>, Entries<A>>;
 
 /// The members of a COMDAT group.
 ///
@@ -46,6 +70,24 @@ pub type ComdatSymbols<A = Global> = CountedList<ComdatSymbolMembers, Entries<A>
 
 /// The COMDAT groups of a module.
 pub type Comdats<A = Global> = CountedList<ComdatMembers, Entries<A>>;
+
+/// Compilation orders.
+///
+/// # Examples
+///
+/// ```
+/// use dolzhytik::fallible::{CodeHint, CompilationOrder, CompilationOrders, Encode, Global};
+///
+/// let value = CompilationOrder { order: 1, hotness: Some(5) };
+/// let mut orders = CompilationOrders::new(Global);
+/// orders.function_hints(7, [CodeHint { offset: 0, value }])?;
+/// let mut bytes = vec![];
+/// orders.encode(&mut bytes)?;
+/// // Size 39, the name; one function, 7, with one hint: offset 0, two bytes, order 1, hotness 5.
+/// assert_eq!(bytes, *b"\x27\x1fmetadata.code.compilation_order\x01\x07\x01\0\x02\x01\x05");
+/// # Ok::<(), dolzhytik::fallible::Refused>(())
+/// ```
+pub type CompilationOrders<A = Global> = CustomEntries<HintsOf<CompilationOrder>, Entries<A>>;
 
 /// The instances of a core dump.
 pub type CoreDumpInstancesSection<A = Global> = CustomEntries<InstanceItems, Entries<A>>;
@@ -162,6 +204,27 @@ pub type IndirectNameMap<A = Global> = CountedList<IndirectMembers, Entries<A>>;
 
 /// The init functions of an object file.
 pub type InitFunctions<A = Global> = CountedList<InitMembers, Entries<A>>;
+
+/// Instruction frequencies.
+///
+/// # Examples
+///
+/// ```
+/// use dolzhytik::fallible::{CodeHint, Encode, Global, InstructionFrequencies, InstructionFrequency};
+///
+/// let hint = CodeHint { offset: 3, value: InstructionFrequency(32) };
+/// let mut frequencies = InstructionFrequencies::new(Global);
+/// frequencies.function_hints(7, [hint])?;
+/// let mut bytes = vec![];
+/// frequencies.encode(&mut bytes)?;
+/// // Size 31, the name; one function, 7, with one hint: offset 3, one byte, frequency 32.
+/// assert_eq!(bytes, *b"\x1f\x18metadata.code.instr_freq\x01\x07\x01\x03\x01\x20");
+/// # Ok::<(), dolzhytik::fallible::Refused>(())
+/// ```
+pub type InstructionFrequencies<A = Global> = CustomEntries<
+    HintsOf<InstructionFrequency>,
+    Entries<A>,
+>;
 
 /// The linking section.
 pub type LinkingSection<A = Global> = CustomEntries<LinkingItems, Entries<A>>;

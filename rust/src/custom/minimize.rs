@@ -2,8 +2,11 @@
 // Minimizes payloads of custom sections. No item is kept.
 
 use crate::vec::Sink;
+use crate::custom::call_targets::walk_call_targets;
+use crate::custom::compilation_orders::walk_orders;
 use crate::custom::core_walks::{walk_instances, walk_modules, walk_stack};
 use crate::custom::dylink_walks::walk_dylink;
+use crate::custom::instruction_frequencies::walk_frequencies;
 use crate::custom::item_walks::{walk_features, walk_hints, walk_producers, walk_relocations};
 use crate::custom::link_walks::walk_links;
 use crate::custom::name_walks::walk_names;
@@ -280,6 +283,143 @@ pub fn minimize_hints<'a, A: Allocator + Copy, G: Grammar, B: Sink>(
     sink: &mut B,
 ) -> Result<(), DecodeError> {
     walk_hints::<A, G, _>(bytes, alloc, sink)
+}
+
+/// Appends the minimal encoding, in the grammar `G`, of the payload of an instruction frequency
+/// section. After an error, part of it may follow the old bytes of the sink.
+///
+/// # Errors
+///
+/// Every error except `Memory` means that the bytes are not such a payload.
+///
+/// # Examples
+///
+/// ```
+/// use dolzhytik::fallible::{Global, minimize_frequencies};
+/// use dolzhytik::reader::Standard;
+///
+/// // The size of the one hint has two bytes: offset 5, frequency 32.
+/// let payload = b"\x18metadata.code.instr_freq\x01\x00\x01\x05\x81\x00\x20";
+/// let mut minimal = vec![];
+/// minimize_frequencies::<_, Standard, _>(payload, Global, &mut minimal)?;
+/// assert_eq!(minimal, *b"\x18metadata.code.instr_freq\x01\x00\x01\x05\x01\x20");
+/// # Ok::<(), dolzhytik::reader::DecodeError>(())
+/// ```
+///
+/// # Proved
+///
+/// - After `Ok`, `found`: The bytes as a whole decode to a value in this grammar, and the call appends the minimal encoding of the value in this grammar.
+/// - After an error, `none`: the bytes as a whole are no such encoding, unless the cause is `Memory`.
+/// - `front`: The new bytes begin with the old ones.
+///
+/// ```text
+/// ensures found { OnOk result
+///     (MinimizesWhole G.grammar frequencies_payload bytes.now sink.old.items
+///         sink.new.items) }
+/// ensures none { IfErr result
+///     (λ e. e.cause ≢ Memory → RejectsWhole frequencies_payload
+///         (padded_of G.grammar) bytes.now) }
+/// ensures front { IsFrontOf sink.old.items sink.new.items }
+/// ```
+///
+/// Definitions: [`MinimizesWhole`](crate::definitions::base::minimal::MinimizesWhole), [`frequencies_payload`](crate::definitions::custom::code_metadata::frequencies_payload), [`RejectsWhole`](crate::definitions::base::continuing::RejectsWhole), [`padded_of`](crate::definitions::base::numbers::padded_of), [`IsFrontOf`](crate::definitions::base::minimal::IsFrontOf). [How to read clauses](crate::definitions).
+pub fn minimize_frequencies<'a, A: Allocator + Copy, G: Grammar, B: Sink>(
+    bytes: &'a [u8],
+    alloc: A,
+    sink: &mut B,
+) -> Result<(), DecodeError> {
+    walk_frequencies::<A, G, _>(bytes, alloc, sink)
+}
+
+/// Appends the minimal encoding, in the grammar `G`, of the payload of a compilation order section.
+/// After an error, part of it may follow the old bytes of the sink.
+///
+/// # Errors
+///
+/// Every error except `Memory` means that the bytes are not such a payload.
+///
+/// # Examples
+///
+/// ```
+/// use dolzhytik::fallible::{Global, minimize_orders};
+/// use dolzhytik::reader::Standard;
+///
+/// // The order of function 0, at offset 0, has two bytes.
+/// let payload = b"\x1fmetadata.code.compilation_order\x01\x00\x01\x00\x02\x83\x00";
+/// let mut minimal = vec![];
+/// minimize_orders::<_, Standard, _>(payload, Global, &mut minimal)?;
+/// assert_eq!(minimal, *b"\x1fmetadata.code.compilation_order\x01\x00\x01\x00\x01\x03");
+/// # Ok::<(), dolzhytik::reader::DecodeError>(())
+/// ```
+///
+/// # Proved
+///
+/// - After `Ok`, `found`: The bytes as a whole decode to a value in this grammar, and the call appends the minimal encoding of the value in this grammar.
+/// - After an error, `none`: the bytes as a whole are no such encoding, unless the cause is `Memory`.
+/// - `front`: The new bytes begin with the old ones.
+///
+/// ```text
+/// ensures found { OnOk result
+///     (MinimizesWhole G.grammar orders_payload bytes.now sink.old.items sink.new.items) }
+/// ensures none { IfErr result
+///     (λ e. e.cause ≢ Memory → RejectsWhole orders_payload
+///         (padded_of G.grammar) bytes.now) }
+/// ensures front { IsFrontOf sink.old.items sink.new.items }
+/// ```
+///
+/// Definitions: [`MinimizesWhole`](crate::definitions::base::minimal::MinimizesWhole), [`orders_payload`](crate::definitions::custom::code_metadata::orders_payload), [`RejectsWhole`](crate::definitions::base::continuing::RejectsWhole), [`padded_of`](crate::definitions::base::numbers::padded_of), [`IsFrontOf`](crate::definitions::base::minimal::IsFrontOf). [How to read clauses](crate::definitions).
+pub fn minimize_orders<'a, A: Allocator + Copy, G: Grammar, B: Sink>(
+    bytes: &'a [u8],
+    alloc: A,
+    sink: &mut B,
+) -> Result<(), DecodeError> {
+    walk_orders::<A, G, _>(bytes, alloc, sink)
+}
+
+/// Appends the minimal encoding, in the grammar `G`, of the payload of a call target section. After
+/// an error, part of it may follow the old bytes of the sink.
+///
+/// # Errors
+///
+/// Every error except `Memory` means that the bytes are not such a payload.
+///
+/// # Examples
+///
+/// ```
+/// use dolzhytik::fallible::{Global, minimize_call_targets};
+/// use dolzhytik::reader::Standard;
+///
+/// // The call at offset 5 has one target, function 7, whose index has two bytes.
+/// let payload = b"\x1ametadata.code.call_targets\x01\x00\x01\x05\x03\x87\x00\x5a";
+/// let mut minimal = vec![];
+/// minimize_call_targets::<_, Standard, _>(payload, Global, &mut minimal)?;
+/// assert_eq!(minimal, *b"\x1ametadata.code.call_targets\x01\x00\x01\x05\x02\x07\x5a");
+/// # Ok::<(), dolzhytik::reader::DecodeError>(())
+/// ```
+///
+/// # Proved
+///
+/// - After `Ok`, `found`: The bytes as a whole decode to a value in this grammar, and the call appends the minimal encoding of the value in this grammar.
+/// - After an error, `none`: the bytes as a whole are no such encoding, unless the cause is `Memory`.
+/// - `front`: The new bytes begin with the old ones.
+///
+/// ```text
+/// ensures found { OnOk result
+///     (MinimizesWhole G.grammar call_targets_payload bytes.now sink.old.items
+///         sink.new.items) }
+/// ensures none { IfErr result
+///     (λ e. e.cause ≢ Memory → RejectsWhole call_targets_payload
+///         (padded_of G.grammar) bytes.now) }
+/// ensures front { IsFrontOf sink.old.items sink.new.items }
+/// ```
+///
+/// Definitions: [`MinimizesWhole`](crate::definitions::base::minimal::MinimizesWhole), [`call_targets_payload`](crate::definitions::custom::code_metadata::call_targets_payload), [`RejectsWhole`](crate::definitions::base::continuing::RejectsWhole), [`padded_of`](crate::definitions::base::numbers::padded_of), [`IsFrontOf`](crate::definitions::base::minimal::IsFrontOf). [How to read clauses](crate::definitions).
+pub fn minimize_call_targets<'a, A: Allocator + Copy, G: Grammar, B: Sink>(
+    bytes: &'a [u8],
+    alloc: A,
+    sink: &mut B,
+) -> Result<(), DecodeError> {
+    walk_call_targets::<A, G, _>(bytes, alloc, sink)
 }
 
 /// Appends the minimal encoding, in the grammar `G`, of the payload of a relocation section. After

@@ -1,6 +1,7 @@
 // Written by tools/to-rust from crates/wasm_custom/src/lib.rt: change that.
 //! The custom sections of a WebAssembly module: names, linking, relocations, producers, target
-//! features, dynamic linking, branch hints, core dumps, and references to debug information.
+//! features, dynamic linking, branch hints, compilation hints, core dumps, and references to debug
+//! information.
 //!
 //! The crate builds these sections, decodes them, and writes decoded ones in their minimal
 //! encoding. A call that decodes receives the payload of a section: its name and its items, up to
@@ -8,13 +9,16 @@
 //! error except [`ReadFault::Memory`] means that the bytes encode no such items.
 //!
 //! The name section is that of the WebAssembly core specification, "Custom Sections", with further
-//! subsections. Branch hints are those of their proposal, and all others those of the tool
-//! conventions.
+//! subsections. Branch hints and compilation hints are those of their proposals, and all others
+//! those of the tool conventions.
 //!
 //! [`ReadFault::Memory`]: crate::base::ReadFault::Memory
 
+mod call_targets;
 mod checks;
+mod code_metadata;
 mod comdats;
+mod compilation_orders;
 mod core_dumps;
 mod core_stack;
 mod core_values;
@@ -28,6 +32,7 @@ mod dylink_walks;
 mod entries;
 mod hints;
 mod init_functions;
+mod instruction_frequencies;
 mod item_walks;
 pub mod joined;
 pub mod laws;
@@ -51,22 +56,37 @@ mod subsections;
 mod symbols;
 mod target_features;
 
+pub use call_targets::CallTarget;
+pub use call_targets::CallTargets;
+pub use call_targets::append_call_targets;
+pub use call_targets::read_call_targets;
+pub(crate) use call_targets::walk_call_targets;
+pub use checks::check_call_targets;
 pub use checks::check_dylink;
 pub use checks::check_features;
+pub use checks::check_frequencies;
 pub use checks::check_hints;
 pub use checks::check_instances;
 pub use checks::check_links;
 pub use checks::check_modules;
 pub use checks::check_names;
+pub use checks::check_orders;
 pub use checks::check_producers;
 pub use checks::check_relocations;
 pub use checks::check_stack;
+pub use code_metadata::CodeHint;
+pub use code_metadata::HintsOf;
 pub use comdats::Comdat;
 pub use comdats::ComdatMembers;
 pub use comdats::ComdatSymbol;
 pub use comdats::ComdatSymbolMembers;
 pub use comdats::ComdatSymbols;
 pub use comdats::Comdats;
+pub use compilation_orders::CompilationOrder;
+pub use compilation_orders::CompilationOrders;
+pub use compilation_orders::append_orders;
+pub use compilation_orders::read_orders;
+pub(crate) use compilation_orders::walk_orders;
 pub use core_dumps::CoreDumpInstancesSection;
 pub use core_dumps::CoreDumpModulesSection;
 pub use core_dumps::CoreDumpSection;
@@ -139,6 +159,11 @@ pub use hints::read_hints;
 pub use init_functions::InitFunction;
 pub use init_functions::InitFunctions;
 pub use init_functions::InitMembers;
+pub use instruction_frequencies::InstructionFrequencies;
+pub use instruction_frequencies::InstructionFrequency;
+pub use instruction_frequencies::append_frequencies;
+pub use instruction_frequencies::read_frequencies;
+pub(crate) use instruction_frequencies::walk_frequencies;
 pub(crate) use item_walks::walk_features;
 pub(crate) use item_walks::walk_hints;
 pub(crate) use item_walks::walk_producers;
@@ -152,13 +177,16 @@ pub use linking::read_links;
 pub use lists::CountedList;
 pub use lists::ListKind;
 pub(crate) use lists::MembersOf;
+pub use minimize::minimize_call_targets;
 pub use minimize::minimize_dylink;
 pub use minimize::minimize_features;
+pub use minimize::minimize_frequencies;
 pub use minimize::minimize_hints;
 pub use minimize::minimize_instances;
 pub use minimize::minimize_links;
 pub use minimize::minimize_modules;
 pub use minimize::minimize_names;
+pub use minimize::minimize_orders;
 pub use minimize::minimize_producers;
 pub use minimize::minimize_relocations;
 pub use minimize::minimize_stack;

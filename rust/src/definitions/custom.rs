@@ -60,6 +60,450 @@ pub trait adding {
     type AddsTwoLists;
 }
 
+/// Code metadata: for each function, hints at offsets in its body. Branch hinting and compilation hints, sections `metadata.code.*`.
+///
+/// - The hints of a function: [`HintsIn`](code_metadata::HintsIn), [`hints_in_encoding`](code_metadata::hints_in_encoding), [`AreHintsIn`](code_metadata::AreHintsIn), [`hints_in`](code_metadata::hints_in), [`hints_in_items`](code_metadata::hints_in_items).
+/// - Hints with a size-prefixed value: [`hinted_encoding`](code_metadata::hinted_encoding), [`IsHinted`](code_metadata::IsHinted), [`hinted`](code_metadata::hinted), [`hinted_items`](code_metadata::hinted_items), [`PayloadLaws`](code_metadata::PayloadLaws), [`hint_as`](code_metadata::hint_as), [`hints_as`](code_metadata::hints_as).
+/// - Instruction frequencies: [`frequencies_name`](code_metadata::frequencies_name), [`Frequencies`](code_metadata::Frequencies), [`frequency_encoding`](code_metadata::frequency_encoding), [`IsFrequency`](code_metadata::IsFrequency), [`frequency_items`](code_metadata::frequency_items), [`ContainsFrequencies`](code_metadata::ContainsFrequencies), [`frequencies_payload`](code_metadata::frequencies_payload), [`frequencies_decoding`](code_metadata::frequencies_decoding), [`frequency_view`](code_metadata::frequency_view), [`frequencies_view`](code_metadata::frequencies_view).
+/// - Compilation orders: [`orders_name`](code_metadata::orders_name), [`Orders`](code_metadata::Orders), [`hotness_numbers`](code_metadata::hotness_numbers), [`order_numbers`](code_metadata::order_numbers), [`order_encoding`](code_metadata::order_encoding), [`IsOrder`](code_metadata::IsOrder), [`order`](code_metadata::order), [`order_items`](code_metadata::order_items), [`ContainsOrders`](code_metadata::ContainsOrders), [`orders_payload`](code_metadata::orders_payload), [`orders_decoding`](code_metadata::orders_decoding), [`orders_view`](code_metadata::orders_view).
+/// - Call targets: [`call_targets_name`](code_metadata::call_targets_name), [`TargetItem`](code_metadata::TargetItem), [`HintedTargets`](code_metadata::HintedTargets), [`target_encoding`](code_metadata::target_encoding), [`targets_encoding`](code_metadata::targets_encoding), [`IsTarget`](code_metadata::IsTarget), [`targets`](code_metadata::targets), [`call_target_items`](code_metadata::call_target_items), [`ContainsCallTargets`](code_metadata::ContainsCallTargets), [`call_targets_payload`](code_metadata::call_targets_payload), [`call_targets_decoding`](code_metadata::call_targets_decoding), [`target_view`](code_metadata::target_view), [`targets_view`](code_metadata::targets_view), [`call_targets_view`](code_metadata::call_targets_view).
+///
+/// [How to read definitions](super). The file is [`CodeMetadata.antt`](https://github.com/dolzhytik/dolzhytik/blob/main/crates/wasm_custom/specs/CodeMetadata.antt).
+pub trait code_metadata {
+    /// A function index, and the hints of the function.
+    ///
+    /// ```text
+    /// abbrev pub HintsIn : Type 0 → Type 0
+    /// HintsIn Hint = ℕ × List Hint
+    /// ```
+    type HintsIn;
+    /// The encoding of a function's hints: its index, and their vector.
+    ///
+    /// ```text
+    /// abbrev pub hints_in_encoding : {Hint : Type 0} → (Hint → List ℕ) → HintsIn Hint → List ℕ
+    /// hints_in_encoding encoding h = unsigned_encoding h.0 ++ vec_encoding encoding h.1
+    /// ```
+    ///
+    /// Definitions: [`HintsIn`](code_metadata::HintsIn), [`unsigned_encoding`](super::base::numbers::unsigned_encoding), [`vec_encoding`](super::base::encodings::vec_encoding).
+    type hints_in_encoding;
+    /// The function's hints are well-formed: its index is below 2^32, and its hints are well-formed and their number is at most 2^32 - 1.
+    ///
+    /// ```text
+    /// abbrev pub AreHintsIn : {Hint : Type 0} → (Hint → Type 0) → HintsIn Hint → Type 0
+    /// AreHintsIn Is h = (h.0 < 2 ^ 32) × IsEncodableVec Is h.1
+    /// ```
+    ///
+    /// Definitions: [`HintsIn`](code_metadata::HintsIn), [`IsEncodableVec`](super::base::encodings::IsEncodableVec).
+    type AreHintsIn;
+    /// A function's hints: its index, and a vector of hints of the format.
+    ///
+    /// ```text
+    /// abbrev pub hints_in : {Hint : Type 0} → Format Hint → Format (HintsIn Hint)
+    /// hints_in F = pair u32 (vec F)
+    /// ```
+    ///
+    /// Definitions: [`Format`](super::base::formats::Format), [`HintsIn`](code_metadata::HintsIn), [`pair`](super::base::formats::pair), [`u32`](super::base::formats::u32), [`vec`](super::base::formats::vec).
+    type hints_in;
+    /// The kind of functions with their hints.
+    ///
+    /// ```text
+    /// abbrev pub hints_in_items
+    ///     : {Hint : Type 0} → Format Hint → (Hint → Type 0) → (Hint → List ℕ)
+    ///     → Kind (HintsIn Hint) (HintsIn Hint)
+    /// hints_in_items F Is encoding = record
+    ///     { encoding = hints_in_encoding encoding; IsWellFormed = AreHintsIn Is;
+    ///     IsWellFormedPadded = AreHintsIn Is; normal_form = λ hints. hints;
+    ///     format = hints_in F }
+    /// ```
+    ///
+    /// Definitions: [`Format`](super::base::formats::Format), [`Kind`](super::base::entries::Kind), [`HintsIn`](code_metadata::HintsIn), [`hints_in_encoding`](code_metadata::hints_in_encoding), [`AreHintsIn`](code_metadata::AreHintsIn), [`hints_in`](code_metadata::hints_in).
+    type hints_in_items;
+    /// The encoding of a hint: the offset, and the size-prefixed encoding of the value.
+    ///
+    /// ```text
+    /// abbrev pub hinted_encoding : {X : Type 0} → (X → List ℕ) → ℕ × X → List ℕ
+    /// hinted_encoding encoding h = unsigned_encoding h.0
+    ///     ++ size_prefixed_encoding (encoding h.1)
+    /// ```
+    ///
+    /// Definitions: [`unsigned_encoding`](super::base::numbers::unsigned_encoding), [`size_prefixed_encoding`](super::base::encodings::size_prefixed_encoding).
+    type hinted_encoding;
+    /// The hint is well-formed: its offset is below 2^32, and its value is well-formed and has at most 2^32 - 1 bytes.
+    ///
+    /// ```text
+    /// pub record IsHinted {X : Type 0} (Is : X → Type 0) (encoding : X → List ℕ) (h : ℕ × X)
+    ///     : Type 0 where
+    ///   pub offset : h.0 < 2 ^ 32
+    ///   pub value : Is h.1
+    ///   pub fits : HasEncodableSize (encoding h.1)
+    /// ```
+    ///
+    /// Definitions: [`HasEncodableSize`](super::base::encodings::HasEncodableSize).
+    type IsHinted;
+    /// A hint: an offset in the raw body of the function, and a value that occupies its size-prefixed payload.
+    ///
+    /// ```text
+    /// abbrev pub hinted : {X : Type 0} → Format X → Format (ℕ × X)
+    /// hinted F = pair u32 (size_prefixed F)
+    /// ```
+    ///
+    /// Definitions: [`Format`](super::base::formats::Format), [`pair`](super::base::formats::pair), [`u32`](super::base::formats::u32), [`size_prefixed`](super::base::formats::size_prefixed).
+    type hinted;
+    /// The kind of functions with hints of such a value.
+    ///
+    /// ```text
+    /// abbrev pub hinted_items : {X : Type 0} → Format X → (X → Type 0) → (X → List ℕ)
+    ///     → Kind (HintsIn (ℕ × X)) (HintsIn (ℕ × X))
+    /// hinted_items F Is encoding = hints_in_items (hinted F) (IsHinted Is encoding)
+    ///     (hinted_encoding encoding)
+    /// ```
+    ///
+    /// Definitions: [`Format`](super::base::formats::Format), [`Kind`](super::base::entries::Kind), [`HintsIn`](code_metadata::HintsIn), [`hints_in_items`](code_metadata::hints_in_items), [`hinted`](code_metadata::hinted), [`IsHinted`](code_metadata::IsHinted), [`hinted_encoding`](code_metadata::hinted_encoding).
+    type hinted_items;
+    /// The laws of a value of hints in the sections of this name. The name is UTF-8, and the format is unambiguous as a whole. The encoding of a value is minimal, and a well-formed value has it.
+    ///
+    /// ```text
+    /// pub record PayloadLaws {X : Type 0} (n : List ℕ) (F : Format X) (Is : X → Type 0)
+    ///     (encoding : X → List ℕ) : Type 0 where
+    ///   pub name_utf8 : IsUtf8 n
+    ///   pub unique : UnambiguousWhole F
+    ///   pub encodes : (x : X) → Is x → F minimal (encoding x) x
+    ///   pub shortest : EncodesMinimally F (λ x. x) encoding
+    /// ```
+    ///
+    /// Definitions: [`Format`](super::base::formats::Format), [`UnambiguousWhole`](super::base::decoding::UnambiguousWhole), [`minimal`](super::base::numbers::Mode), [`EncodesMinimally`](super::base::minimal::EncodesMinimally).
+    type PayloadLaws;
+    /// The view of a hint, by that of its value.
+    ///
+    /// ```text
+    /// abbrev pub hint_as : {T X : Type 0} → (T → X) → CodeHint T → ℕ × X
+    /// hint_as view h = (h.offset, view h.value)
+    /// ```
+    type hint_as;
+    /// The view of a function's decoded hints, by that of their values.
+    ///
+    /// ```text
+    /// abbrev pub hints_as : {T X A : Type 0} → (T → X) → ℕ × Vec (CodeHint T) A
+    ///     → HintsIn (ℕ × X)
+    /// hints_as view h = (h.0, map (hint_as view) h.1.items)
+    /// ```
+    ///
+    /// Definitions: [`HintsIn`](code_metadata::HintsIn), [`hint_as`](code_metadata::hint_as).
+    type hints_as;
+    /// The section name `metadata.code.instr_freq`.
+    ///
+    /// ```text
+    /// abbrev pub frequencies_name : List ℕ
+    /// frequencies_name = codes "metadata.code.instr_freq"
+    /// ```
+    type frequencies_name;
+    /// A function index, and the frequencies of instructions at these offsets.
+    ///
+    /// ```text
+    /// abbrev pub Frequencies : Type 0
+    /// Frequencies = HintsIn (ℕ × ℕ)
+    /// ```
+    ///
+    /// Definitions: [`HintsIn`](code_metadata::HintsIn).
+    type Frequencies;
+    /// The encoding of a frequency: one byte.
+    ///
+    /// ```text
+    /// abbrev pub frequency_encoding : ℕ → List ℕ
+    /// frequency_encoding b = b ∷ []
+    /// ```
+    type frequency_encoding;
+    /// Any byte is a frequency.
+    ///
+    /// ```text
+    /// abbrev pub IsFrequency : ℕ → Type 0
+    /// IsFrequency b = Unit {0}
+    /// ```
+    type IsFrequency;
+    /// The kind of functions with the frequencies of their instructions.
+    ///
+    /// ```text
+    /// abbrev pub frequency_items : Kind Frequencies Frequencies
+    /// frequency_items = hinted_items byte IsFrequency frequency_encoding
+    /// ```
+    ///
+    /// Definitions: [`Kind`](super::base::entries::Kind), [`Frequencies`](code_metadata::Frequencies), [`hinted_items`](code_metadata::hinted_items), [`byte`](super::base::formats::byte), [`IsFrequency`](code_metadata::IsFrequency), [`frequency_encoding`](code_metadata::frequency_encoding).
+    type frequency_items;
+    /// The pieces encode these functions with the frequencies of their instructions.
+    ///
+    /// ```text
+    /// abbrev pub ContainsFrequencies : List (List ℕ) → List Frequencies → Type 0
+    /// ContainsFrequencies = ContainsItems frequency_items
+    /// ```
+    ///
+    /// Definitions: [`Frequencies`](code_metadata::Frequencies), [`ContainsItems`](super::base::entries::ContainsItems), [`frequency_items`](code_metadata::frequency_items).
+    type ContainsFrequencies;
+    /// The payload of the section: its name, and a vector of functions with frequencies.
+    ///
+    /// ```text
+    /// abbrev pub frequencies_payload : Format (List Frequencies)
+    /// frequencies_payload = counted_payload frequencies_name (hints_in (hinted byte))
+    /// ```
+    ///
+    /// Definitions: [`Format`](super::base::formats::Format), [`Frequencies`](code_metadata::Frequencies), [`counted_payload`](entries::counted_payload), [`frequencies_name`](code_metadata::frequencies_name), [`hints_in`](code_metadata::hints_in), [`hinted`](code_metadata::hinted), [`byte`](super::base::formats::byte).
+    type frequencies_payload;
+    /// The section that decodes to the frequencies of these functions.
+    ///
+    /// ```text
+    /// abbrev pub frequencies_decoding : List Frequencies → SectionDecoding
+    /// frequencies_decoding functions = decoding_as frequencies_payload functions
+    /// ```
+    ///
+    /// Definitions: [`Frequencies`](code_metadata::Frequencies), [`SectionDecoding`](super::base::modules::SectionDecoding), [`decoding_as`](customs::decoding_as), [`frequencies_payload`](code_metadata::frequencies_payload).
+    type frequencies_decoding;
+    /// The view of a decoded frequency.
+    ///
+    /// ```text
+    /// abbrev pub frequency_view : InstructionFrequency → ℕ
+    /// frequency_view f = f.0
+    /// ```
+    type frequency_view;
+    /// The view of a function's decoded frequencies.
+    ///
+    /// ```text
+    /// abbrev pub frequencies_view
+    ///     : {A : Type 0} → ℕ × Vec (CodeHint InstructionFrequency) A → Frequencies
+    /// frequencies_view h = hints_as frequency_view h
+    /// ```
+    ///
+    /// Definitions: [`Frequencies`](code_metadata::Frequencies), [`hints_as`](code_metadata::hints_as), [`frequency_view`](code_metadata::frequency_view).
+    type frequencies_view;
+    /// The section name `metadata.code.compilation_order`.
+    ///
+    /// ```text
+    /// abbrev pub orders_name : List ℕ
+    /// orders_name = codes "metadata.code.compilation_order"
+    /// ```
+    type orders_name;
+    /// A function index, and the compilation orders at these offsets.
+    ///
+    /// ```text
+    /// abbrev pub Orders : Type 0
+    /// Orders = HintsIn (ℕ × CompilationOrder)
+    /// ```
+    ///
+    /// Definitions: [`HintsIn`](code_metadata::HintsIn).
+    type Orders;
+    /// The hotness as a list of at most one number.
+    ///
+    /// ```text
+    /// abbrev pub hotness_numbers : Option ℕ → List ℕ
+    /// hotness_numbers None = []
+    /// hotness_numbers (Some n) = n ∷ []
+    /// ```
+    type hotness_numbers;
+    /// The numbers of a compilation order: the order, and the hotness if there is one.
+    ///
+    /// ```text
+    /// abbrev pub order_numbers : CompilationOrder → List ℕ
+    /// order_numbers o = o.order ∷ hotness_numbers o.hotness
+    /// ```
+    ///
+    /// Definitions: [`hotness_numbers`](code_metadata::hotness_numbers).
+    type order_numbers;
+    /// The encoding of a compilation order: the order, and the hotness if there is one.
+    ///
+    /// ```text
+    /// abbrev pub order_encoding : CompilationOrder → List ℕ
+    /// order_encoding o = unsigned_encoding o.order
+    ///     ++ optional_encoding unsigned_encoding o.hotness
+    /// ```
+    ///
+    /// Definitions: [`unsigned_encoding`](super::base::numbers::unsigned_encoding), [`optional_encoding`](super::base::encodings::optional_encoding).
+    type order_encoding;
+    /// The compilation order is well-formed: its numbers are below 2^32.
+    ///
+    /// ```text
+    /// abbrev pub IsOrder : CompilationOrder → Type 0
+    /// IsOrder o = All (λ n. n < 2 ^ 32) (order_numbers o)
+    /// ```
+    ///
+    /// Definitions: [`order_numbers`](code_metadata::order_numbers).
+    type IsOrder;
+    /// A compilation order: its numbers, one or two, up to the last byte.
+    ///
+    /// ```text
+    /// abbrev pub order : Format CompilationOrder
+    /// order mode s o = members u32 mode s (order_numbers o)
+    /// ```
+    ///
+    /// Definitions: [`Format`](super::base::formats::Format), [`members`](super::base::formats::members), [`u32`](super::base::formats::u32), [`order_numbers`](code_metadata::order_numbers).
+    type order;
+    /// The kind of functions with their compilation orders.
+    ///
+    /// ```text
+    /// abbrev pub order_items : Kind Orders Orders
+    /// order_items = hinted_items order IsOrder order_encoding
+    /// ```
+    ///
+    /// Definitions: [`Kind`](super::base::entries::Kind), [`Orders`](code_metadata::Orders), [`hinted_items`](code_metadata::hinted_items), [`order`](code_metadata::order), [`IsOrder`](code_metadata::IsOrder), [`order_encoding`](code_metadata::order_encoding).
+    type order_items;
+    /// The pieces encode these functions with their compilation orders.
+    ///
+    /// ```text
+    /// abbrev pub ContainsOrders : List (List ℕ) → List Orders → Type 0
+    /// ContainsOrders = ContainsItems order_items
+    /// ```
+    ///
+    /// Definitions: [`Orders`](code_metadata::Orders), [`ContainsItems`](super::base::entries::ContainsItems), [`order_items`](code_metadata::order_items).
+    type ContainsOrders;
+    /// The payload of the section: its name, and a vector of functions with compilation orders.
+    ///
+    /// ```text
+    /// abbrev pub orders_payload : Format (List Orders)
+    /// orders_payload = counted_payload orders_name (hints_in (hinted order))
+    /// ```
+    ///
+    /// Definitions: [`Format`](super::base::formats::Format), [`Orders`](code_metadata::Orders), [`counted_payload`](entries::counted_payload), [`orders_name`](code_metadata::orders_name), [`hints_in`](code_metadata::hints_in), [`hinted`](code_metadata::hinted), [`order`](code_metadata::order).
+    type orders_payload;
+    /// The section that decodes to the compilation orders of these functions.
+    ///
+    /// ```text
+    /// abbrev pub orders_decoding : List Orders → SectionDecoding
+    /// orders_decoding functions = decoding_as orders_payload functions
+    /// ```
+    ///
+    /// Definitions: [`Orders`](code_metadata::Orders), [`SectionDecoding`](super::base::modules::SectionDecoding), [`decoding_as`](customs::decoding_as), [`orders_payload`](code_metadata::orders_payload).
+    type orders_decoding;
+    /// The view of a function's decoded compilation orders.
+    ///
+    /// ```text
+    /// abbrev pub orders_view : {A : Type 0} → ℕ × Vec (CodeHint CompilationOrder) A → Orders
+    /// orders_view h = hints_as (λ o. o) h
+    /// ```
+    ///
+    /// Definitions: [`Orders`](code_metadata::Orders), [`hints_as`](code_metadata::hints_as).
+    type orders_view;
+    /// The section name `metadata.code.call_targets`.
+    ///
+    /// ```text
+    /// abbrev pub call_targets_name : List ℕ
+    /// call_targets_name = codes "metadata.code.call_targets"
+    /// ```
+    type call_targets_name;
+    /// A call target: a function index, and the share of calls in percent.
+    ///
+    /// ```text
+    /// abbrev pub TargetItem : Type 0
+    /// TargetItem = ℕ × ℕ
+    /// ```
+    type TargetItem;
+    /// A function index, and the targets of the calls at these offsets.
+    ///
+    /// ```text
+    /// abbrev pub HintedTargets : Type 0
+    /// HintedTargets = HintsIn (ℕ × List TargetItem)
+    /// ```
+    ///
+    /// Definitions: [`HintsIn`](code_metadata::HintsIn), [`TargetItem`](code_metadata::TargetItem).
+    type HintedTargets;
+    /// The encoding of a call target: the function index, and the share.
+    ///
+    /// ```text
+    /// abbrev pub target_encoding : TargetItem → List ℕ
+    /// target_encoding t = unsigned_encoding t.0 ++ unsigned_encoding t.1
+    /// ```
+    ///
+    /// Definitions: [`TargetItem`](code_metadata::TargetItem), [`unsigned_encoding`](super::base::numbers::unsigned_encoding).
+    type target_encoding;
+    /// The encoding of call targets, one after another.
+    ///
+    /// ```text
+    /// abbrev pub targets_encoding : List TargetItem → List ℕ
+    /// targets_encoding ts = flat_map target_encoding ts
+    /// ```
+    ///
+    /// Definitions: [`TargetItem`](code_metadata::TargetItem), [`target_encoding`](code_metadata::target_encoding).
+    type targets_encoding;
+    /// The call target is well-formed: its numbers are below 2^32.
+    ///
+    /// ```text
+    /// abbrev pub IsTarget : TargetItem → Type 0
+    /// IsTarget t = (t.0 < 2 ^ 32) × (t.1 < 2 ^ 32)
+    /// ```
+    ///
+    /// Definitions: [`TargetItem`](code_metadata::TargetItem).
+    type IsTarget;
+    /// Call targets, one after another up to the last byte.
+    ///
+    /// ```text
+    /// abbrev pub targets : Format (List TargetItem)
+    /// targets = members (pair u32 u32)
+    /// ```
+    ///
+    /// Definitions: [`Format`](super::base::formats::Format), [`TargetItem`](code_metadata::TargetItem), [`members`](super::base::formats::members), [`pair`](super::base::formats::pair), [`u32`](super::base::formats::u32).
+    type targets;
+    /// The kind of functions with the targets of their calls.
+    ///
+    /// ```text
+    /// abbrev pub call_target_items : Kind HintedTargets HintedTargets
+    /// call_target_items = hinted_items targets (All IsTarget) targets_encoding
+    /// ```
+    ///
+    /// Definitions: [`Kind`](super::base::entries::Kind), [`HintedTargets`](code_metadata::HintedTargets), [`hinted_items`](code_metadata::hinted_items), [`targets`](code_metadata::targets), [`IsTarget`](code_metadata::IsTarget), [`targets_encoding`](code_metadata::targets_encoding).
+    type call_target_items;
+    /// The pieces encode these functions with the targets of their calls.
+    ///
+    /// ```text
+    /// abbrev pub ContainsCallTargets : List (List ℕ) → List HintedTargets → Type 0
+    /// ContainsCallTargets = ContainsItems call_target_items
+    /// ```
+    ///
+    /// Definitions: [`HintedTargets`](code_metadata::HintedTargets), [`ContainsItems`](super::base::entries::ContainsItems), [`call_target_items`](code_metadata::call_target_items).
+    type ContainsCallTargets;
+    /// The payload of the section: its name, and a vector of functions with call targets.
+    ///
+    /// ```text
+    /// abbrev pub call_targets_payload : Format (List HintedTargets)
+    /// call_targets_payload = counted_payload call_targets_name (hints_in (hinted targets))
+    /// ```
+    ///
+    /// Definitions: [`Format`](super::base::formats::Format), [`HintedTargets`](code_metadata::HintedTargets), [`counted_payload`](entries::counted_payload), [`call_targets_name`](code_metadata::call_targets_name), [`hints_in`](code_metadata::hints_in), [`hinted`](code_metadata::hinted), [`targets`](code_metadata::targets).
+    type call_targets_payload;
+    /// The section that decodes to the call targets of these functions.
+    ///
+    /// ```text
+    /// abbrev pub call_targets_decoding : List HintedTargets → SectionDecoding
+    /// call_targets_decoding functions = decoding_as call_targets_payload functions
+    /// ```
+    ///
+    /// Definitions: [`HintedTargets`](code_metadata::HintedTargets), [`SectionDecoding`](super::base::modules::SectionDecoding), [`decoding_as`](customs::decoding_as), [`call_targets_payload`](code_metadata::call_targets_payload).
+    type call_targets_decoding;
+    /// The view of a decoded call target.
+    ///
+    /// ```text
+    /// abbrev pub target_view : CallTarget → TargetItem
+    /// target_view t = (t.function_index, t.percent)
+    /// ```
+    ///
+    /// Definitions: [`TargetItem`](code_metadata::TargetItem).
+    type target_view;
+    /// The view of decoded call targets.
+    ///
+    /// ```text
+    /// abbrev pub targets_view : {A : Type 0} → Vec CallTarget A → List TargetItem
+    /// targets_view ts = map target_view ts.items
+    /// ```
+    ///
+    /// Definitions: [`TargetItem`](code_metadata::TargetItem), [`target_view`](code_metadata::target_view).
+    type targets_view;
+    /// The view of the decoded call targets of a function.
+    ///
+    /// ```text
+    /// abbrev pub call_targets_view
+    ///     : {A B : Type 0} → ℕ × Vec (CodeHint (Vec CallTarget A)) B → HintedTargets
+    /// call_targets_view h = hints_as targets_view h
+    /// ```
+    ///
+    /// Definitions: [`HintedTargets`](code_metadata::HintedTargets), [`hints_as`](code_metadata::hints_as), [`targets_view`](code_metadata::targets_view).
+    type call_targets_view;
+}
+
 /// The COMDAT groups of a linking section, their encoding and their format. Tool conventions, Linking, Linking Metadata Section, `WASM_COMDAT_INFO`.
 ///
 /// [How to read definitions](super). The file is [`Comdats.antt`](https://github.com/dolzhytik/dolzhytik/blob/main/crates/wasm_custom/specs/Comdats.antt).
@@ -1295,27 +1739,11 @@ pub trait hints {
     ///
     /// ```text
     /// abbrev pub Hints : Type 0
-    /// Hints = ℕ × List BranchHint
+    /// Hints = HintsIn BranchHint
     /// ```
+    ///
+    /// Definitions: [`HintsIn`](code_metadata::HintsIn).
     type Hints;
-    /// The encoding of a function's hints: its index, and their vector.
-    ///
-    /// ```text
-    /// abbrev pub hints_encoding : Hints → List ℕ
-    /// hints_encoding h = unsigned_encoding h.0 ++ vec_encoding hint_encoding h.1
-    /// ```
-    ///
-    /// Definitions: [`Hints`](hints::Hints), [`unsigned_encoding`](super::base::numbers::unsigned_encoding), [`vec_encoding`](super::base::encodings::vec_encoding), [`hint_encoding`](hints::hint_encoding).
-    type hints_encoding;
-    /// The function's hints are well-formed: its index is below 2^32, and its hints are well-formed and their number is at most 2^32 - 1.
-    ///
-    /// ```text
-    /// abbrev pub AreHints : Hints → Type 0
-    /// AreHints h = (h.0 < 2 ^ 32) × IsEncodableVec IsHint h.1
-    /// ```
-    ///
-    /// Definitions: [`Hints`](hints::Hints), [`IsEncodableVec`](super::base::encodings::IsEncodableVec), [`IsHint`](hints::IsHint).
-    type AreHints;
     /// The branch hint of this offset and this value.
     ///
     /// ```text
@@ -1336,20 +1764,19 @@ pub trait hints {
     ///
     /// ```text
     /// abbrev pub hints : Format Hints
-    /// hints = pair u32 (vec hint)
+    /// hints = hints_in hint
     /// ```
     ///
-    /// Definitions: [`Format`](super::base::formats::Format), [`Hints`](hints::Hints), [`pair`](super::base::formats::pair), [`u32`](super::base::formats::u32), [`vec`](super::base::formats::vec), [`hint`](hints::hint).
+    /// Definitions: [`Format`](super::base::formats::Format), [`Hints`](hints::Hints), [`hints_in`](code_metadata::hints_in), [`hint`](hints::hint).
     type hints;
     /// The kind of functions with their branch hints.
     ///
     /// ```text
     /// abbrev pub hint_items : Kind Hints Hints
-    /// hint_items = record { encoding = hints_encoding; IsWellFormed = AreHints;
-    ///     IsWellFormedPadded = AreHints; normal_form = λ hints. hints; format = hints }
+    /// hint_items = hints_in_items hint IsHint hint_encoding
     /// ```
     ///
-    /// Definitions: [`Kind`](super::base::entries::Kind), [`Hints`](hints::Hints), [`hints_encoding`](hints::hints_encoding), [`AreHints`](hints::AreHints).
+    /// Definitions: [`Kind`](super::base::entries::Kind), [`Hints`](hints::Hints), [`hints_in_items`](code_metadata::hints_in_items), [`hint`](hints::hint), [`IsHint`](hints::IsHint), [`hint_encoding`](hints::hint_encoding).
     type hint_items;
     /// The section name `metadata.code.branch_hint`.
     ///

@@ -157,7 +157,7 @@ pub trait begun {
 /// What a map of indices makes of the items of custom sections.
 ///
 /// - Names: [`name_spaces`](customs::name_spaces), [`remapped_name`](customs::remapped_name).
-/// - Hints: [`remapped_hints`](customs::remapped_hints).
+/// - Hints: [`remapped_hints_in`](customs::remapped_hints_in), [`remapped_hints`](customs::remapped_hints), [`remapped_target`](customs::remapped_target), [`remapped_target_hint`](customs::remapped_target_hint), [`remapped_targets`](customs::remapped_targets).
 /// - Core dumps: [`remapped_instance`](customs::remapped_instance).
 /// - Linking: [`space_of_symbol`](customs::space_of_symbol), [`remapped_definition`](customs::remapped_definition), [`remapped_symbol`](customs::remapped_symbol), [`comdat_spaces`](customs::comdat_spaces), [`remapped_member`](customs::remapped_member), [`remapped_comdat`](customs::remapped_comdat), [`remapped_link`](customs::remapped_link).
 /// - Relocations: [`space_of_relocation`](customs::space_of_relocation), [`remapped_relocation`](customs::remapped_relocation).
@@ -203,15 +203,51 @@ pub trait customs {
     ///
     /// Definitions: [`Mapping`](mapping::Mapping), [`NameItem`](super::custom::names::NameItem), [`Module`](super::custom::names::NameItem), [`Map`](super::custom::names::NameItem), [`mapped_first`](mapping::mapped_first), [`space_among`](customs::space_among), [`name_spaces`](customs::name_spaces), [`Indirect`](super::custom::names::NameItem), [`Other`](super::custom::names::NameItem).
     type remapped_name;
+    /// The hints of a function, which have no index.
+    ///
+    /// ```text
+    /// abbrev pub remapped_hints_in : {Hint : Type 0} → Mapping → HintsIn Hint → HintsIn Hint
+    /// remapped_hints_in m h = mapped_first m (Some spaces.Functions) h
+    /// ```
+    ///
+    /// Definitions: [`Mapping`](mapping::Mapping), [`HintsIn`](super::custom::code_metadata::HintsIn), [`mapped_first`](mapping::mapped_first).
+    type remapped_hints_in;
     /// The branch hints of a function.
     ///
     /// ```text
     /// abbrev pub remapped_hints : Mapping → Hints → Hints
-    /// remapped_hints m h = mapped_first m (Some spaces.Functions) h
+    /// remapped_hints m h = remapped_hints_in m h
     /// ```
     ///
-    /// Definitions: [`Mapping`](mapping::Mapping), [`Hints`](super::custom::hints::Hints), [`mapped_first`](mapping::mapped_first).
+    /// Definitions: [`Mapping`](mapping::Mapping), [`Hints`](super::custom::hints::Hints), [`remapped_hints_in`](customs::remapped_hints_in).
     type remapped_hints;
+    /// A call target.
+    ///
+    /// ```text
+    /// abbrev pub remapped_target : Mapping → TargetItem → TargetItem
+    /// remapped_target m t = mapped_first m (Some spaces.Functions) t
+    /// ```
+    ///
+    /// Definitions: [`Mapping`](mapping::Mapping), [`TargetItem`](super::custom::code_metadata::TargetItem), [`mapped_first`](mapping::mapped_first).
+    type remapped_target;
+    /// The targets of the call at an offset.
+    ///
+    /// ```text
+    /// abbrev pub remapped_target_hint : Mapping → ℕ × List TargetItem → ℕ × List TargetItem
+    /// remapped_target_hint m h = (h.0, map (remapped_target m) h.1)
+    /// ```
+    ///
+    /// Definitions: [`Mapping`](mapping::Mapping), [`TargetItem`](super::custom::code_metadata::TargetItem), [`remapped_target`](customs::remapped_target).
+    type remapped_target_hint;
+    /// The targets of the calls of a function.
+    ///
+    /// ```text
+    /// abbrev pub remapped_targets : Mapping → HintedTargets → HintedTargets
+    /// remapped_targets m h = (m spaces.Functions h.0, map (remapped_target_hint m) h.1)
+    /// ```
+    ///
+    /// Definitions: [`Mapping`](mapping::Mapping), [`HintedTargets`](super::custom::code_metadata::HintedTargets), [`remapped_target_hint`](customs::remapped_target_hint).
+    type remapped_targets;
     /// An instance of a core dump: its memories and globals are those of the file. The index of its module stays.
     ///
     /// ```text
@@ -974,6 +1010,17 @@ pub trait mapping {
     ///
     /// Definitions: [`Mapping`](mapping::Mapping).
     type IsSmall;
+    /// The mapping has the new index of each index that the map accepts. What it has for rejected indices is free, so a result that is the same by each such mapping does not depend on them.
+    ///
+    /// ```text
+    /// abbrev pub Follows : {E : Type 0} → Mapping → (IndexSpace → ℕ → E → Type 0) → Mapping
+    ///     → Type 0
+    /// Follows {E = E} mapped rejects m = (space : IndexSpace) (n : ℕ)
+    ///     → ((e : E) → rejects space n e → ⊥) → m space n ≡ mapped space n
+    /// ```
+    ///
+    /// Definitions: [`Mapping`](mapping::Mapping).
+    type Follows;
     /// A number, which is an index if it has an index space.
     ///
     /// ```text
@@ -1144,9 +1191,176 @@ pub trait places {
     type IsPlace;
 }
 
+/// Modules without some of their functions.
+///
+/// - New indices: [`is_removed`](removed::is_removed), [`numbered`](removed::numbered), [`HasNone`](removed::HasNone), [`or_zero`](removed::or_zero), [`by_table`](removed::by_table), [`Renumbers`](removed::Renumbers).
+/// - Items: [`unflagged`](removed::unflagged), [`stays`](removed::stays), [`staying`](removed::staying), [`trimmed_name`](removed::trimmed_name), [`trimmed`](removed::trimmed), [`IsTrimmed`](removed::IsTrimmed).
+/// - Modules: [`ImportsFunctions`](removed::ImportsFunctions), [`RemovesFunctions`](removed::RemovesFunctions).
+///
+/// [How to read definitions](super). The file is [`Removed.antt`](https://github.com/dolzhytik/dolzhytik/blob/main/crates/wasm_remap/specs/Removed.antt).
+pub trait removed {
+    /// Whether the function of this index is removed. One past the flags is not.
+    ///
+    /// ```text
+    /// abbrev pub is_removed : List Bool → ℕ → Bool
+    /// is_removed removed n = get_or removed n false
+    /// ```
+    type is_removed;
+    /// The new indices of functions, the first one `next`. A removed function has none.
+    ///
+    /// ```text
+    /// abbrev pub numbered : ℕ → List Bool → List (Option ℕ)
+    /// numbered next [] = []
+    /// numbered next (true ∷ flags) = None ∷ numbered next flags
+    /// numbered next (false ∷ flags) = Some next ∷ numbered (next + 1) flags
+    /// ```
+    type numbered;
+    /// The table has no index for this function.
+    ///
+    /// ```text
+    /// abbrev pub HasNone : List (Option ℕ) → IndexSpace → ℕ → Type 0
+    /// HasNone table space n = (is_same space spaces.Functions ≡ true)
+    ///     × (get_or table n None ≡ None)
+    /// ```
+    ///
+    /// Definitions: [`is_same`](shifted::is_same).
+    type HasNone;
+    /// The index that is there, or else 0.
+    ///
+    /// ```text
+    /// abbrev pub or_zero : Option ℕ → ℕ
+    /// or_zero None = 0
+    /// or_zero (Some n) = n
+    /// ```
+    type or_zero;
+    /// The map of functions by a table. Other indices stay.
+    ///
+    /// ```text
+    /// abbrev pub by_table : List (Option ℕ) → Mapping
+    /// by_table table space n = cond (is_same space spaces.Functions)
+    ///     (or_zero (get_or table n None)) n
+    /// ```
+    ///
+    /// Definitions: [`Mapping`](mapping::Mapping), [`is_same`](shifted::is_same), [`or_zero`](removed::or_zero).
+    type by_table;
+    /// The mapping numbers the functions that stay, from 0 on. Other indices stay. What it has for removed functions is free.
+    ///
+    /// ```text
+    /// abbrev pub Renumbers : List Bool → Mapping → Type 0
+    /// Renumbers removed m = (space : IndexSpace) (n : ℕ)
+    ///     → (HasNone (numbered 0 removed) space n → ⊥)
+    ///     → m space n ≡ by_table (numbered 0 removed) space n
+    /// ```
+    ///
+    /// Definitions: [`Mapping`](mapping::Mapping), [`HasNone`](removed::HasNone), [`numbered`](removed::numbered), [`by_table`](removed::by_table).
+    type Renumbers;
+    /// The items whose flag is not set. Items past the flags stay.
+    ///
+    /// ```text
+    /// abbrev pub unflagged : {X : Type 0} → List Bool → List X → List X
+    /// unflagged flags [] = []
+    /// unflagged [] (x ∷ xs) = x ∷ xs
+    /// unflagged (true ∷ flags) (x ∷ xs) = unflagged flags xs
+    /// unflagged (false ∷ flags) (x ∷ xs) = x ∷ unflagged flags xs
+    /// ```
+    type unflagged;
+    /// Whether a pair is of a function that stays.
+    ///
+    /// ```text
+    /// abbrev pub stays : {X : Type 0} → List Bool → ℕ × X → Bool
+    /// stays removed p = not (is_removed removed p.0)
+    /// ```
+    ///
+    /// Definitions: [`is_removed`](removed::is_removed).
+    type stays;
+    /// The pairs without those of removed functions, if the first numbers are functions.
+    ///
+    /// ```text
+    /// abbrev pub staying : {X : Type 0} → List Bool → Option IndexSpace → List (ℕ × X)
+    ///     → List (ℕ × X)
+    /// staying removed None ps = ps
+    /// staying removed (Some space) ps = cond (is_same space spaces.Functions)
+    ///     (filter (stays removed) ps) ps
+    /// ```
+    ///
+    /// Definitions: [`is_same`](shifted::is_same), [`stays`](removed::stays).
+    type staying;
+    /// A subsection of a name section, without the names of removed functions, of their locals and of their labels.
+    ///
+    /// ```text
+    /// abbrev pub trimmed_name : List Bool → NameItem → NameItem
+    /// trimmed_name removed (Module n) = Module n
+    /// trimmed_name removed (Map id ns) = Map id
+    ///     (staying removed (space_among name_spaces id) ns)
+    /// trimmed_name removed (Indirect id ms) = Indirect id
+    ///     (staying removed (space_among name_spaces id) ms)
+    /// trimmed_name removed (Other id bytes) = Other id bytes
+    /// ```
+    ///
+    /// Definitions: [`NameItem`](super::custom::names::NameItem), [`Module`](super::custom::names::NameItem), [`Map`](super::custom::names::NameItem), [`staying`](removed::staying), [`space_among`](customs::space_among), [`name_spaces`](customs::name_spaces), [`Indirect`](super::custom::names::NameItem), [`Other`](super::custom::names::NameItem).
+    type trimmed_name;
+    /// The content without the removed functions. `defined` has the flags of those that the module defines.
+    ///
+    /// ```text
+    /// abbrev pub trimmed : List Bool → List Bool → Contents → Contents
+    /// trimmed removed defined (Functions xs) = Functions (unflagged defined xs)
+    /// trimmed removed defined (Bodies xs) = Bodies (unflagged defined xs)
+    /// trimmed removed defined (Names xs) = Names (map (trimmed_name removed) xs)
+    /// trimmed removed defined x = x
+    /// ```
+    ///
+    /// Definitions: [`Contents`](super::reader::kinds::Contents), [`Functions`](super::reader::kinds::Contents), [`unflagged`](removed::unflagged), [`Bodies`](super::reader::kinds::Contents), [`Names`](super::reader::kinds::Contents), [`trimmed_name`](removed::trimmed_name).
+    type trimmed;
+    /// The section decodes to items, and the payload is the minimal encoding of those without the removed functions, with each index mapped, if they have one. They have if the new indices are below 2^32, and the section has fewer than 2^26 bytes.
+    ///
+    /// ```text
+    /// pub record IsTrimmed (removed defined : List Bool) (m : Mapping) (s : Section)
+    ///     (payload : List ℕ) : Type 0 where
+    ///   pub items : Contents
+    ///   pub decoded : content (section_kind_of s) standard s.payload items
+    ///   pub appended : AppendsContentIn admitted (remapped m (trimmed removed defined items))
+    ///       [] payload
+    ///   pub has : IsSmall m → length s.payload < 2 ^ 26
+    ///       → HasContentIn admitted (remapped m (trimmed removed defined items))
+    /// ```
+    ///
+    /// Definitions: [`Mapping`](mapping::Mapping), [`Section`](super::reader::outlines::Section), [`Contents`](super::reader::kinds::Contents), [`content`](super::reader::kinds::content), [`section_kind_of`](super::reader::outlines::section_kind_of), [`standard`](super::base::numbers::Mode), [`AppendsContentIn`](super::reader::sections::AppendsContentIn), [`admitted`](super::base::numbers::Grammar), [`remapped`](sections::remapped), [`trimmed`](removed::trimmed), [`IsSmall`](mapping::IsSmall), [`HasContentIn`](super::reader::sections::HasContentIn).
+    type IsTrimmed;
+    /// The number of functions that the sections import.
+    ///
+    /// ```text
+    /// abbrev pub ImportsFunctions : List Section → ℕ → Type 0
+    /// ImportsFunctions all n =
+    ///     (lacks (number_of ids.Import) all × (n ≡ 0))
+    ///     ⊎ ((before after : List Section) × (s : Section)
+    ///         × IsFound (number_of ids.Import) before s after all
+    ///         × ((xs : List _) × content (section_kind_of s) standard s.payload (Imports xs)
+    ///             × (n ≡ imported spaces.Functions xs)))
+    /// ```
+    ///
+    /// Definitions: [`Section`](super::reader::outlines::Section), [`lacks`](places::lacks), [`number_of`](super::base::section_id::number_of), [`IsFound`](places::IsFound), [`content`](super::reader::kinds::content), [`section_kind_of`](super::reader::outlines::section_kind_of), [`standard`](super::base::numbers::Mode), [`Imports`](super::reader::kinds::Contents), [`imported`](imported::imported).
+    type ImportsFunctions;
+    /// The new module has the sections of the old one without the removed functions, for each mapping that numbers those that stay: so no index that is mapped is that of a removed function. No removed function is imported.
+    ///
+    /// ```text
+    /// pub record RemovesFunctions (removed : List Bool) (offsets : Offsets)
+    ///     (bytes new : List ℕ) : Type 0 where
+    ///   pub sections : List Section
+    ///   pub has : HasSections bytes sections
+    ///   pub imported : ℕ
+    ///   pub imports : ImportsFunctions sections imported
+    ///   pub stay : (n : ℕ) → n < imported → is_removed removed n ≡ false
+    ///   pub changes : (m : Mapping) → Renumbers removed m
+    ///       → ChangesModule (IsTrimmed removed (drop imported removed) m) offsets bytes new
+    /// ```
+    ///
+    /// Definitions: [`Section`](super::reader::outlines::Section), [`HasSections`](super::reader::outlines::HasSections), [`ImportsFunctions`](removed::ImportsFunctions), [`is_removed`](removed::is_removed), [`Mapping`](mapping::Mapping), [`Renumbers`](removed::Renumbers), [`ChangesModule`](sections::ChangesModule), [`IsTrimmed`](removed::IsTrimmed).
+    type RemovesFunctions;
+}
+
 /// What a map of indices makes of the content of a section, and the promises of the calls that map.
 ///
-/// - Modules: [`AreRemapped`](sections::AreRemapped), [`RemapsModule`](sections::RemapsModule).
+/// - Modules: [`AreChanged`](sections::AreChanged), [`ChangesModule`](sections::ChangesModule), [`IsRemapped`](sections::IsRemapped), [`AreRemapped`](sections::AreRemapped), [`RemapsModule`](sections::RemapsModule).
 ///
 /// [How to read definitions](super). The file is [`Sections.antt`](https://github.com/dolzhytik/dolzhytik/blob/main/crates/wasm_remap/specs/Sections.antt).
 pub trait sections {
@@ -1184,9 +1398,13 @@ pub trait sections {
     /// remapped m (Dylink xs) = Dylink xs
     /// remapped m (Relocations x) = Relocations
     ///     (x.0, (x.1.0, map (remapped_relocation m) x.1.1))
+    /// remapped m (InstructionFrequencies xs) = InstructionFrequencies
+    ///     (map (remapped_hints_in m) xs)
+    /// remapped m (CompilationOrders xs) = CompilationOrders (map (remapped_hints_in m) xs)
+    /// remapped m (CallTargets xs) = CallTargets (map (remapped_targets m) xs)
     /// ```
     ///
-    /// Definitions: [`Mapping`](mapping::Mapping), [`Contents`](super::reader::kinds::Contents), [`Bodies`](super::reader::kinds::Contents), [`remapped_body`](instructions::remapped_body), [`Segments`](super::reader::kinds::Contents), [`remapped_data`](items::remapped_data), [`DataCount`](super::reader::kinds::Contents), [`Elements`](super::reader::kinds::Contents), [`remapped_element`](items::remapped_element), [`Exports`](super::reader::kinds::Contents), [`remapped_export`](items::remapped_export), [`Functions`](super::reader::kinds::Contents), [`Globals`](super::reader::kinds::Contents), [`remapped_global`](items::remapped_global), [`Imports`](super::reader::kinds::Contents), [`remapped_import`](items::remapped_import), [`Memories`](super::reader::kinds::Contents), [`Start`](super::reader::kinds::Contents), [`Tables`](super::reader::kinds::Contents), [`remapped_table`](items::remapped_table), [`Tags`](super::reader::kinds::Contents), [`remapped_tag`](items::remapped_tag), [`Names`](super::reader::kinds::Contents), [`remapped_name`](customs::remapped_name), [`Linking`](super::reader::kinds::Contents), [`remapped_link`](customs::remapped_link), [`Producers`](super::reader::kinds::Contents), [`Hints`](super::reader::kinds::Contents), [`remapped_hints`](customs::remapped_hints), [`Core`](super::reader::kinds::Contents), [`CoreModules`](super::reader::kinds::Contents), [`CoreInstances`](super::reader::kinds::Contents), [`remapped_instance`](customs::remapped_instance), [`CoreStack`](super::reader::kinds::Contents), [`Custom`](super::reader::kinds::Contents), [`Raw`](super::reader::kinds::Contents), [`Types`](super::reader::kinds::Contents), [`remapped_type`](types::remapped_type), [`TargetFeatures`](super::reader::kinds::Contents), [`SourceMappingUrl`](super::reader::kinds::Contents), [`ExternalDebugInfo`](super::reader::kinds::Contents), [`BuildId`](super::reader::kinds::Contents), [`Dylink`](super::reader::kinds::Contents), [`Relocations`](super::reader::kinds::Contents), [`remapped_relocation`](customs::remapped_relocation).
+    /// Definitions: [`Mapping`](mapping::Mapping), [`Contents`](super::reader::kinds::Contents), [`Bodies`](super::reader::kinds::Contents), [`remapped_body`](instructions::remapped_body), [`Segments`](super::reader::kinds::Contents), [`remapped_data`](items::remapped_data), [`DataCount`](super::reader::kinds::Contents), [`Elements`](super::reader::kinds::Contents), [`remapped_element`](items::remapped_element), [`Exports`](super::reader::kinds::Contents), [`remapped_export`](items::remapped_export), [`Functions`](super::reader::kinds::Contents), [`Globals`](super::reader::kinds::Contents), [`remapped_global`](items::remapped_global), [`Imports`](super::reader::kinds::Contents), [`remapped_import`](items::remapped_import), [`Memories`](super::reader::kinds::Contents), [`Start`](super::reader::kinds::Contents), [`Tables`](super::reader::kinds::Contents), [`remapped_table`](items::remapped_table), [`Tags`](super::reader::kinds::Contents), [`remapped_tag`](items::remapped_tag), [`Names`](super::reader::kinds::Contents), [`remapped_name`](customs::remapped_name), [`Linking`](super::reader::kinds::Contents), [`remapped_link`](customs::remapped_link), [`Producers`](super::reader::kinds::Contents), [`Hints`](super::reader::kinds::Contents), [`remapped_hints`](customs::remapped_hints), [`Core`](super::reader::kinds::Contents), [`CoreModules`](super::reader::kinds::Contents), [`CoreInstances`](super::reader::kinds::Contents), [`remapped_instance`](customs::remapped_instance), [`CoreStack`](super::reader::kinds::Contents), [`Custom`](super::reader::kinds::Contents), [`Raw`](super::reader::kinds::Contents), [`Types`](super::reader::kinds::Contents), [`remapped_type`](types::remapped_type), [`TargetFeatures`](super::reader::kinds::Contents), [`SourceMappingUrl`](super::reader::kinds::Contents), [`ExternalDebugInfo`](super::reader::kinds::Contents), [`BuildId`](super::reader::kinds::Contents), [`Dylink`](super::reader::kinds::Contents), [`Relocations`](super::reader::kinds::Contents), [`remapped_relocation`](customs::remapped_relocation), [`InstructionFrequencies`](super::reader::kinds::Contents), [`remapped_hints_in`](customs::remapped_hints_in), [`CompilationOrders`](super::reader::kinds::Contents), [`CallTargets`](super::reader::kinds::Contents), [`remapped_targets`](customs::remapped_targets).
     type remapped;
     /// The section decodes to items, and the buffer gains the minimal encoding of these items with each index mapped, if they have one. They have if the new indices are below 2^32, and the section has fewer than 2^26 bytes, so that no size prefix is too long.
     ///
@@ -1201,35 +1419,63 @@ pub trait sections {
     ///
     /// Definitions: [`Mapping`](mapping::Mapping), [`Section`](super::reader::outlines::Section), [`Contents`](super::reader::kinds::Contents), [`content`](super::reader::kinds::content), [`section_kind_of`](super::reader::outlines::section_kind_of), [`standard`](super::base::numbers::Mode), [`AppendsContentIn`](super::reader::sections::AppendsContentIn), [`admitted`](super::base::numbers::Grammar), [`remapped`](sections::remapped), [`IsSmall`](mapping::IsSmall), [`HasContentIn`](super::reader::sections::HasContentIn).
     type RemapsSection;
-    /// The sections of the new module for those of the old one, each an id and a payload: the payload has the items with each index mapped. Sections that hold offsets are left out.
+    /// The sections of the new module for those of the old one, each an id and a payload, which is related to the old section. Sections that hold offsets are left out.
     ///
     /// ```text
-    /// abbrev pub AreRemapped : Mapping → List Section → List (ℕ × List ℕ) → Type 0
-    /// AreRemapped m [] news = news ≡ []
-    /// AreRemapped m (s ∷ olds) news =
-    ///     ((contains_offsets s.name ≡ true) × AreRemapped m olds news)
+    /// abbrev pub AreChanged : (Section → List ℕ → Type 0) → List Section → List (ℕ × List ℕ)
+    ///     → Type 0
+    /// AreChanged R [] news = news ≡ []
+    /// AreChanged R (s ∷ olds) news =
+    ///     ((contains_offsets s.name ≡ true) × AreChanged R olds news)
     ///     ⊎ ((payload : List ℕ) × (others : List (ℕ × List ℕ))
     ///         × (contains_offsets s.name ≡ false) × (news ≡ (s.id, payload) ∷ others)
-    ///         × RemapsSection m s [] payload × AreRemapped m olds others)
+    ///         × R s payload × AreChanged R olds others)
     /// ```
     ///
-    /// Definitions: [`Mapping`](mapping::Mapping), [`Section`](super::reader::outlines::Section), [`contains_offsets`](super::reader::shortening::contains_offsets), [`RemapsSection`](sections::RemapsSection).
-    type AreRemapped;
-    /// The bytes are a module, and the new bytes are a module of its sections with each index mapped. With `Refuse`, no section holds offsets.
+    /// Definitions: [`Section`](super::reader::outlines::Section), [`contains_offsets`](super::reader::shortening::contains_offsets).
+    type AreChanged;
+    /// The bytes are a module, and the new bytes are a module of its changed sections. With `Refuse`, no section holds offsets.
     ///
     /// ```text
-    /// pub record RemapsModule (m : Mapping) (offsets : Offsets) (bytes new : List ℕ)
-    ///     : Type 0 where
+    /// pub record ChangesModule (R : Section → List ℕ → Type 0) (offsets : Offsets)
+    ///     (bytes new : List ℕ) : Type 0 where
     ///   pub olds : List Section
     ///   pub has : HasSections bytes olds
     ///   pub news : List (ℕ × List ℕ)
-    ///   pub are : AreRemapped m olds news
+    ///   pub are : AreChanged R olds news
     ///   pub refused : offsets ≡ Refuse
     ///       → AllByRecursion (λ s. contains_offsets s.name ≡ false) olds
     ///   pub decodes : DecodesWhole wasm_module new news
     /// ```
     ///
-    /// Definitions: [`Mapping`](mapping::Mapping), [`Section`](super::reader::outlines::Section), [`HasSections`](super::reader::outlines::HasSections), [`AreRemapped`](sections::AreRemapped), [`contains_offsets`](super::reader::shortening::contains_offsets), [`DecodesWhole`](super::base::decoding::DecodesWhole), [`wasm_module`](super::base::formats::wasm_module).
+    /// Definitions: [`Section`](super::reader::outlines::Section), [`HasSections`](super::reader::outlines::HasSections), [`AreChanged`](sections::AreChanged), [`contains_offsets`](super::reader::shortening::contains_offsets), [`DecodesWhole`](super::base::decoding::DecodesWhole), [`wasm_module`](super::base::formats::wasm_module).
+    type ChangesModule;
+    /// The payload is that of the section with each index mapped.
+    ///
+    /// ```text
+    /// abbrev pub IsRemapped : Mapping → Section → List ℕ → Type 0
+    /// IsRemapped m s payload = RemapsSection m s [] payload
+    /// ```
+    ///
+    /// Definitions: [`Mapping`](mapping::Mapping), [`Section`](super::reader::outlines::Section), [`RemapsSection`](sections::RemapsSection).
+    type IsRemapped;
+    /// The sections of the new module have the items of the old ones, with each index mapped.
+    ///
+    /// ```text
+    /// abbrev pub AreRemapped : Mapping → List Section → List (ℕ × List ℕ) → Type 0
+    /// AreRemapped m olds news = AreChanged (IsRemapped m) olds news
+    /// ```
+    ///
+    /// Definitions: [`Mapping`](mapping::Mapping), [`Section`](super::reader::outlines::Section), [`AreChanged`](sections::AreChanged), [`IsRemapped`](sections::IsRemapped).
+    type AreRemapped;
+    /// The bytes are a module, and the new bytes are a module of its sections with each index mapped. With `Refuse`, no section holds offsets.
+    ///
+    /// ```text
+    /// abbrev pub RemapsModule : Mapping → Offsets → List ℕ → List ℕ → Type 0
+    /// RemapsModule m offsets bytes new = ChangesModule (IsRemapped m) offsets bytes new
+    /// ```
+    ///
+    /// Definitions: [`Mapping`](mapping::Mapping), [`ChangesModule`](sections::ChangesModule), [`IsRemapped`](sections::IsRemapped).
     type RemapsModule;
 }
 

@@ -20,10 +20,10 @@ macro_rules! implement {
             }
         }
     };
-    ($name:ident Default) => {
+    ($name:ident Default $($argument:literal)?) => {
         impl Default for $name {
             fn default() -> Self {
-                $name::new()
+                $name::new($($argument)?)
             }
         }
     };

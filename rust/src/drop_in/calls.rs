@@ -11,7 +11,7 @@ impl InstructionSink<'_> {
     /// [`Instruction::Unreachable`](super::Instruction::Unreachable) is the same instruction as a value.
     /// The proved [`unreachable`](insn::InstructionSink::unreachable) of `fallible` encodes the same.
     pub fn unreachable(&mut self) -> &mut Self {
-        self.op([0x00])
+        self.put([0x00], [])
     }
 
     /// Appends `nop` (opcode 0x01), a control instruction that does nothing.
@@ -19,7 +19,7 @@ impl InstructionSink<'_> {
     /// [`Instruction::Nop`](super::Instruction::Nop) is the same instruction as a value.
     /// The proved [`nop`](insn::InstructionSink::nop) of `fallible` encodes the same.
     pub fn nop(&mut self) -> &mut Self {
-        self.op([0x01])
+        self.put([0x01], [])
     }
 
     /// Appends `block` (opcode 0x02), a control instruction that begins a block, with its label at the end.
@@ -51,7 +51,7 @@ impl InstructionSink<'_> {
     /// [`Instruction::Else`](super::Instruction::Else) is the same instruction as a value.
     /// The proved [`else_`](insn::InstructionSink::else_) of `fallible` encodes the same.
     pub fn else_(&mut self) -> &mut Self {
-        self.op([0x05])
+        self.put([0x05], [])
     }
 
     /// Appends `try` (opcode 0x06), a control instruction of the legacy exception handling proposal that begins a block with handlers of exceptions.
@@ -86,7 +86,7 @@ impl InstructionSink<'_> {
     ///
     /// [`Instruction::ThrowRef`](super::Instruction::ThrowRef) is the same instruction as a value.
     pub fn throw_ref(&mut self) -> &mut Self {
-        self.op([0x0A])
+        self.put([0x0A], [])
     }
 
     /// Appends `end` (opcode 0x0B), a delimiter of control instructions and expressions that ends a block, a body or a constant expression.
@@ -94,7 +94,7 @@ impl InstructionSink<'_> {
     /// [`Instruction::End`](super::Instruction::End) is the same instruction as a value.
     /// The proved [`end`](insn::InstructionSink::end) of `fallible` encodes the same.
     pub fn end(&mut self) -> &mut Self {
-        self.op_here([0x0B])
+        self.put_here([0x0B], [])
     }
 
     /// Appends `br` (opcode 0x0C), a control instruction that branches to a label.
@@ -141,7 +141,7 @@ impl InstructionSink<'_> {
     /// [`Instruction::Return`](super::Instruction::Return) is the same instruction as a value.
     /// The proved [`return_`](insn::InstructionSink::return_) of `fallible` encodes the same.
     pub fn return_(&mut self) -> &mut Self {
-        self.op_here([0x0F])
+        self.put_here([0x0F], [])
     }
 
     /// Appends `call` (opcode 0x10), a control instruction that calls a function.
@@ -214,7 +214,7 @@ impl InstructionSink<'_> {
     ///
     /// [`Instruction::CatchAll`](super::Instruction::CatchAll) is the same instruction as a value.
     pub fn catch_all(&mut self) -> &mut Self {
-        self.op([0x19])
+        self.put([0x19], [])
     }
 
     /// Appends `drop` (opcode 0x1A), a parametric instruction that drops a value.
@@ -222,7 +222,7 @@ impl InstructionSink<'_> {
     /// [`Instruction::Drop`](super::Instruction::Drop) is the same instruction as a value.
     /// The proved [`drop_`](insn::InstructionSink::drop_) of `fallible` encodes the same.
     pub fn drop(&mut self) -> &mut Self {
-        self.op_here([0x1A])
+        self.put_here([0x1A], [])
     }
 
     /// Appends `select` (opcode 0x1B), a parametric instruction that selects one of two values by a condition.
@@ -230,7 +230,7 @@ impl InstructionSink<'_> {
     /// [`Instruction::Select`](super::Instruction::Select) is the same instruction as a value.
     /// The proved [`select`](insn::InstructionSink::select) of `fallible` encodes the same.
     pub fn select(&mut self) -> &mut Self {
-        self.op_here([0x1B])
+        self.put_here([0x1B], [])
     }
 
     /// Appends `select (result t)` (opcode 0x1C), a parametric instruction that selects one of two values by a condition.
@@ -583,7 +583,7 @@ impl InstructionSink<'_> {
     /// The proved [`i32_eqz`](insn::InstructionSink::i32_eqz) of `fallible` encodes the same.
     #[doc(alias = "i32.eqz")]
     pub fn i32_eqz(&mut self) -> &mut Self {
-        self.op_here([0x45])
+        self.put_here([0x45], [])
     }
 
     /// Appends `i32.eq` (opcode 0x46), a numeric instruction that compares two numbers.
@@ -591,7 +591,7 @@ impl InstructionSink<'_> {
     /// [`Instruction::I32Eq`](super::Instruction::I32Eq) is the same instruction as a value.
     #[doc(alias = "i32.eq")]
     pub fn i32_eq(&mut self) -> &mut Self {
-        self.op([0x46])
+        self.put([0x46], [])
     }
 
     /// Appends `i32.ne` (opcode 0x47), a numeric instruction that compares two numbers.
@@ -599,7 +599,7 @@ impl InstructionSink<'_> {
     /// [`Instruction::I32Ne`](super::Instruction::I32Ne) is the same instruction as a value.
     #[doc(alias = "i32.ne")]
     pub fn i32_ne(&mut self) -> &mut Self {
-        self.op([0x47])
+        self.put([0x47], [])
     }
 
     /// Appends `i32.lt_s` (opcode 0x48), a numeric instruction that compares two numbers.
@@ -607,7 +607,7 @@ impl InstructionSink<'_> {
     /// [`Instruction::I32LtS`](super::Instruction::I32LtS) is the same instruction as a value.
     #[doc(alias = "i32.lt_s")]
     pub fn i32_lt_s(&mut self) -> &mut Self {
-        self.op([0x48])
+        self.put([0x48], [])
     }
 
     /// Appends `i32.lt_u` (opcode 0x49), a numeric instruction that compares two numbers.
@@ -615,7 +615,7 @@ impl InstructionSink<'_> {
     /// [`Instruction::I32LtU`](super::Instruction::I32LtU) is the same instruction as a value.
     #[doc(alias = "i32.lt_u")]
     pub fn i32_lt_u(&mut self) -> &mut Self {
-        self.op([0x49])
+        self.put([0x49], [])
     }
 
     /// Appends `i32.gt_s` (opcode 0x4A), a numeric instruction that compares two numbers.
@@ -623,7 +623,7 @@ impl InstructionSink<'_> {
     /// [`Instruction::I32GtS`](super::Instruction::I32GtS) is the same instruction as a value.
     #[doc(alias = "i32.gt_s")]
     pub fn i32_gt_s(&mut self) -> &mut Self {
-        self.op([0x4A])
+        self.put([0x4A], [])
     }
 
     /// Appends `i32.gt_u` (opcode 0x4B), a numeric instruction that compares two numbers.
@@ -631,7 +631,7 @@ impl InstructionSink<'_> {
     /// [`Instruction::I32GtU`](super::Instruction::I32GtU) is the same instruction as a value.
     #[doc(alias = "i32.gt_u")]
     pub fn i32_gt_u(&mut self) -> &mut Self {
-        self.op([0x4B])
+        self.put([0x4B], [])
     }
 
     /// Appends `i32.le_s` (opcode 0x4C), a numeric instruction that compares two numbers.
@@ -639,7 +639,7 @@ impl InstructionSink<'_> {
     /// [`Instruction::I32LeS`](super::Instruction::I32LeS) is the same instruction as a value.
     #[doc(alias = "i32.le_s")]
     pub fn i32_le_s(&mut self) -> &mut Self {
-        self.op([0x4C])
+        self.put([0x4C], [])
     }
 
     /// Appends `i32.le_u` (opcode 0x4D), a numeric instruction that compares two numbers.
@@ -647,7 +647,7 @@ impl InstructionSink<'_> {
     /// [`Instruction::I32LeU`](super::Instruction::I32LeU) is the same instruction as a value.
     #[doc(alias = "i32.le_u")]
     pub fn i32_le_u(&mut self) -> &mut Self {
-        self.op([0x4D])
+        self.put([0x4D], [])
     }
 
     /// Appends `i32.ge_s` (opcode 0x4E), a numeric instruction that compares two numbers.
@@ -655,7 +655,7 @@ impl InstructionSink<'_> {
     /// [`Instruction::I32GeS`](super::Instruction::I32GeS) is the same instruction as a value.
     #[doc(alias = "i32.ge_s")]
     pub fn i32_ge_s(&mut self) -> &mut Self {
-        self.op([0x4E])
+        self.put([0x4E], [])
     }
 
     /// Appends `i32.ge_u` (opcode 0x4F), a numeric instruction that compares two numbers.
@@ -663,7 +663,7 @@ impl InstructionSink<'_> {
     /// [`Instruction::I32GeU`](super::Instruction::I32GeU) is the same instruction as a value.
     #[doc(alias = "i32.ge_u")]
     pub fn i32_ge_u(&mut self) -> &mut Self {
-        self.op([0x4F])
+        self.put([0x4F], [])
     }
 
     /// Appends `i64.eqz` (opcode 0x50), a numeric instruction that tests whether an integer is zero.
@@ -671,7 +671,7 @@ impl InstructionSink<'_> {
     /// [`Instruction::I64Eqz`](super::Instruction::I64Eqz) is the same instruction as a value.
     #[doc(alias = "i64.eqz")]
     pub fn i64_eqz(&mut self) -> &mut Self {
-        self.op([0x50])
+        self.put([0x50], [])
     }
 
     /// Appends `i64.eq` (opcode 0x51), a numeric instruction that compares two numbers.
@@ -679,7 +679,7 @@ impl InstructionSink<'_> {
     /// [`Instruction::I64Eq`](super::Instruction::I64Eq) is the same instruction as a value.
     #[doc(alias = "i64.eq")]
     pub fn i64_eq(&mut self) -> &mut Self {
-        self.op([0x51])
+        self.put([0x51], [])
     }
 
     /// Appends `i64.ne` (opcode 0x52), a numeric instruction that compares two numbers.
@@ -687,7 +687,7 @@ impl InstructionSink<'_> {
     /// [`Instruction::I64Ne`](super::Instruction::I64Ne) is the same instruction as a value.
     #[doc(alias = "i64.ne")]
     pub fn i64_ne(&mut self) -> &mut Self {
-        self.op([0x52])
+        self.put([0x52], [])
     }
 
     /// Appends `i64.lt_s` (opcode 0x53), a numeric instruction that compares two numbers.
@@ -695,7 +695,7 @@ impl InstructionSink<'_> {
     /// [`Instruction::I64LtS`](super::Instruction::I64LtS) is the same instruction as a value.
     #[doc(alias = "i64.lt_s")]
     pub fn i64_lt_s(&mut self) -> &mut Self {
-        self.op([0x53])
+        self.put([0x53], [])
     }
 
     /// Appends `i64.lt_u` (opcode 0x54), a numeric instruction that compares two numbers.
@@ -703,7 +703,7 @@ impl InstructionSink<'_> {
     /// [`Instruction::I64LtU`](super::Instruction::I64LtU) is the same instruction as a value.
     #[doc(alias = "i64.lt_u")]
     pub fn i64_lt_u(&mut self) -> &mut Self {
-        self.op([0x54])
+        self.put([0x54], [])
     }
 
     /// Appends `i64.gt_s` (opcode 0x55), a numeric instruction that compares two numbers.
@@ -711,7 +711,7 @@ impl InstructionSink<'_> {
     /// [`Instruction::I64GtS`](super::Instruction::I64GtS) is the same instruction as a value.
     #[doc(alias = "i64.gt_s")]
     pub fn i64_gt_s(&mut self) -> &mut Self {
-        self.op([0x55])
+        self.put([0x55], [])
     }
 
     /// Appends `i64.gt_u` (opcode 0x56), a numeric instruction that compares two numbers.
@@ -719,7 +719,7 @@ impl InstructionSink<'_> {
     /// [`Instruction::I64GtU`](super::Instruction::I64GtU) is the same instruction as a value.
     #[doc(alias = "i64.gt_u")]
     pub fn i64_gt_u(&mut self) -> &mut Self {
-        self.op([0x56])
+        self.put([0x56], [])
     }
 
     /// Appends `i64.le_s` (opcode 0x57), a numeric instruction that compares two numbers.
@@ -727,7 +727,7 @@ impl InstructionSink<'_> {
     /// [`Instruction::I64LeS`](super::Instruction::I64LeS) is the same instruction as a value.
     #[doc(alias = "i64.le_s")]
     pub fn i64_le_s(&mut self) -> &mut Self {
-        self.op([0x57])
+        self.put([0x57], [])
     }
 
     /// Appends `i64.le_u` (opcode 0x58), a numeric instruction that compares two numbers.
@@ -735,7 +735,7 @@ impl InstructionSink<'_> {
     /// [`Instruction::I64LeU`](super::Instruction::I64LeU) is the same instruction as a value.
     #[doc(alias = "i64.le_u")]
     pub fn i64_le_u(&mut self) -> &mut Self {
-        self.op([0x58])
+        self.put([0x58], [])
     }
 
     /// Appends `i64.ge_s` (opcode 0x59), a numeric instruction that compares two numbers.
@@ -743,7 +743,7 @@ impl InstructionSink<'_> {
     /// [`Instruction::I64GeS`](super::Instruction::I64GeS) is the same instruction as a value.
     #[doc(alias = "i64.ge_s")]
     pub fn i64_ge_s(&mut self) -> &mut Self {
-        self.op([0x59])
+        self.put([0x59], [])
     }
 
     /// Appends `i64.ge_u` (opcode 0x5A), a numeric instruction that compares two numbers.
@@ -751,7 +751,7 @@ impl InstructionSink<'_> {
     /// [`Instruction::I64GeU`](super::Instruction::I64GeU) is the same instruction as a value.
     #[doc(alias = "i64.ge_u")]
     pub fn i64_ge_u(&mut self) -> &mut Self {
-        self.op([0x5A])
+        self.put([0x5A], [])
     }
 
     /// Appends `f32.eq` (opcode 0x5B), a numeric instruction that compares two numbers.
@@ -759,7 +759,7 @@ impl InstructionSink<'_> {
     /// [`Instruction::F32Eq`](super::Instruction::F32Eq) is the same instruction as a value.
     #[doc(alias = "f32.eq")]
     pub fn f32_eq(&mut self) -> &mut Self {
-        self.op([0x5B])
+        self.put([0x5B], [])
     }
 
     /// Appends `f32.ne` (opcode 0x5C), a numeric instruction that compares two numbers.
@@ -767,7 +767,7 @@ impl InstructionSink<'_> {
     /// [`Instruction::F32Ne`](super::Instruction::F32Ne) is the same instruction as a value.
     #[doc(alias = "f32.ne")]
     pub fn f32_ne(&mut self) -> &mut Self {
-        self.op([0x5C])
+        self.put([0x5C], [])
     }
 
     /// Appends `f32.lt` (opcode 0x5D), a numeric instruction that compares two numbers.
@@ -775,7 +775,7 @@ impl InstructionSink<'_> {
     /// [`Instruction::F32Lt`](super::Instruction::F32Lt) is the same instruction as a value.
     #[doc(alias = "f32.lt")]
     pub fn f32_lt(&mut self) -> &mut Self {
-        self.op([0x5D])
+        self.put([0x5D], [])
     }
 
     /// Appends `f32.gt` (opcode 0x5E), a numeric instruction that compares two numbers.
@@ -783,7 +783,7 @@ impl InstructionSink<'_> {
     /// [`Instruction::F32Gt`](super::Instruction::F32Gt) is the same instruction as a value.
     #[doc(alias = "f32.gt")]
     pub fn f32_gt(&mut self) -> &mut Self {
-        self.op([0x5E])
+        self.put([0x5E], [])
     }
 
     /// Appends `f32.le` (opcode 0x5F), a numeric instruction that compares two numbers.
@@ -791,7 +791,7 @@ impl InstructionSink<'_> {
     /// [`Instruction::F32Le`](super::Instruction::F32Le) is the same instruction as a value.
     #[doc(alias = "f32.le")]
     pub fn f32_le(&mut self) -> &mut Self {
-        self.op([0x5F])
+        self.put([0x5F], [])
     }
 
     /// Appends `f32.ge` (opcode 0x60), a numeric instruction that compares two numbers.
@@ -799,7 +799,7 @@ impl InstructionSink<'_> {
     /// [`Instruction::F32Ge`](super::Instruction::F32Ge) is the same instruction as a value.
     #[doc(alias = "f32.ge")]
     pub fn f32_ge(&mut self) -> &mut Self {
-        self.op([0x60])
+        self.put([0x60], [])
     }
 
     /// Appends `f64.eq` (opcode 0x61), a numeric instruction that compares two numbers.
@@ -807,7 +807,7 @@ impl InstructionSink<'_> {
     /// [`Instruction::F64Eq`](super::Instruction::F64Eq) is the same instruction as a value.
     #[doc(alias = "f64.eq")]
     pub fn f64_eq(&mut self) -> &mut Self {
-        self.op([0x61])
+        self.put([0x61], [])
     }
 
     /// Appends `f64.ne` (opcode 0x62), a numeric instruction that compares two numbers.
@@ -815,7 +815,7 @@ impl InstructionSink<'_> {
     /// [`Instruction::F64Ne`](super::Instruction::F64Ne) is the same instruction as a value.
     #[doc(alias = "f64.ne")]
     pub fn f64_ne(&mut self) -> &mut Self {
-        self.op([0x62])
+        self.put([0x62], [])
     }
 
     /// Appends `f64.lt` (opcode 0x63), a numeric instruction that compares two numbers.
@@ -823,7 +823,7 @@ impl InstructionSink<'_> {
     /// [`Instruction::F64Lt`](super::Instruction::F64Lt) is the same instruction as a value.
     #[doc(alias = "f64.lt")]
     pub fn f64_lt(&mut self) -> &mut Self {
-        self.op([0x63])
+        self.put([0x63], [])
     }
 
     /// Appends `f64.gt` (opcode 0x64), a numeric instruction that compares two numbers.
@@ -831,7 +831,7 @@ impl InstructionSink<'_> {
     /// [`Instruction::F64Gt`](super::Instruction::F64Gt) is the same instruction as a value.
     #[doc(alias = "f64.gt")]
     pub fn f64_gt(&mut self) -> &mut Self {
-        self.op([0x64])
+        self.put([0x64], [])
     }
 
     /// Appends `f64.le` (opcode 0x65), a numeric instruction that compares two numbers.
@@ -839,7 +839,7 @@ impl InstructionSink<'_> {
     /// [`Instruction::F64Le`](super::Instruction::F64Le) is the same instruction as a value.
     #[doc(alias = "f64.le")]
     pub fn f64_le(&mut self) -> &mut Self {
-        self.op([0x65])
+        self.put([0x65], [])
     }
 
     /// Appends `f64.ge` (opcode 0x66), a numeric instruction that compares two numbers.
@@ -847,7 +847,7 @@ impl InstructionSink<'_> {
     /// [`Instruction::F64Ge`](super::Instruction::F64Ge) is the same instruction as a value.
     #[doc(alias = "f64.ge")]
     pub fn f64_ge(&mut self) -> &mut Self {
-        self.op([0x66])
+        self.put([0x66], [])
     }
 
     /// Appends `i32.clz` (opcode 0x67), a numeric instruction that counts the leading zero bits of an integer.
@@ -855,7 +855,7 @@ impl InstructionSink<'_> {
     /// [`Instruction::I32Clz`](super::Instruction::I32Clz) is the same instruction as a value.
     #[doc(alias = "i32.clz")]
     pub fn i32_clz(&mut self) -> &mut Self {
-        self.op([0x67])
+        self.put([0x67], [])
     }
 
     /// Appends `i32.ctz` (opcode 0x68), a numeric instruction that counts the trailing zero bits of an integer.
@@ -863,7 +863,7 @@ impl InstructionSink<'_> {
     /// [`Instruction::I32Ctz`](super::Instruction::I32Ctz) is the same instruction as a value.
     #[doc(alias = "i32.ctz")]
     pub fn i32_ctz(&mut self) -> &mut Self {
-        self.op([0x68])
+        self.put([0x68], [])
     }
 
     /// Appends `i32.popcnt` (opcode 0x69), a numeric instruction that counts the one bits of an integer.
@@ -871,7 +871,7 @@ impl InstructionSink<'_> {
     /// [`Instruction::I32Popcnt`](super::Instruction::I32Popcnt) is the same instruction as a value.
     #[doc(alias = "i32.popcnt")]
     pub fn i32_popcnt(&mut self) -> &mut Self {
-        self.op([0x69])
+        self.put([0x69], [])
     }
 
     /// Appends `i32.add` (opcode 0x6A), a numeric instruction that adds two integers.
@@ -880,7 +880,7 @@ impl InstructionSink<'_> {
     /// The proved [`i32_add`](insn::InstructionSink::i32_add) of `fallible` encodes the same.
     #[doc(alias = "i32.add")]
     pub fn i32_add(&mut self) -> &mut Self {
-        self.op_here([0x6A])
+        self.put_here([0x6A], [])
     }
 
     /// Appends `i32.sub` (opcode 0x6B), a numeric instruction that subtracts two integers.
@@ -889,7 +889,7 @@ impl InstructionSink<'_> {
     /// The proved [`i32_sub`](insn::InstructionSink::i32_sub) of `fallible` encodes the same.
     #[doc(alias = "i32.sub")]
     pub fn i32_sub(&mut self) -> &mut Self {
-        self.op_here([0x6B])
+        self.put_here([0x6B], [])
     }
 
     /// Appends `i32.mul` (opcode 0x6C), a numeric instruction that multiplies two integers.
@@ -898,7 +898,7 @@ impl InstructionSink<'_> {
     /// The proved [`i32_mul`](insn::InstructionSink::i32_mul) of `fallible` encodes the same.
     #[doc(alias = "i32.mul")]
     pub fn i32_mul(&mut self) -> &mut Self {
-        self.op([0x6C])
+        self.put([0x6C], [])
     }
 
     /// Appends `i32.div_s` (opcode 0x6D), a numeric instruction that divides two integers.
@@ -906,7 +906,7 @@ impl InstructionSink<'_> {
     /// [`Instruction::I32DivS`](super::Instruction::I32DivS) is the same instruction as a value.
     #[doc(alias = "i32.div_s")]
     pub fn i32_div_s(&mut self) -> &mut Self {
-        self.op([0x6D])
+        self.put([0x6D], [])
     }
 
     /// Appends `i32.div_u` (opcode 0x6E), a numeric instruction that divides two integers.
@@ -914,7 +914,7 @@ impl InstructionSink<'_> {
     /// [`Instruction::I32DivU`](super::Instruction::I32DivU) is the same instruction as a value.
     #[doc(alias = "i32.div_u")]
     pub fn i32_div_u(&mut self) -> &mut Self {
-        self.op([0x6E])
+        self.put([0x6E], [])
     }
 
     /// Appends `i32.rem_s` (opcode 0x6F), a numeric instruction that computes the remainder of two integers.
@@ -922,7 +922,7 @@ impl InstructionSink<'_> {
     /// [`Instruction::I32RemS`](super::Instruction::I32RemS) is the same instruction as a value.
     #[doc(alias = "i32.rem_s")]
     pub fn i32_rem_s(&mut self) -> &mut Self {
-        self.op([0x6F])
+        self.put([0x6F], [])
     }
 
     /// Appends `i32.rem_u` (opcode 0x70), a numeric instruction that computes the remainder of two integers.
@@ -930,7 +930,7 @@ impl InstructionSink<'_> {
     /// [`Instruction::I32RemU`](super::Instruction::I32RemU) is the same instruction as a value.
     #[doc(alias = "i32.rem_u")]
     pub fn i32_rem_u(&mut self) -> &mut Self {
-        self.op([0x70])
+        self.put([0x70], [])
     }
 
     /// Appends `i32.and` (opcode 0x71), a numeric instruction that computes the bitwise and of two integers.
@@ -938,7 +938,7 @@ impl InstructionSink<'_> {
     /// [`Instruction::I32And`](super::Instruction::I32And) is the same instruction as a value.
     #[doc(alias = "i32.and")]
     pub fn i32_and(&mut self) -> &mut Self {
-        self.op([0x71])
+        self.put([0x71], [])
     }
 
     /// Appends `i32.or` (opcode 0x72), a numeric instruction that computes the bitwise or of two integers.
@@ -946,7 +946,7 @@ impl InstructionSink<'_> {
     /// [`Instruction::I32Or`](super::Instruction::I32Or) is the same instruction as a value.
     #[doc(alias = "i32.or")]
     pub fn i32_or(&mut self) -> &mut Self {
-        self.op([0x72])
+        self.put([0x72], [])
     }
 
     /// Appends `i32.xor` (opcode 0x73), a numeric instruction that computes the bitwise exclusive or of two integers.
@@ -954,7 +954,7 @@ impl InstructionSink<'_> {
     /// [`Instruction::I32Xor`](super::Instruction::I32Xor) is the same instruction as a value.
     #[doc(alias = "i32.xor")]
     pub fn i32_xor(&mut self) -> &mut Self {
-        self.op([0x73])
+        self.put([0x73], [])
     }
 
     /// Appends `i32.shl` (opcode 0x74), a numeric instruction that shifts an integer to the left.
@@ -962,7 +962,7 @@ impl InstructionSink<'_> {
     /// [`Instruction::I32Shl`](super::Instruction::I32Shl) is the same instruction as a value.
     #[doc(alias = "i32.shl")]
     pub fn i32_shl(&mut self) -> &mut Self {
-        self.op([0x74])
+        self.put([0x74], [])
     }
 
     /// Appends `i32.shr_s` (opcode 0x75), a numeric instruction that shifts an integer to the right.
@@ -970,7 +970,7 @@ impl InstructionSink<'_> {
     /// [`Instruction::I32ShrS`](super::Instruction::I32ShrS) is the same instruction as a value.
     #[doc(alias = "i32.shr_s")]
     pub fn i32_shr_s(&mut self) -> &mut Self {
-        self.op([0x75])
+        self.put([0x75], [])
     }
 
     /// Appends `i32.shr_u` (opcode 0x76), a numeric instruction that shifts an integer to the right.
@@ -978,7 +978,7 @@ impl InstructionSink<'_> {
     /// [`Instruction::I32ShrU`](super::Instruction::I32ShrU) is the same instruction as a value.
     #[doc(alias = "i32.shr_u")]
     pub fn i32_shr_u(&mut self) -> &mut Self {
-        self.op([0x76])
+        self.put([0x76], [])
     }
 
     /// Appends `i32.rotl` (opcode 0x77), a numeric instruction that rotates an integer to the left.
@@ -986,7 +986,7 @@ impl InstructionSink<'_> {
     /// [`Instruction::I32Rotl`](super::Instruction::I32Rotl) is the same instruction as a value.
     #[doc(alias = "i32.rotl")]
     pub fn i32_rotl(&mut self) -> &mut Self {
-        self.op([0x77])
+        self.put([0x77], [])
     }
 
     /// Appends `i32.rotr` (opcode 0x78), a numeric instruction that rotates an integer to the right.
@@ -994,7 +994,7 @@ impl InstructionSink<'_> {
     /// [`Instruction::I32Rotr`](super::Instruction::I32Rotr) is the same instruction as a value.
     #[doc(alias = "i32.rotr")]
     pub fn i32_rotr(&mut self) -> &mut Self {
-        self.op([0x78])
+        self.put([0x78], [])
     }
 
     /// Appends `i64.clz` (opcode 0x79), a numeric instruction that counts the leading zero bits of an integer.
@@ -1002,7 +1002,7 @@ impl InstructionSink<'_> {
     /// [`Instruction::I64Clz`](super::Instruction::I64Clz) is the same instruction as a value.
     #[doc(alias = "i64.clz")]
     pub fn i64_clz(&mut self) -> &mut Self {
-        self.op([0x79])
+        self.put([0x79], [])
     }
 
     /// Appends `i64.ctz` (opcode 0x7A), a numeric instruction that counts the trailing zero bits of an integer.
@@ -1010,7 +1010,7 @@ impl InstructionSink<'_> {
     /// [`Instruction::I64Ctz`](super::Instruction::I64Ctz) is the same instruction as a value.
     #[doc(alias = "i64.ctz")]
     pub fn i64_ctz(&mut self) -> &mut Self {
-        self.op([0x7A])
+        self.put([0x7A], [])
     }
 
     /// Appends `i64.popcnt` (opcode 0x7B), a numeric instruction that counts the one bits of an integer.
@@ -1018,7 +1018,7 @@ impl InstructionSink<'_> {
     /// [`Instruction::I64Popcnt`](super::Instruction::I64Popcnt) is the same instruction as a value.
     #[doc(alias = "i64.popcnt")]
     pub fn i64_popcnt(&mut self) -> &mut Self {
-        self.op([0x7B])
+        self.put([0x7B], [])
     }
 
     /// Appends `i64.add` (opcode 0x7C), a numeric instruction that adds two integers.
@@ -1027,7 +1027,7 @@ impl InstructionSink<'_> {
     /// The proved [`i64_add`](insn::InstructionSink::i64_add) of `fallible` encodes the same.
     #[doc(alias = "i64.add")]
     pub fn i64_add(&mut self) -> &mut Self {
-        self.op_here([0x7C])
+        self.put_here([0x7C], [])
     }
 
     /// Appends `i64.sub` (opcode 0x7D), a numeric instruction that subtracts two integers.
@@ -1036,7 +1036,7 @@ impl InstructionSink<'_> {
     /// The proved [`i64_sub`](insn::InstructionSink::i64_sub) of `fallible` encodes the same.
     #[doc(alias = "i64.sub")]
     pub fn i64_sub(&mut self) -> &mut Self {
-        self.op([0x7D])
+        self.put([0x7D], [])
     }
 
     /// Appends `i64.mul` (opcode 0x7E), a numeric instruction that multiplies two integers.
@@ -1045,7 +1045,7 @@ impl InstructionSink<'_> {
     /// The proved [`i64_mul`](insn::InstructionSink::i64_mul) of `fallible` encodes the same.
     #[doc(alias = "i64.mul")]
     pub fn i64_mul(&mut self) -> &mut Self {
-        self.op([0x7E])
+        self.put([0x7E], [])
     }
 
     /// Appends `i64.div_s` (opcode 0x7F), a numeric instruction that divides two integers.
@@ -1053,7 +1053,7 @@ impl InstructionSink<'_> {
     /// [`Instruction::I64DivS`](super::Instruction::I64DivS) is the same instruction as a value.
     #[doc(alias = "i64.div_s")]
     pub fn i64_div_s(&mut self) -> &mut Self {
-        self.op([0x7F])
+        self.put([0x7F], [])
     }
 
     /// Appends `i64.div_u` (opcode 0x80), a numeric instruction that divides two integers.
@@ -1061,7 +1061,7 @@ impl InstructionSink<'_> {
     /// [`Instruction::I64DivU`](super::Instruction::I64DivU) is the same instruction as a value.
     #[doc(alias = "i64.div_u")]
     pub fn i64_div_u(&mut self) -> &mut Self {
-        self.op([0x80])
+        self.put([0x80], [])
     }
 
     /// Appends `i64.rem_s` (opcode 0x81), a numeric instruction that computes the remainder of two integers.
@@ -1069,7 +1069,7 @@ impl InstructionSink<'_> {
     /// [`Instruction::I64RemS`](super::Instruction::I64RemS) is the same instruction as a value.
     #[doc(alias = "i64.rem_s")]
     pub fn i64_rem_s(&mut self) -> &mut Self {
-        self.op([0x81])
+        self.put([0x81], [])
     }
 
     /// Appends `i64.rem_u` (opcode 0x82), a numeric instruction that computes the remainder of two integers.
@@ -1077,7 +1077,7 @@ impl InstructionSink<'_> {
     /// [`Instruction::I64RemU`](super::Instruction::I64RemU) is the same instruction as a value.
     #[doc(alias = "i64.rem_u")]
     pub fn i64_rem_u(&mut self) -> &mut Self {
-        self.op([0x82])
+        self.put([0x82], [])
     }
 
     /// Appends `i64.and` (opcode 0x83), a numeric instruction that computes the bitwise and of two integers.
@@ -1085,7 +1085,7 @@ impl InstructionSink<'_> {
     /// [`Instruction::I64And`](super::Instruction::I64And) is the same instruction as a value.
     #[doc(alias = "i64.and")]
     pub fn i64_and(&mut self) -> &mut Self {
-        self.op([0x83])
+        self.put([0x83], [])
     }
 
     /// Appends `i64.or` (opcode 0x84), a numeric instruction that computes the bitwise or of two integers.
@@ -1093,7 +1093,7 @@ impl InstructionSink<'_> {
     /// [`Instruction::I64Or`](super::Instruction::I64Or) is the same instruction as a value.
     #[doc(alias = "i64.or")]
     pub fn i64_or(&mut self) -> &mut Self {
-        self.op([0x84])
+        self.put([0x84], [])
     }
 
     /// Appends `i64.xor` (opcode 0x85), a numeric instruction that computes the bitwise exclusive or of two integers.
@@ -1101,7 +1101,7 @@ impl InstructionSink<'_> {
     /// [`Instruction::I64Xor`](super::Instruction::I64Xor) is the same instruction as a value.
     #[doc(alias = "i64.xor")]
     pub fn i64_xor(&mut self) -> &mut Self {
-        self.op([0x85])
+        self.put([0x85], [])
     }
 
     /// Appends `i64.shl` (opcode 0x86), a numeric instruction that shifts an integer to the left.
@@ -1109,7 +1109,7 @@ impl InstructionSink<'_> {
     /// [`Instruction::I64Shl`](super::Instruction::I64Shl) is the same instruction as a value.
     #[doc(alias = "i64.shl")]
     pub fn i64_shl(&mut self) -> &mut Self {
-        self.op([0x86])
+        self.put([0x86], [])
     }
 
     /// Appends `i64.shr_s` (opcode 0x87), a numeric instruction that shifts an integer to the right.
@@ -1117,7 +1117,7 @@ impl InstructionSink<'_> {
     /// [`Instruction::I64ShrS`](super::Instruction::I64ShrS) is the same instruction as a value.
     #[doc(alias = "i64.shr_s")]
     pub fn i64_shr_s(&mut self) -> &mut Self {
-        self.op([0x87])
+        self.put([0x87], [])
     }
 
     /// Appends `i64.shr_u` (opcode 0x88), a numeric instruction that shifts an integer to the right.
@@ -1125,7 +1125,7 @@ impl InstructionSink<'_> {
     /// [`Instruction::I64ShrU`](super::Instruction::I64ShrU) is the same instruction as a value.
     #[doc(alias = "i64.shr_u")]
     pub fn i64_shr_u(&mut self) -> &mut Self {
-        self.op([0x88])
+        self.put([0x88], [])
     }
 
     /// Appends `i64.rotl` (opcode 0x89), a numeric instruction that rotates an integer to the left.
@@ -1133,7 +1133,7 @@ impl InstructionSink<'_> {
     /// [`Instruction::I64Rotl`](super::Instruction::I64Rotl) is the same instruction as a value.
     #[doc(alias = "i64.rotl")]
     pub fn i64_rotl(&mut self) -> &mut Self {
-        self.op([0x89])
+        self.put([0x89], [])
     }
 
     /// Appends `i64.rotr` (opcode 0x8A), a numeric instruction that rotates an integer to the right.
@@ -1141,7 +1141,7 @@ impl InstructionSink<'_> {
     /// [`Instruction::I64Rotr`](super::Instruction::I64Rotr) is the same instruction as a value.
     #[doc(alias = "i64.rotr")]
     pub fn i64_rotr(&mut self) -> &mut Self {
-        self.op([0x8A])
+        self.put([0x8A], [])
     }
 
     /// Appends `f32.abs` (opcode 0x8B), a numeric instruction that computes the absolute value of a float.
@@ -1149,7 +1149,7 @@ impl InstructionSink<'_> {
     /// [`Instruction::F32Abs`](super::Instruction::F32Abs) is the same instruction as a value.
     #[doc(alias = "f32.abs")]
     pub fn f32_abs(&mut self) -> &mut Self {
-        self.op([0x8B])
+        self.put([0x8B], [])
     }
 
     /// Appends `f32.neg` (opcode 0x8C), a numeric instruction that negates a float.
@@ -1157,7 +1157,7 @@ impl InstructionSink<'_> {
     /// [`Instruction::F32Neg`](super::Instruction::F32Neg) is the same instruction as a value.
     #[doc(alias = "f32.neg")]
     pub fn f32_neg(&mut self) -> &mut Self {
-        self.op([0x8C])
+        self.put([0x8C], [])
     }
 
     /// Appends `f32.ceil` (opcode 0x8D), a numeric instruction that rounds a float up.
@@ -1165,7 +1165,7 @@ impl InstructionSink<'_> {
     /// [`Instruction::F32Ceil`](super::Instruction::F32Ceil) is the same instruction as a value.
     #[doc(alias = "f32.ceil")]
     pub fn f32_ceil(&mut self) -> &mut Self {
-        self.op([0x8D])
+        self.put([0x8D], [])
     }
 
     /// Appends `f32.floor` (opcode 0x8E), a numeric instruction that rounds a float down.
@@ -1173,7 +1173,7 @@ impl InstructionSink<'_> {
     /// [`Instruction::F32Floor`](super::Instruction::F32Floor) is the same instruction as a value.
     #[doc(alias = "f32.floor")]
     pub fn f32_floor(&mut self) -> &mut Self {
-        self.op([0x8E])
+        self.put([0x8E], [])
     }
 
     /// Appends `f32.trunc` (opcode 0x8F), a numeric instruction that rounds a float towards zero.
@@ -1181,7 +1181,7 @@ impl InstructionSink<'_> {
     /// [`Instruction::F32Trunc`](super::Instruction::F32Trunc) is the same instruction as a value.
     #[doc(alias = "f32.trunc")]
     pub fn f32_trunc(&mut self) -> &mut Self {
-        self.op([0x8F])
+        self.put([0x8F], [])
     }
 
     /// Appends `f32.nearest` (opcode 0x90), a numeric instruction that rounds a float to the nearest integer.
@@ -1189,7 +1189,7 @@ impl InstructionSink<'_> {
     /// [`Instruction::F32Nearest`](super::Instruction::F32Nearest) is the same instruction as a value.
     #[doc(alias = "f32.nearest")]
     pub fn f32_nearest(&mut self) -> &mut Self {
-        self.op([0x90])
+        self.put([0x90], [])
     }
 
     /// Appends `f32.sqrt` (opcode 0x91), a numeric instruction that computes the square root of a float.
@@ -1197,7 +1197,7 @@ impl InstructionSink<'_> {
     /// [`Instruction::F32Sqrt`](super::Instruction::F32Sqrt) is the same instruction as a value.
     #[doc(alias = "f32.sqrt")]
     pub fn f32_sqrt(&mut self) -> &mut Self {
-        self.op([0x91])
+        self.put([0x91], [])
     }
 
     /// Appends `f32.add` (opcode 0x92), a numeric instruction that adds two floats.
@@ -1205,7 +1205,7 @@ impl InstructionSink<'_> {
     /// [`Instruction::F32Add`](super::Instruction::F32Add) is the same instruction as a value.
     #[doc(alias = "f32.add")]
     pub fn f32_add(&mut self) -> &mut Self {
-        self.op([0x92])
+        self.put([0x92], [])
     }
 
     /// Appends `f32.sub` (opcode 0x93), a numeric instruction that subtracts two floats.
@@ -1213,7 +1213,7 @@ impl InstructionSink<'_> {
     /// [`Instruction::F32Sub`](super::Instruction::F32Sub) is the same instruction as a value.
     #[doc(alias = "f32.sub")]
     pub fn f32_sub(&mut self) -> &mut Self {
-        self.op([0x93])
+        self.put([0x93], [])
     }
 
     /// Appends `f32.mul` (opcode 0x94), a numeric instruction that multiplies two floats.
@@ -1221,7 +1221,7 @@ impl InstructionSink<'_> {
     /// [`Instruction::F32Mul`](super::Instruction::F32Mul) is the same instruction as a value.
     #[doc(alias = "f32.mul")]
     pub fn f32_mul(&mut self) -> &mut Self {
-        self.op([0x94])
+        self.put([0x94], [])
     }
 
     /// Appends `f32.div` (opcode 0x95), a numeric instruction that divides two floats.
@@ -1229,7 +1229,7 @@ impl InstructionSink<'_> {
     /// [`Instruction::F32Div`](super::Instruction::F32Div) is the same instruction as a value.
     #[doc(alias = "f32.div")]
     pub fn f32_div(&mut self) -> &mut Self {
-        self.op([0x95])
+        self.put([0x95], [])
     }
 
     /// Appends `f32.min` (opcode 0x96), a numeric instruction that computes the minimum of two floats.
@@ -1237,7 +1237,7 @@ impl InstructionSink<'_> {
     /// [`Instruction::F32Min`](super::Instruction::F32Min) is the same instruction as a value.
     #[doc(alias = "f32.min")]
     pub fn f32_min(&mut self) -> &mut Self {
-        self.op([0x96])
+        self.put([0x96], [])
     }
 
     /// Appends `f32.max` (opcode 0x97), a numeric instruction that computes the maximum of two floats.
@@ -1245,7 +1245,7 @@ impl InstructionSink<'_> {
     /// [`Instruction::F32Max`](super::Instruction::F32Max) is the same instruction as a value.
     #[doc(alias = "f32.max")]
     pub fn f32_max(&mut self) -> &mut Self {
-        self.op([0x97])
+        self.put([0x97], [])
     }
 
     /// Appends `f32.copysign` (opcode 0x98), a numeric instruction that copies the sign of a float to another.
@@ -1253,7 +1253,7 @@ impl InstructionSink<'_> {
     /// [`Instruction::F32Copysign`](super::Instruction::F32Copysign) is the same instruction as a value.
     #[doc(alias = "f32.copysign")]
     pub fn f32_copysign(&mut self) -> &mut Self {
-        self.op([0x98])
+        self.put([0x98], [])
     }
 
     /// Appends `f64.abs` (opcode 0x99), a numeric instruction that computes the absolute value of a float.
@@ -1261,7 +1261,7 @@ impl InstructionSink<'_> {
     /// [`Instruction::F64Abs`](super::Instruction::F64Abs) is the same instruction as a value.
     #[doc(alias = "f64.abs")]
     pub fn f64_abs(&mut self) -> &mut Self {
-        self.op([0x99])
+        self.put([0x99], [])
     }
 
     /// Appends `f64.neg` (opcode 0x9A), a numeric instruction that negates a float.
@@ -1269,7 +1269,7 @@ impl InstructionSink<'_> {
     /// [`Instruction::F64Neg`](super::Instruction::F64Neg) is the same instruction as a value.
     #[doc(alias = "f64.neg")]
     pub fn f64_neg(&mut self) -> &mut Self {
-        self.op([0x9A])
+        self.put([0x9A], [])
     }
 
     /// Appends `f64.ceil` (opcode 0x9B), a numeric instruction that rounds a float up.
@@ -1277,7 +1277,7 @@ impl InstructionSink<'_> {
     /// [`Instruction::F64Ceil`](super::Instruction::F64Ceil) is the same instruction as a value.
     #[doc(alias = "f64.ceil")]
     pub fn f64_ceil(&mut self) -> &mut Self {
-        self.op([0x9B])
+        self.put([0x9B], [])
     }
 
     /// Appends `f64.floor` (opcode 0x9C), a numeric instruction that rounds a float down.
@@ -1285,7 +1285,7 @@ impl InstructionSink<'_> {
     /// [`Instruction::F64Floor`](super::Instruction::F64Floor) is the same instruction as a value.
     #[doc(alias = "f64.floor")]
     pub fn f64_floor(&mut self) -> &mut Self {
-        self.op([0x9C])
+        self.put([0x9C], [])
     }
 
     /// Appends `f64.trunc` (opcode 0x9D), a numeric instruction that rounds a float towards zero.
@@ -1293,7 +1293,7 @@ impl InstructionSink<'_> {
     /// [`Instruction::F64Trunc`](super::Instruction::F64Trunc) is the same instruction as a value.
     #[doc(alias = "f64.trunc")]
     pub fn f64_trunc(&mut self) -> &mut Self {
-        self.op([0x9D])
+        self.put([0x9D], [])
     }
 
     /// Appends `f64.nearest` (opcode 0x9E), a numeric instruction that rounds a float to the nearest integer.
@@ -1301,7 +1301,7 @@ impl InstructionSink<'_> {
     /// [`Instruction::F64Nearest`](super::Instruction::F64Nearest) is the same instruction as a value.
     #[doc(alias = "f64.nearest")]
     pub fn f64_nearest(&mut self) -> &mut Self {
-        self.op([0x9E])
+        self.put([0x9E], [])
     }
 
     /// Appends `f64.sqrt` (opcode 0x9F), a numeric instruction that computes the square root of a float.
@@ -1309,7 +1309,7 @@ impl InstructionSink<'_> {
     /// [`Instruction::F64Sqrt`](super::Instruction::F64Sqrt) is the same instruction as a value.
     #[doc(alias = "f64.sqrt")]
     pub fn f64_sqrt(&mut self) -> &mut Self {
-        self.op([0x9F])
+        self.put([0x9F], [])
     }
 
     /// Appends `f64.add` (opcode 0xA0), a numeric instruction that adds two floats.
@@ -1317,7 +1317,7 @@ impl InstructionSink<'_> {
     /// [`Instruction::F64Add`](super::Instruction::F64Add) is the same instruction as a value.
     #[doc(alias = "f64.add")]
     pub fn f64_add(&mut self) -> &mut Self {
-        self.op([0xA0])
+        self.put([0xA0], [])
     }
 
     /// Appends `f64.sub` (opcode 0xA1), a numeric instruction that subtracts two floats.
@@ -1325,7 +1325,7 @@ impl InstructionSink<'_> {
     /// [`Instruction::F64Sub`](super::Instruction::F64Sub) is the same instruction as a value.
     #[doc(alias = "f64.sub")]
     pub fn f64_sub(&mut self) -> &mut Self {
-        self.op([0xA1])
+        self.put([0xA1], [])
     }
 
     /// Appends `f64.mul` (opcode 0xA2), a numeric instruction that multiplies two floats.
@@ -1333,7 +1333,7 @@ impl InstructionSink<'_> {
     /// [`Instruction::F64Mul`](super::Instruction::F64Mul) is the same instruction as a value.
     #[doc(alias = "f64.mul")]
     pub fn f64_mul(&mut self) -> &mut Self {
-        self.op([0xA2])
+        self.put([0xA2], [])
     }
 
     /// Appends `f64.div` (opcode 0xA3), a numeric instruction that divides two floats.
@@ -1341,7 +1341,7 @@ impl InstructionSink<'_> {
     /// [`Instruction::F64Div`](super::Instruction::F64Div) is the same instruction as a value.
     #[doc(alias = "f64.div")]
     pub fn f64_div(&mut self) -> &mut Self {
-        self.op([0xA3])
+        self.put([0xA3], [])
     }
 
     /// Appends `f64.min` (opcode 0xA4), a numeric instruction that computes the minimum of two floats.
@@ -1349,7 +1349,7 @@ impl InstructionSink<'_> {
     /// [`Instruction::F64Min`](super::Instruction::F64Min) is the same instruction as a value.
     #[doc(alias = "f64.min")]
     pub fn f64_min(&mut self) -> &mut Self {
-        self.op([0xA4])
+        self.put([0xA4], [])
     }
 
     /// Appends `f64.max` (opcode 0xA5), a numeric instruction that computes the maximum of two floats.
@@ -1357,7 +1357,7 @@ impl InstructionSink<'_> {
     /// [`Instruction::F64Max`](super::Instruction::F64Max) is the same instruction as a value.
     #[doc(alias = "f64.max")]
     pub fn f64_max(&mut self) -> &mut Self {
-        self.op([0xA5])
+        self.put([0xA5], [])
     }
 
     /// Appends `f64.copysign` (opcode 0xA6), a numeric instruction that copies the sign of a float to another.
@@ -1365,7 +1365,7 @@ impl InstructionSink<'_> {
     /// [`Instruction::F64Copysign`](super::Instruction::F64Copysign) is the same instruction as a value.
     #[doc(alias = "f64.copysign")]
     pub fn f64_copysign(&mut self) -> &mut Self {
-        self.op([0xA6])
+        self.put([0xA6], [])
     }
 
     /// Appends `i32.wrap_i64` (opcode 0xA7), a numeric instruction that takes the lower 32 bits of an integer.
@@ -1373,7 +1373,7 @@ impl InstructionSink<'_> {
     /// [`Instruction::I32WrapI64`](super::Instruction::I32WrapI64) is the same instruction as a value.
     #[doc(alias = "i32.wrap_i64")]
     pub fn i32_wrap_i64(&mut self) -> &mut Self {
-        self.op([0xA7])
+        self.put([0xA7], [])
     }
 
     /// Appends `i32.trunc_f32_s` (opcode 0xA8), a numeric instruction that converts a float to an integer, or traps.
@@ -1381,7 +1381,7 @@ impl InstructionSink<'_> {
     /// [`Instruction::I32TruncF32S`](super::Instruction::I32TruncF32S) is the same instruction as a value.
     #[doc(alias = "i32.trunc_f32_s")]
     pub fn i32_trunc_f32_s(&mut self) -> &mut Self {
-        self.op([0xA8])
+        self.put([0xA8], [])
     }
 
     /// Appends `i32.trunc_f32_u` (opcode 0xA9), a numeric instruction that converts a float to an integer, or traps.
@@ -1389,7 +1389,7 @@ impl InstructionSink<'_> {
     /// [`Instruction::I32TruncF32U`](super::Instruction::I32TruncF32U) is the same instruction as a value.
     #[doc(alias = "i32.trunc_f32_u")]
     pub fn i32_trunc_f32_u(&mut self) -> &mut Self {
-        self.op([0xA9])
+        self.put([0xA9], [])
     }
 
     /// Appends `i32.trunc_f64_s` (opcode 0xAA), a numeric instruction that converts a float to an integer, or traps.
@@ -1397,7 +1397,7 @@ impl InstructionSink<'_> {
     /// [`Instruction::I32TruncF64S`](super::Instruction::I32TruncF64S) is the same instruction as a value.
     #[doc(alias = "i32.trunc_f64_s")]
     pub fn i32_trunc_f64_s(&mut self) -> &mut Self {
-        self.op([0xAA])
+        self.put([0xAA], [])
     }
 
     /// Appends `i32.trunc_f64_u` (opcode 0xAB), a numeric instruction that converts a float to an integer, or traps.
@@ -1405,7 +1405,7 @@ impl InstructionSink<'_> {
     /// [`Instruction::I32TruncF64U`](super::Instruction::I32TruncF64U) is the same instruction as a value.
     #[doc(alias = "i32.trunc_f64_u")]
     pub fn i32_trunc_f64_u(&mut self) -> &mut Self {
-        self.op([0xAB])
+        self.put([0xAB], [])
     }
 
     /// Appends `i64.extend_i32_s` (opcode 0xAC), a numeric instruction that extends an integer to 64 bits.
@@ -1413,7 +1413,7 @@ impl InstructionSink<'_> {
     /// [`Instruction::I64ExtendI32S`](super::Instruction::I64ExtendI32S) is the same instruction as a value.
     #[doc(alias = "i64.extend_i32_s")]
     pub fn i64_extend_i32_s(&mut self) -> &mut Self {
-        self.op([0xAC])
+        self.put([0xAC], [])
     }
 
     /// Appends `i64.extend_i32_u` (opcode 0xAD), a numeric instruction that extends an integer to 64 bits.
@@ -1421,7 +1421,7 @@ impl InstructionSink<'_> {
     /// [`Instruction::I64ExtendI32U`](super::Instruction::I64ExtendI32U) is the same instruction as a value.
     #[doc(alias = "i64.extend_i32_u")]
     pub fn i64_extend_i32_u(&mut self) -> &mut Self {
-        self.op([0xAD])
+        self.put([0xAD], [])
     }
 
     /// Appends `i64.trunc_f32_s` (opcode 0xAE), a numeric instruction that converts a float to an integer, or traps.
@@ -1429,7 +1429,7 @@ impl InstructionSink<'_> {
     /// [`Instruction::I64TruncF32S`](super::Instruction::I64TruncF32S) is the same instruction as a value.
     #[doc(alias = "i64.trunc_f32_s")]
     pub fn i64_trunc_f32_s(&mut self) -> &mut Self {
-        self.op([0xAE])
+        self.put([0xAE], [])
     }
 
     /// Appends `i64.trunc_f32_u` (opcode 0xAF), a numeric instruction that converts a float to an integer, or traps.
@@ -1437,7 +1437,7 @@ impl InstructionSink<'_> {
     /// [`Instruction::I64TruncF32U`](super::Instruction::I64TruncF32U) is the same instruction as a value.
     #[doc(alias = "i64.trunc_f32_u")]
     pub fn i64_trunc_f32_u(&mut self) -> &mut Self {
-        self.op([0xAF])
+        self.put([0xAF], [])
     }
 
     /// Appends `i64.trunc_f64_s` (opcode 0xB0), a numeric instruction that converts a float to an integer, or traps.
@@ -1445,7 +1445,7 @@ impl InstructionSink<'_> {
     /// [`Instruction::I64TruncF64S`](super::Instruction::I64TruncF64S) is the same instruction as a value.
     #[doc(alias = "i64.trunc_f64_s")]
     pub fn i64_trunc_f64_s(&mut self) -> &mut Self {
-        self.op([0xB0])
+        self.put([0xB0], [])
     }
 
     /// Appends `i64.trunc_f64_u` (opcode 0xB1), a numeric instruction that converts a float to an integer, or traps.
@@ -1453,7 +1453,7 @@ impl InstructionSink<'_> {
     /// [`Instruction::I64TruncF64U`](super::Instruction::I64TruncF64U) is the same instruction as a value.
     #[doc(alias = "i64.trunc_f64_u")]
     pub fn i64_trunc_f64_u(&mut self) -> &mut Self {
-        self.op([0xB1])
+        self.put([0xB1], [])
     }
 
     /// Appends `f32.convert_i32_s` (opcode 0xB2), a numeric instruction that converts an integer to a float.
@@ -1461,7 +1461,7 @@ impl InstructionSink<'_> {
     /// [`Instruction::F32ConvertI32S`](super::Instruction::F32ConvertI32S) is the same instruction as a value.
     #[doc(alias = "f32.convert_i32_s")]
     pub fn f32_convert_i32_s(&mut self) -> &mut Self {
-        self.op([0xB2])
+        self.put([0xB2], [])
     }
 
     /// Appends `f32.convert_i32_u` (opcode 0xB3), a numeric instruction that converts an integer to a float.
@@ -1469,7 +1469,7 @@ impl InstructionSink<'_> {
     /// [`Instruction::F32ConvertI32U`](super::Instruction::F32ConvertI32U) is the same instruction as a value.
     #[doc(alias = "f32.convert_i32_u")]
     pub fn f32_convert_i32_u(&mut self) -> &mut Self {
-        self.op([0xB3])
+        self.put([0xB3], [])
     }
 
     /// Appends `f32.convert_i64_s` (opcode 0xB4), a numeric instruction that converts an integer to a float.
@@ -1477,7 +1477,7 @@ impl InstructionSink<'_> {
     /// [`Instruction::F32ConvertI64S`](super::Instruction::F32ConvertI64S) is the same instruction as a value.
     #[doc(alias = "f32.convert_i64_s")]
     pub fn f32_convert_i64_s(&mut self) -> &mut Self {
-        self.op([0xB4])
+        self.put([0xB4], [])
     }
 
     /// Appends `f32.convert_i64_u` (opcode 0xB5), a numeric instruction that converts an integer to a float.
@@ -1485,7 +1485,7 @@ impl InstructionSink<'_> {
     /// [`Instruction::F32ConvertI64U`](super::Instruction::F32ConvertI64U) is the same instruction as a value.
     #[doc(alias = "f32.convert_i64_u")]
     pub fn f32_convert_i64_u(&mut self) -> &mut Self {
-        self.op([0xB5])
+        self.put([0xB5], [])
     }
 
     /// Appends `f32.demote_f64` (opcode 0xB6), a numeric instruction that rounds a float to 32 bits.
@@ -1493,7 +1493,7 @@ impl InstructionSink<'_> {
     /// [`Instruction::F32DemoteF64`](super::Instruction::F32DemoteF64) is the same instruction as a value.
     #[doc(alias = "f32.demote_f64")]
     pub fn f32_demote_f64(&mut self) -> &mut Self {
-        self.op([0xB6])
+        self.put([0xB6], [])
     }
 
     /// Appends `f64.convert_i32_s` (opcode 0xB7), a numeric instruction that converts an integer to a float.
@@ -1501,7 +1501,7 @@ impl InstructionSink<'_> {
     /// [`Instruction::F64ConvertI32S`](super::Instruction::F64ConvertI32S) is the same instruction as a value.
     #[doc(alias = "f64.convert_i32_s")]
     pub fn f64_convert_i32_s(&mut self) -> &mut Self {
-        self.op([0xB7])
+        self.put([0xB7], [])
     }
 
     /// Appends `f64.convert_i32_u` (opcode 0xB8), a numeric instruction that converts an integer to a float.
@@ -1509,7 +1509,7 @@ impl InstructionSink<'_> {
     /// [`Instruction::F64ConvertI32U`](super::Instruction::F64ConvertI32U) is the same instruction as a value.
     #[doc(alias = "f64.convert_i32_u")]
     pub fn f64_convert_i32_u(&mut self) -> &mut Self {
-        self.op([0xB8])
+        self.put([0xB8], [])
     }
 
     /// Appends `f64.convert_i64_s` (opcode 0xB9), a numeric instruction that converts an integer to a float.
@@ -1517,7 +1517,7 @@ impl InstructionSink<'_> {
     /// [`Instruction::F64ConvertI64S`](super::Instruction::F64ConvertI64S) is the same instruction as a value.
     #[doc(alias = "f64.convert_i64_s")]
     pub fn f64_convert_i64_s(&mut self) -> &mut Self {
-        self.op([0xB9])
+        self.put([0xB9], [])
     }
 
     /// Appends `f64.convert_i64_u` (opcode 0xBA), a numeric instruction that converts an integer to a float.
@@ -1525,7 +1525,7 @@ impl InstructionSink<'_> {
     /// [`Instruction::F64ConvertI64U`](super::Instruction::F64ConvertI64U) is the same instruction as a value.
     #[doc(alias = "f64.convert_i64_u")]
     pub fn f64_convert_i64_u(&mut self) -> &mut Self {
-        self.op([0xBA])
+        self.put([0xBA], [])
     }
 
     /// Appends `f64.promote_f32` (opcode 0xBB), a numeric instruction that converts a float to 64 bits.
@@ -1533,7 +1533,7 @@ impl InstructionSink<'_> {
     /// [`Instruction::F64PromoteF32`](super::Instruction::F64PromoteF32) is the same instruction as a value.
     #[doc(alias = "f64.promote_f32")]
     pub fn f64_promote_f32(&mut self) -> &mut Self {
-        self.op([0xBB])
+        self.put([0xBB], [])
     }
 
     /// Appends `i32.reinterpret_f32` (opcode 0xBC), a numeric instruction that takes the bits of a number as another type.
@@ -1541,7 +1541,7 @@ impl InstructionSink<'_> {
     /// [`Instruction::I32ReinterpretF32`](super::Instruction::I32ReinterpretF32) is the same instruction as a value.
     #[doc(alias = "i32.reinterpret_f32")]
     pub fn i32_reinterpret_f32(&mut self) -> &mut Self {
-        self.op([0xBC])
+        self.put([0xBC], [])
     }
 
     /// Appends `i64.reinterpret_f64` (opcode 0xBD), a numeric instruction that takes the bits of a number as another type.
@@ -1549,7 +1549,7 @@ impl InstructionSink<'_> {
     /// [`Instruction::I64ReinterpretF64`](super::Instruction::I64ReinterpretF64) is the same instruction as a value.
     #[doc(alias = "i64.reinterpret_f64")]
     pub fn i64_reinterpret_f64(&mut self) -> &mut Self {
-        self.op([0xBD])
+        self.put([0xBD], [])
     }
 
     /// Appends `f32.reinterpret_i32` (opcode 0xBE), a numeric instruction that takes the bits of a number as another type.
@@ -1557,7 +1557,7 @@ impl InstructionSink<'_> {
     /// [`Instruction::F32ReinterpretI32`](super::Instruction::F32ReinterpretI32) is the same instruction as a value.
     #[doc(alias = "f32.reinterpret_i32")]
     pub fn f32_reinterpret_i32(&mut self) -> &mut Self {
-        self.op([0xBE])
+        self.put([0xBE], [])
     }
 
     /// Appends `f64.reinterpret_i64` (opcode 0xBF), a numeric instruction that takes the bits of a number as another type.
@@ -1565,7 +1565,7 @@ impl InstructionSink<'_> {
     /// [`Instruction::F64ReinterpretI64`](super::Instruction::F64ReinterpretI64) is the same instruction as a value.
     #[doc(alias = "f64.reinterpret_i64")]
     pub fn f64_reinterpret_i64(&mut self) -> &mut Self {
-        self.op([0xBF])
+        self.put([0xBF], [])
     }
 
     /// Appends `i32.extend8_s` (opcode 0xC0), a numeric instruction that sign-extends the lower 8 bits of an integer.
@@ -1573,7 +1573,7 @@ impl InstructionSink<'_> {
     /// [`Instruction::I32Extend8S`](super::Instruction::I32Extend8S) is the same instruction as a value.
     #[doc(alias = "i32.extend8_s")]
     pub fn i32_extend8_s(&mut self) -> &mut Self {
-        self.op([0xC0])
+        self.put([0xC0], [])
     }
 
     /// Appends `i32.extend16_s` (opcode 0xC1), a numeric instruction that sign-extends the lower 16 bits of an integer.
@@ -1581,7 +1581,7 @@ impl InstructionSink<'_> {
     /// [`Instruction::I32Extend16S`](super::Instruction::I32Extend16S) is the same instruction as a value.
     #[doc(alias = "i32.extend16_s")]
     pub fn i32_extend16_s(&mut self) -> &mut Self {
-        self.op([0xC1])
+        self.put([0xC1], [])
     }
 
     /// Appends `i64.extend8_s` (opcode 0xC2), a numeric instruction that sign-extends the lower 8 bits of an integer.
@@ -1589,7 +1589,7 @@ impl InstructionSink<'_> {
     /// [`Instruction::I64Extend8S`](super::Instruction::I64Extend8S) is the same instruction as a value.
     #[doc(alias = "i64.extend8_s")]
     pub fn i64_extend8_s(&mut self) -> &mut Self {
-        self.op([0xC2])
+        self.put([0xC2], [])
     }
 
     /// Appends `i64.extend16_s` (opcode 0xC3), a numeric instruction that sign-extends the lower 16 bits of an integer.
@@ -1597,7 +1597,7 @@ impl InstructionSink<'_> {
     /// [`Instruction::I64Extend16S`](super::Instruction::I64Extend16S) is the same instruction as a value.
     #[doc(alias = "i64.extend16_s")]
     pub fn i64_extend16_s(&mut self) -> &mut Self {
-        self.op([0xC3])
+        self.put([0xC3], [])
     }
 
     /// Appends `i64.extend32_s` (opcode 0xC4), a numeric instruction that sign-extends the lower 32 bits of an integer.
@@ -1605,7 +1605,7 @@ impl InstructionSink<'_> {
     /// [`Instruction::I64Extend32S`](super::Instruction::I64Extend32S) is the same instruction as a value.
     #[doc(alias = "i64.extend32_s")]
     pub fn i64_extend32_s(&mut self) -> &mut Self {
-        self.op([0xC4])
+        self.put([0xC4], [])
     }
 
     /// Appends `ref.null` (opcode 0xD0), a reference instruction that returns a null reference.
@@ -1623,7 +1623,7 @@ impl InstructionSink<'_> {
     /// The proved [`ref_is_null`](insn::InstructionSink::ref_is_null) of `fallible` encodes the same.
     #[doc(alias = "ref.is_null")]
     pub fn ref_is_null(&mut self) -> &mut Self {
-        self.op([0xD1])
+        self.put([0xD1], [])
     }
 
     /// Appends `ref.func` (opcode 0xD2), a reference instruction that returns a reference to a function.
@@ -1642,7 +1642,7 @@ impl InstructionSink<'_> {
     /// [`Instruction::RefEq`](super::Instruction::RefEq) is the same instruction as a value.
     #[doc(alias = "ref.eq")]
     pub fn ref_eq(&mut self) -> &mut Self {
-        self.op([0xD3])
+        self.put([0xD3], [])
     }
 
     /// Appends `ref.as_non_null` (opcode 0xD4), a reference instruction that traps if a reference is null.
@@ -1650,7 +1650,7 @@ impl InstructionSink<'_> {
     /// [`Instruction::RefAsNonNull`](super::Instruction::RefAsNonNull) is the same instruction as a value.
     #[doc(alias = "ref.as_non_null")]
     pub fn ref_as_non_null(&mut self) -> &mut Self {
-        self.op([0xD4])
+        self.put([0xD4], [])
     }
 
     /// Appends `br_on_null` (opcode 0xD5), a control instruction that branches to a label if a reference is null.
@@ -1892,7 +1892,7 @@ impl InstructionSink<'_> {
     /// [`Instruction::ArrayLen`](super::Instruction::ArrayLen) is the same instruction as a value.
     #[doc(alias = "array.len")]
     pub fn array_len(&mut self) -> &mut Self {
-        self.op([0xFB, 0x0F])
+        self.put([0xFB, 0x0F], [])
     }
 
     /// Appends `array.fill` (opcode 0xFB 16), an aggregate instruction that sets elements of an array to one value.
@@ -1988,7 +1988,7 @@ impl InstructionSink<'_> {
     /// [`Instruction::AnyConvertExtern`](super::Instruction::AnyConvertExtern) is the same instruction as a value.
     #[doc(alias = "any.convert_extern")]
     pub fn any_convert_extern(&mut self) -> &mut Self {
-        self.op([0xFB, 0x1A])
+        self.put([0xFB, 0x1A], [])
     }
 
     /// Appends `extern.convert_any` (opcode 0xFB 27), an aggregate instruction that converts an internal reference to an external one.
@@ -1996,7 +1996,7 @@ impl InstructionSink<'_> {
     /// [`Instruction::ExternConvertAny`](super::Instruction::ExternConvertAny) is the same instruction as a value.
     #[doc(alias = "extern.convert_any")]
     pub fn extern_convert_any(&mut self) -> &mut Self {
-        self.op([0xFB, 0x1B])
+        self.put([0xFB, 0x1B], [])
     }
 
     /// Appends `ref.i31` (opcode 0xFB 28), an aggregate instruction that makes a reference of the lower 31 bits of an integer.
@@ -2004,7 +2004,7 @@ impl InstructionSink<'_> {
     /// [`Instruction::RefI31`](super::Instruction::RefI31) is the same instruction as a value.
     #[doc(alias = "ref.i31")]
     pub fn ref_i31(&mut self) -> &mut Self {
-        self.op([0xFB, 0x1C])
+        self.put([0xFB, 0x1C], [])
     }
 
     /// Appends `i31.get_s` (opcode 0xFB 29), an aggregate instruction that reads the integer of 31 bits of a reference, sign-extended.
@@ -2012,7 +2012,7 @@ impl InstructionSink<'_> {
     /// [`Instruction::I31GetS`](super::Instruction::I31GetS) is the same instruction as a value.
     #[doc(alias = "i31.get_s")]
     pub fn i31_get_s(&mut self) -> &mut Self {
-        self.op([0xFB, 0x1D])
+        self.put([0xFB, 0x1D], [])
     }
 
     /// Appends `i31.get_u` (opcode 0xFB 30), an aggregate instruction that reads the integer of 31 bits of a reference, zero-extended.
@@ -2020,7 +2020,7 @@ impl InstructionSink<'_> {
     /// [`Instruction::I31GetU`](super::Instruction::I31GetU) is the same instruction as a value.
     #[doc(alias = "i31.get_u")]
     pub fn i31_get_u(&mut self) -> &mut Self {
-        self.op([0xFB, 0x1E])
+        self.put([0xFB, 0x1E], [])
     }
 
     /// Appends `struct.new_desc` (opcode 0xFB 32), an instruction of the custom descriptors proposal that makes a structure of given values, with a descriptor.
@@ -2082,7 +2082,7 @@ impl InstructionSink<'_> {
     /// [`Instruction::I32TruncSatF32S`](super::Instruction::I32TruncSatF32S) is the same instruction as a value.
     #[doc(alias = "i32.trunc_sat_f32_s")]
     pub fn i32_trunc_sat_f32_s(&mut self) -> &mut Self {
-        self.op([0xFC, 0x00])
+        self.put([0xFC, 0x00], [])
     }
 
     /// Appends `i32.trunc_sat_f32_u` (opcode 0xFC 1), a numeric instruction that converts a float to an integer, and saturates.
@@ -2090,7 +2090,7 @@ impl InstructionSink<'_> {
     /// [`Instruction::I32TruncSatF32U`](super::Instruction::I32TruncSatF32U) is the same instruction as a value.
     #[doc(alias = "i32.trunc_sat_f32_u")]
     pub fn i32_trunc_sat_f32_u(&mut self) -> &mut Self {
-        self.op([0xFC, 0x01])
+        self.put([0xFC, 0x01], [])
     }
 
     /// Appends `i32.trunc_sat_f64_s` (opcode 0xFC 2), a numeric instruction that converts a float to an integer, and saturates.
@@ -2098,7 +2098,7 @@ impl InstructionSink<'_> {
     /// [`Instruction::I32TruncSatF64S`](super::Instruction::I32TruncSatF64S) is the same instruction as a value.
     #[doc(alias = "i32.trunc_sat_f64_s")]
     pub fn i32_trunc_sat_f64_s(&mut self) -> &mut Self {
-        self.op([0xFC, 0x02])
+        self.put([0xFC, 0x02], [])
     }
 
     /// Appends `i32.trunc_sat_f64_u` (opcode 0xFC 3), a numeric instruction that converts a float to an integer, and saturates.
@@ -2106,7 +2106,7 @@ impl InstructionSink<'_> {
     /// [`Instruction::I32TruncSatF64U`](super::Instruction::I32TruncSatF64U) is the same instruction as a value.
     #[doc(alias = "i32.trunc_sat_f64_u")]
     pub fn i32_trunc_sat_f64_u(&mut self) -> &mut Self {
-        self.op([0xFC, 0x03])
+        self.put([0xFC, 0x03], [])
     }
 
     /// Appends `i64.trunc_sat_f32_s` (opcode 0xFC 4), a numeric instruction that converts a float to an integer, and saturates.
@@ -2114,7 +2114,7 @@ impl InstructionSink<'_> {
     /// [`Instruction::I64TruncSatF32S`](super::Instruction::I64TruncSatF32S) is the same instruction as a value.
     #[doc(alias = "i64.trunc_sat_f32_s")]
     pub fn i64_trunc_sat_f32_s(&mut self) -> &mut Self {
-        self.op([0xFC, 0x04])
+        self.put([0xFC, 0x04], [])
     }
 
     /// Appends `i64.trunc_sat_f32_u` (opcode 0xFC 5), a numeric instruction that converts a float to an integer, and saturates.
@@ -2122,7 +2122,7 @@ impl InstructionSink<'_> {
     /// [`Instruction::I64TruncSatF32U`](super::Instruction::I64TruncSatF32U) is the same instruction as a value.
     #[doc(alias = "i64.trunc_sat_f32_u")]
     pub fn i64_trunc_sat_f32_u(&mut self) -> &mut Self {
-        self.op([0xFC, 0x05])
+        self.put([0xFC, 0x05], [])
     }
 
     /// Appends `i64.trunc_sat_f64_s` (opcode 0xFC 6), a numeric instruction that converts a float to an integer, and saturates.
@@ -2130,7 +2130,7 @@ impl InstructionSink<'_> {
     /// [`Instruction::I64TruncSatF64S`](super::Instruction::I64TruncSatF64S) is the same instruction as a value.
     #[doc(alias = "i64.trunc_sat_f64_s")]
     pub fn i64_trunc_sat_f64_s(&mut self) -> &mut Self {
-        self.op([0xFC, 0x06])
+        self.put([0xFC, 0x06], [])
     }
 
     /// Appends `i64.trunc_sat_f64_u` (opcode 0xFC 7), a numeric instruction that converts a float to an integer, and saturates.
@@ -2138,7 +2138,7 @@ impl InstructionSink<'_> {
     /// [`Instruction::I64TruncSatF64U`](super::Instruction::I64TruncSatF64U) is the same instruction as a value.
     #[doc(alias = "i64.trunc_sat_f64_u")]
     pub fn i64_trunc_sat_f64_u(&mut self) -> &mut Self {
-        self.op([0xFC, 0x07])
+        self.put([0xFC, 0x07], [])
     }
 
     /// Appends `memory.init` (opcode 0xFC 8), a memory instruction that copies bytes of a data segment to a memory.
@@ -2272,7 +2272,7 @@ impl InstructionSink<'_> {
     /// [`Instruction::I64Add128`](super::Instruction::I64Add128) is the same instruction as a value.
     #[doc(alias = "i64.add128")]
     pub fn i64_add128(&mut self) -> &mut Self {
-        self.op([0xFC, 0x13])
+        self.put([0xFC, 0x13], [])
     }
 
     /// Appends `i64.sub128` (opcode 0xFC 20), a numeric instruction of the wide arithmetic proposal that subtracts two integers of 128 bits.
@@ -2280,7 +2280,7 @@ impl InstructionSink<'_> {
     /// [`Instruction::I64Sub128`](super::Instruction::I64Sub128) is the same instruction as a value.
     #[doc(alias = "i64.sub128")]
     pub fn i64_sub128(&mut self) -> &mut Self {
-        self.op([0xFC, 0x14])
+        self.put([0xFC, 0x14], [])
     }
 
     /// Appends `i64.mul_wide_s` (opcode 0xFC 21), a numeric instruction of the wide arithmetic proposal that multiplies two integers to 128 bits.
@@ -2288,7 +2288,7 @@ impl InstructionSink<'_> {
     /// [`Instruction::I64MulWideS`](super::Instruction::I64MulWideS) is the same instruction as a value.
     #[doc(alias = "i64.mul_wide_s")]
     pub fn i64_mul_wide_s(&mut self) -> &mut Self {
-        self.op([0xFC, 0x15])
+        self.put([0xFC, 0x15], [])
     }
 
     /// Appends `i64.mul_wide_u` (opcode 0xFC 22), a numeric instruction of the wide arithmetic proposal that multiplies two integers to 128 bits.
@@ -2296,7 +2296,7 @@ impl InstructionSink<'_> {
     /// [`Instruction::I64MulWideU`](super::Instruction::I64MulWideU) is the same instruction as a value.
     #[doc(alias = "i64.mul_wide_u")]
     pub fn i64_mul_wide_u(&mut self) -> &mut Self {
-        self.op([0xFC, 0x16])
+        self.put([0xFC, 0x16], [])
     }
 
     /// Appends `v128.load` (opcode 0xFD 0), a vector instruction that loads a vector from a memory.
@@ -2436,7 +2436,7 @@ impl InstructionSink<'_> {
     /// [`Instruction::I8x16Swizzle`](super::Instruction::I8x16Swizzle) is the same instruction as a value.
     #[doc(alias = "i8x16.swizzle")]
     pub fn i8x16_swizzle(&mut self) -> &mut Self {
-        self.op([0xFD, 0x0E])
+        self.put([0xFD, 0x0E], [])
     }
 
     /// Appends `i8x16.splat` (opcode 0xFD 15), a vector instruction that copies a number to each lane of a vector.
@@ -2444,7 +2444,7 @@ impl InstructionSink<'_> {
     /// [`Instruction::I8x16Splat`](super::Instruction::I8x16Splat) is the same instruction as a value.
     #[doc(alias = "i8x16.splat")]
     pub fn i8x16_splat(&mut self) -> &mut Self {
-        self.op([0xFD, 0x0F])
+        self.put([0xFD, 0x0F], [])
     }
 
     /// Appends `i16x8.splat` (opcode 0xFD 16), a vector instruction that copies a number to each lane of a vector.
@@ -2452,7 +2452,7 @@ impl InstructionSink<'_> {
     /// [`Instruction::I16x8Splat`](super::Instruction::I16x8Splat) is the same instruction as a value.
     #[doc(alias = "i16x8.splat")]
     pub fn i16x8_splat(&mut self) -> &mut Self {
-        self.op([0xFD, 0x10])
+        self.put([0xFD, 0x10], [])
     }
 
     /// Appends `i32x4.splat` (opcode 0xFD 17), a vector instruction that copies a number to each lane of a vector.
@@ -2460,7 +2460,7 @@ impl InstructionSink<'_> {
     /// [`Instruction::I32x4Splat`](super::Instruction::I32x4Splat) is the same instruction as a value.
     #[doc(alias = "i32x4.splat")]
     pub fn i32x4_splat(&mut self) -> &mut Self {
-        self.op([0xFD, 0x11])
+        self.put([0xFD, 0x11], [])
     }
 
     /// Appends `i64x2.splat` (opcode 0xFD 18), a vector instruction that copies a number to each lane of a vector.
@@ -2468,7 +2468,7 @@ impl InstructionSink<'_> {
     /// [`Instruction::I64x2Splat`](super::Instruction::I64x2Splat) is the same instruction as a value.
     #[doc(alias = "i64x2.splat")]
     pub fn i64x2_splat(&mut self) -> &mut Self {
-        self.op([0xFD, 0x12])
+        self.put([0xFD, 0x12], [])
     }
 
     /// Appends `f32x4.splat` (opcode 0xFD 19), a vector instruction that copies a number to each lane of a vector.
@@ -2476,7 +2476,7 @@ impl InstructionSink<'_> {
     /// [`Instruction::F32x4Splat`](super::Instruction::F32x4Splat) is the same instruction as a value.
     #[doc(alias = "f32x4.splat")]
     pub fn f32x4_splat(&mut self) -> &mut Self {
-        self.op([0xFD, 0x13])
+        self.put([0xFD, 0x13], [])
     }
 
     /// Appends `f64x2.splat` (opcode 0xFD 20), a vector instruction that copies a number to each lane of a vector.
@@ -2484,7 +2484,7 @@ impl InstructionSink<'_> {
     /// [`Instruction::F64x2Splat`](super::Instruction::F64x2Splat) is the same instruction as a value.
     #[doc(alias = "f64x2.splat")]
     pub fn f64x2_splat(&mut self) -> &mut Self {
-        self.op([0xFD, 0x14])
+        self.put([0xFD, 0x14], [])
     }
 
     /// Appends `i8x16.extract_lane_s` (opcode 0xFD 21), a vector instruction that reads a lane of a vector.
@@ -2604,7 +2604,7 @@ impl InstructionSink<'_> {
     /// [`Instruction::I8x16Eq`](super::Instruction::I8x16Eq) is the same instruction as a value.
     #[doc(alias = "i8x16.eq")]
     pub fn i8x16_eq(&mut self) -> &mut Self {
-        self.op([0xFD, 0x23])
+        self.put([0xFD, 0x23], [])
     }
 
     /// Appends `i8x16.ne` (opcode 0xFD 36), a vector instruction that compares each lane of two vectors.
@@ -2612,7 +2612,7 @@ impl InstructionSink<'_> {
     /// [`Instruction::I8x16Ne`](super::Instruction::I8x16Ne) is the same instruction as a value.
     #[doc(alias = "i8x16.ne")]
     pub fn i8x16_ne(&mut self) -> &mut Self {
-        self.op([0xFD, 0x24])
+        self.put([0xFD, 0x24], [])
     }
 
     /// Appends `i8x16.lt_s` (opcode 0xFD 37), a vector instruction that compares each lane of two vectors.
@@ -2620,7 +2620,7 @@ impl InstructionSink<'_> {
     /// [`Instruction::I8x16LtS`](super::Instruction::I8x16LtS) is the same instruction as a value.
     #[doc(alias = "i8x16.lt_s")]
     pub fn i8x16_lt_s(&mut self) -> &mut Self {
-        self.op([0xFD, 0x25])
+        self.put([0xFD, 0x25], [])
     }
 
     /// Appends `i8x16.lt_u` (opcode 0xFD 38), a vector instruction that compares each lane of two vectors.
@@ -2628,7 +2628,7 @@ impl InstructionSink<'_> {
     /// [`Instruction::I8x16LtU`](super::Instruction::I8x16LtU) is the same instruction as a value.
     #[doc(alias = "i8x16.lt_u")]
     pub fn i8x16_lt_u(&mut self) -> &mut Self {
-        self.op([0xFD, 0x26])
+        self.put([0xFD, 0x26], [])
     }
 
     /// Appends `i8x16.gt_s` (opcode 0xFD 39), a vector instruction that compares each lane of two vectors.
@@ -2636,7 +2636,7 @@ impl InstructionSink<'_> {
     /// [`Instruction::I8x16GtS`](super::Instruction::I8x16GtS) is the same instruction as a value.
     #[doc(alias = "i8x16.gt_s")]
     pub fn i8x16_gt_s(&mut self) -> &mut Self {
-        self.op([0xFD, 0x27])
+        self.put([0xFD, 0x27], [])
     }
 
     /// Appends `i8x16.gt_u` (opcode 0xFD 40), a vector instruction that compares each lane of two vectors.
@@ -2644,7 +2644,7 @@ impl InstructionSink<'_> {
     /// [`Instruction::I8x16GtU`](super::Instruction::I8x16GtU) is the same instruction as a value.
     #[doc(alias = "i8x16.gt_u")]
     pub fn i8x16_gt_u(&mut self) -> &mut Self {
-        self.op([0xFD, 0x28])
+        self.put([0xFD, 0x28], [])
     }
 
     /// Appends `i8x16.le_s` (opcode 0xFD 41), a vector instruction that compares each lane of two vectors.
@@ -2652,7 +2652,7 @@ impl InstructionSink<'_> {
     /// [`Instruction::I8x16LeS`](super::Instruction::I8x16LeS) is the same instruction as a value.
     #[doc(alias = "i8x16.le_s")]
     pub fn i8x16_le_s(&mut self) -> &mut Self {
-        self.op([0xFD, 0x29])
+        self.put([0xFD, 0x29], [])
     }
 
     /// Appends `i8x16.le_u` (opcode 0xFD 42), a vector instruction that compares each lane of two vectors.
@@ -2660,7 +2660,7 @@ impl InstructionSink<'_> {
     /// [`Instruction::I8x16LeU`](super::Instruction::I8x16LeU) is the same instruction as a value.
     #[doc(alias = "i8x16.le_u")]
     pub fn i8x16_le_u(&mut self) -> &mut Self {
-        self.op([0xFD, 0x2A])
+        self.put([0xFD, 0x2A], [])
     }
 
     /// Appends `i8x16.ge_s` (opcode 0xFD 43), a vector instruction that compares each lane of two vectors.
@@ -2668,7 +2668,7 @@ impl InstructionSink<'_> {
     /// [`Instruction::I8x16GeS`](super::Instruction::I8x16GeS) is the same instruction as a value.
     #[doc(alias = "i8x16.ge_s")]
     pub fn i8x16_ge_s(&mut self) -> &mut Self {
-        self.op([0xFD, 0x2B])
+        self.put([0xFD, 0x2B], [])
     }
 
     /// Appends `i8x16.ge_u` (opcode 0xFD 44), a vector instruction that compares each lane of two vectors.
@@ -2676,7 +2676,7 @@ impl InstructionSink<'_> {
     /// [`Instruction::I8x16GeU`](super::Instruction::I8x16GeU) is the same instruction as a value.
     #[doc(alias = "i8x16.ge_u")]
     pub fn i8x16_ge_u(&mut self) -> &mut Self {
-        self.op([0xFD, 0x2C])
+        self.put([0xFD, 0x2C], [])
     }
 
     /// Appends `i16x8.eq` (opcode 0xFD 45), a vector instruction that compares each lane of two vectors.
@@ -2684,7 +2684,7 @@ impl InstructionSink<'_> {
     /// [`Instruction::I16x8Eq`](super::Instruction::I16x8Eq) is the same instruction as a value.
     #[doc(alias = "i16x8.eq")]
     pub fn i16x8_eq(&mut self) -> &mut Self {
-        self.op([0xFD, 0x2D])
+        self.put([0xFD, 0x2D], [])
     }
 
     /// Appends `i16x8.ne` (opcode 0xFD 46), a vector instruction that compares each lane of two vectors.
@@ -2692,7 +2692,7 @@ impl InstructionSink<'_> {
     /// [`Instruction::I16x8Ne`](super::Instruction::I16x8Ne) is the same instruction as a value.
     #[doc(alias = "i16x8.ne")]
     pub fn i16x8_ne(&mut self) -> &mut Self {
-        self.op([0xFD, 0x2E])
+        self.put([0xFD, 0x2E], [])
     }
 
     /// Appends `i16x8.lt_s` (opcode 0xFD 47), a vector instruction that compares each lane of two vectors.
@@ -2700,7 +2700,7 @@ impl InstructionSink<'_> {
     /// [`Instruction::I16x8LtS`](super::Instruction::I16x8LtS) is the same instruction as a value.
     #[doc(alias = "i16x8.lt_s")]
     pub fn i16x8_lt_s(&mut self) -> &mut Self {
-        self.op([0xFD, 0x2F])
+        self.put([0xFD, 0x2F], [])
     }
 
     /// Appends `i16x8.lt_u` (opcode 0xFD 48), a vector instruction that compares each lane of two vectors.
@@ -2708,7 +2708,7 @@ impl InstructionSink<'_> {
     /// [`Instruction::I16x8LtU`](super::Instruction::I16x8LtU) is the same instruction as a value.
     #[doc(alias = "i16x8.lt_u")]
     pub fn i16x8_lt_u(&mut self) -> &mut Self {
-        self.op([0xFD, 0x30])
+        self.put([0xFD, 0x30], [])
     }
 
     /// Appends `i16x8.gt_s` (opcode 0xFD 49), a vector instruction that compares each lane of two vectors.
@@ -2716,7 +2716,7 @@ impl InstructionSink<'_> {
     /// [`Instruction::I16x8GtS`](super::Instruction::I16x8GtS) is the same instruction as a value.
     #[doc(alias = "i16x8.gt_s")]
     pub fn i16x8_gt_s(&mut self) -> &mut Self {
-        self.op([0xFD, 0x31])
+        self.put([0xFD, 0x31], [])
     }
 
     /// Appends `i16x8.gt_u` (opcode 0xFD 50), a vector instruction that compares each lane of two vectors.
@@ -2724,7 +2724,7 @@ impl InstructionSink<'_> {
     /// [`Instruction::I16x8GtU`](super::Instruction::I16x8GtU) is the same instruction as a value.
     #[doc(alias = "i16x8.gt_u")]
     pub fn i16x8_gt_u(&mut self) -> &mut Self {
-        self.op([0xFD, 0x32])
+        self.put([0xFD, 0x32], [])
     }
 
     /// Appends `i16x8.le_s` (opcode 0xFD 51), a vector instruction that compares each lane of two vectors.
@@ -2732,7 +2732,7 @@ impl InstructionSink<'_> {
     /// [`Instruction::I16x8LeS`](super::Instruction::I16x8LeS) is the same instruction as a value.
     #[doc(alias = "i16x8.le_s")]
     pub fn i16x8_le_s(&mut self) -> &mut Self {
-        self.op([0xFD, 0x33])
+        self.put([0xFD, 0x33], [])
     }
 
     /// Appends `i16x8.le_u` (opcode 0xFD 52), a vector instruction that compares each lane of two vectors.
@@ -2740,7 +2740,7 @@ impl InstructionSink<'_> {
     /// [`Instruction::I16x8LeU`](super::Instruction::I16x8LeU) is the same instruction as a value.
     #[doc(alias = "i16x8.le_u")]
     pub fn i16x8_le_u(&mut self) -> &mut Self {
-        self.op([0xFD, 0x34])
+        self.put([0xFD, 0x34], [])
     }
 
     /// Appends `i16x8.ge_s` (opcode 0xFD 53), a vector instruction that compares each lane of two vectors.
@@ -2748,7 +2748,7 @@ impl InstructionSink<'_> {
     /// [`Instruction::I16x8GeS`](super::Instruction::I16x8GeS) is the same instruction as a value.
     #[doc(alias = "i16x8.ge_s")]
     pub fn i16x8_ge_s(&mut self) -> &mut Self {
-        self.op([0xFD, 0x35])
+        self.put([0xFD, 0x35], [])
     }
 
     /// Appends `i16x8.ge_u` (opcode 0xFD 54), a vector instruction that compares each lane of two vectors.
@@ -2756,7 +2756,7 @@ impl InstructionSink<'_> {
     /// [`Instruction::I16x8GeU`](super::Instruction::I16x8GeU) is the same instruction as a value.
     #[doc(alias = "i16x8.ge_u")]
     pub fn i16x8_ge_u(&mut self) -> &mut Self {
-        self.op([0xFD, 0x36])
+        self.put([0xFD, 0x36], [])
     }
 
     /// Appends `i32x4.eq` (opcode 0xFD 55), a vector instruction that compares each lane of two vectors.
@@ -2764,7 +2764,7 @@ impl InstructionSink<'_> {
     /// [`Instruction::I32x4Eq`](super::Instruction::I32x4Eq) is the same instruction as a value.
     #[doc(alias = "i32x4.eq")]
     pub fn i32x4_eq(&mut self) -> &mut Self {
-        self.op([0xFD, 0x37])
+        self.put([0xFD, 0x37], [])
     }
 
     /// Appends `i32x4.ne` (opcode 0xFD 56), a vector instruction that compares each lane of two vectors.
@@ -2772,7 +2772,7 @@ impl InstructionSink<'_> {
     /// [`Instruction::I32x4Ne`](super::Instruction::I32x4Ne) is the same instruction as a value.
     #[doc(alias = "i32x4.ne")]
     pub fn i32x4_ne(&mut self) -> &mut Self {
-        self.op([0xFD, 0x38])
+        self.put([0xFD, 0x38], [])
     }
 
     /// Appends `i32x4.lt_s` (opcode 0xFD 57), a vector instruction that compares each lane of two vectors.
@@ -2780,7 +2780,7 @@ impl InstructionSink<'_> {
     /// [`Instruction::I32x4LtS`](super::Instruction::I32x4LtS) is the same instruction as a value.
     #[doc(alias = "i32x4.lt_s")]
     pub fn i32x4_lt_s(&mut self) -> &mut Self {
-        self.op([0xFD, 0x39])
+        self.put([0xFD, 0x39], [])
     }
 
     /// Appends `i32x4.lt_u` (opcode 0xFD 58), a vector instruction that compares each lane of two vectors.
@@ -2788,7 +2788,7 @@ impl InstructionSink<'_> {
     /// [`Instruction::I32x4LtU`](super::Instruction::I32x4LtU) is the same instruction as a value.
     #[doc(alias = "i32x4.lt_u")]
     pub fn i32x4_lt_u(&mut self) -> &mut Self {
-        self.op([0xFD, 0x3A])
+        self.put([0xFD, 0x3A], [])
     }
 
     /// Appends `i32x4.gt_s` (opcode 0xFD 59), a vector instruction that compares each lane of two vectors.
@@ -2796,7 +2796,7 @@ impl InstructionSink<'_> {
     /// [`Instruction::I32x4GtS`](super::Instruction::I32x4GtS) is the same instruction as a value.
     #[doc(alias = "i32x4.gt_s")]
     pub fn i32x4_gt_s(&mut self) -> &mut Self {
-        self.op([0xFD, 0x3B])
+        self.put([0xFD, 0x3B], [])
     }
 
     /// Appends `i32x4.gt_u` (opcode 0xFD 60), a vector instruction that compares each lane of two vectors.
@@ -2804,7 +2804,7 @@ impl InstructionSink<'_> {
     /// [`Instruction::I32x4GtU`](super::Instruction::I32x4GtU) is the same instruction as a value.
     #[doc(alias = "i32x4.gt_u")]
     pub fn i32x4_gt_u(&mut self) -> &mut Self {
-        self.op([0xFD, 0x3C])
+        self.put([0xFD, 0x3C], [])
     }
 
     /// Appends `i32x4.le_s` (opcode 0xFD 61), a vector instruction that compares each lane of two vectors.
@@ -2812,7 +2812,7 @@ impl InstructionSink<'_> {
     /// [`Instruction::I32x4LeS`](super::Instruction::I32x4LeS) is the same instruction as a value.
     #[doc(alias = "i32x4.le_s")]
     pub fn i32x4_le_s(&mut self) -> &mut Self {
-        self.op([0xFD, 0x3D])
+        self.put([0xFD, 0x3D], [])
     }
 
     /// Appends `i32x4.le_u` (opcode 0xFD 62), a vector instruction that compares each lane of two vectors.
@@ -2820,7 +2820,7 @@ impl InstructionSink<'_> {
     /// [`Instruction::I32x4LeU`](super::Instruction::I32x4LeU) is the same instruction as a value.
     #[doc(alias = "i32x4.le_u")]
     pub fn i32x4_le_u(&mut self) -> &mut Self {
-        self.op([0xFD, 0x3E])
+        self.put([0xFD, 0x3E], [])
     }
 
     /// Appends `i32x4.ge_s` (opcode 0xFD 63), a vector instruction that compares each lane of two vectors.
@@ -2828,7 +2828,7 @@ impl InstructionSink<'_> {
     /// [`Instruction::I32x4GeS`](super::Instruction::I32x4GeS) is the same instruction as a value.
     #[doc(alias = "i32x4.ge_s")]
     pub fn i32x4_ge_s(&mut self) -> &mut Self {
-        self.op([0xFD, 0x3F])
+        self.put([0xFD, 0x3F], [])
     }
 
     /// Appends `i32x4.ge_u` (opcode 0xFD 64), a vector instruction that compares each lane of two vectors.
@@ -2836,7 +2836,7 @@ impl InstructionSink<'_> {
     /// [`Instruction::I32x4GeU`](super::Instruction::I32x4GeU) is the same instruction as a value.
     #[doc(alias = "i32x4.ge_u")]
     pub fn i32x4_ge_u(&mut self) -> &mut Self {
-        self.op([0xFD, 0x40])
+        self.put([0xFD, 0x40], [])
     }
 
     /// Appends `f32x4.eq` (opcode 0xFD 65), a vector instruction that compares each lane of two vectors.
@@ -2844,7 +2844,7 @@ impl InstructionSink<'_> {
     /// [`Instruction::F32x4Eq`](super::Instruction::F32x4Eq) is the same instruction as a value.
     #[doc(alias = "f32x4.eq")]
     pub fn f32x4_eq(&mut self) -> &mut Self {
-        self.op([0xFD, 0x41])
+        self.put([0xFD, 0x41], [])
     }
 
     /// Appends `f32x4.ne` (opcode 0xFD 66), a vector instruction that compares each lane of two vectors.
@@ -2852,7 +2852,7 @@ impl InstructionSink<'_> {
     /// [`Instruction::F32x4Ne`](super::Instruction::F32x4Ne) is the same instruction as a value.
     #[doc(alias = "f32x4.ne")]
     pub fn f32x4_ne(&mut self) -> &mut Self {
-        self.op([0xFD, 0x42])
+        self.put([0xFD, 0x42], [])
     }
 
     /// Appends `f32x4.lt` (opcode 0xFD 67), a vector instruction that compares each lane of two vectors.
@@ -2860,7 +2860,7 @@ impl InstructionSink<'_> {
     /// [`Instruction::F32x4Lt`](super::Instruction::F32x4Lt) is the same instruction as a value.
     #[doc(alias = "f32x4.lt")]
     pub fn f32x4_lt(&mut self) -> &mut Self {
-        self.op([0xFD, 0x43])
+        self.put([0xFD, 0x43], [])
     }
 
     /// Appends `f32x4.gt` (opcode 0xFD 68), a vector instruction that compares each lane of two vectors.
@@ -2868,7 +2868,7 @@ impl InstructionSink<'_> {
     /// [`Instruction::F32x4Gt`](super::Instruction::F32x4Gt) is the same instruction as a value.
     #[doc(alias = "f32x4.gt")]
     pub fn f32x4_gt(&mut self) -> &mut Self {
-        self.op([0xFD, 0x44])
+        self.put([0xFD, 0x44], [])
     }
 
     /// Appends `f32x4.le` (opcode 0xFD 69), a vector instruction that compares each lane of two vectors.
@@ -2876,7 +2876,7 @@ impl InstructionSink<'_> {
     /// [`Instruction::F32x4Le`](super::Instruction::F32x4Le) is the same instruction as a value.
     #[doc(alias = "f32x4.le")]
     pub fn f32x4_le(&mut self) -> &mut Self {
-        self.op([0xFD, 0x45])
+        self.put([0xFD, 0x45], [])
     }
 
     /// Appends `f32x4.ge` (opcode 0xFD 70), a vector instruction that compares each lane of two vectors.
@@ -2884,7 +2884,7 @@ impl InstructionSink<'_> {
     /// [`Instruction::F32x4Ge`](super::Instruction::F32x4Ge) is the same instruction as a value.
     #[doc(alias = "f32x4.ge")]
     pub fn f32x4_ge(&mut self) -> &mut Self {
-        self.op([0xFD, 0x46])
+        self.put([0xFD, 0x46], [])
     }
 
     /// Appends `f64x2.eq` (opcode 0xFD 71), a vector instruction that compares each lane of two vectors.
@@ -2892,7 +2892,7 @@ impl InstructionSink<'_> {
     /// [`Instruction::F64x2Eq`](super::Instruction::F64x2Eq) is the same instruction as a value.
     #[doc(alias = "f64x2.eq")]
     pub fn f64x2_eq(&mut self) -> &mut Self {
-        self.op([0xFD, 0x47])
+        self.put([0xFD, 0x47], [])
     }
 
     /// Appends `f64x2.ne` (opcode 0xFD 72), a vector instruction that compares each lane of two vectors.
@@ -2900,7 +2900,7 @@ impl InstructionSink<'_> {
     /// [`Instruction::F64x2Ne`](super::Instruction::F64x2Ne) is the same instruction as a value.
     #[doc(alias = "f64x2.ne")]
     pub fn f64x2_ne(&mut self) -> &mut Self {
-        self.op([0xFD, 0x48])
+        self.put([0xFD, 0x48], [])
     }
 
     /// Appends `f64x2.lt` (opcode 0xFD 73), a vector instruction that compares each lane of two vectors.
@@ -2908,7 +2908,7 @@ impl InstructionSink<'_> {
     /// [`Instruction::F64x2Lt`](super::Instruction::F64x2Lt) is the same instruction as a value.
     #[doc(alias = "f64x2.lt")]
     pub fn f64x2_lt(&mut self) -> &mut Self {
-        self.op([0xFD, 0x49])
+        self.put([0xFD, 0x49], [])
     }
 
     /// Appends `f64x2.gt` (opcode 0xFD 74), a vector instruction that compares each lane of two vectors.
@@ -2916,7 +2916,7 @@ impl InstructionSink<'_> {
     /// [`Instruction::F64x2Gt`](super::Instruction::F64x2Gt) is the same instruction as a value.
     #[doc(alias = "f64x2.gt")]
     pub fn f64x2_gt(&mut self) -> &mut Self {
-        self.op([0xFD, 0x4A])
+        self.put([0xFD, 0x4A], [])
     }
 
     /// Appends `f64x2.le` (opcode 0xFD 75), a vector instruction that compares each lane of two vectors.
@@ -2924,7 +2924,7 @@ impl InstructionSink<'_> {
     /// [`Instruction::F64x2Le`](super::Instruction::F64x2Le) is the same instruction as a value.
     #[doc(alias = "f64x2.le")]
     pub fn f64x2_le(&mut self) -> &mut Self {
-        self.op([0xFD, 0x4B])
+        self.put([0xFD, 0x4B], [])
     }
 
     /// Appends `f64x2.ge` (opcode 0xFD 76), a vector instruction that compares each lane of two vectors.
@@ -2932,7 +2932,7 @@ impl InstructionSink<'_> {
     /// [`Instruction::F64x2Ge`](super::Instruction::F64x2Ge) is the same instruction as a value.
     #[doc(alias = "f64x2.ge")]
     pub fn f64x2_ge(&mut self) -> &mut Self {
-        self.op([0xFD, 0x4C])
+        self.put([0xFD, 0x4C], [])
     }
 
     /// Appends `v128.not` (opcode 0xFD 77), a vector instruction that inverts the bits of a vector.
@@ -2940,7 +2940,7 @@ impl InstructionSink<'_> {
     /// [`Instruction::V128Not`](super::Instruction::V128Not) is the same instruction as a value.
     #[doc(alias = "v128.not")]
     pub fn v128_not(&mut self) -> &mut Self {
-        self.op([0xFD, 0x4D])
+        self.put([0xFD, 0x4D], [])
     }
 
     /// Appends `v128.and` (opcode 0xFD 78), a vector instruction that computes the bitwise and of two vectors.
@@ -2948,7 +2948,7 @@ impl InstructionSink<'_> {
     /// [`Instruction::V128And`](super::Instruction::V128And) is the same instruction as a value.
     #[doc(alias = "v128.and")]
     pub fn v128_and(&mut self) -> &mut Self {
-        self.op([0xFD, 0x4E])
+        self.put([0xFD, 0x4E], [])
     }
 
     /// Appends `v128.andnot` (opcode 0xFD 79), a vector instruction that computes the bitwise and of a vector and the inverse of another.
@@ -2956,7 +2956,7 @@ impl InstructionSink<'_> {
     /// [`Instruction::V128AndNot`](super::Instruction::V128AndNot) is the same instruction as a value.
     #[doc(alias = "v128.andnot")]
     pub fn v128_andnot(&mut self) -> &mut Self {
-        self.op([0xFD, 0x4F])
+        self.put([0xFD, 0x4F], [])
     }
 
     /// Appends `v128.or` (opcode 0xFD 80), a vector instruction that computes the bitwise or of two vectors.
@@ -2964,7 +2964,7 @@ impl InstructionSink<'_> {
     /// [`Instruction::V128Or`](super::Instruction::V128Or) is the same instruction as a value.
     #[doc(alias = "v128.or")]
     pub fn v128_or(&mut self) -> &mut Self {
-        self.op([0xFD, 0x50])
+        self.put([0xFD, 0x50], [])
     }
 
     /// Appends `v128.xor` (opcode 0xFD 81), a vector instruction that computes the bitwise exclusive or of two vectors.
@@ -2972,7 +2972,7 @@ impl InstructionSink<'_> {
     /// [`Instruction::V128Xor`](super::Instruction::V128Xor) is the same instruction as a value.
     #[doc(alias = "v128.xor")]
     pub fn v128_xor(&mut self) -> &mut Self {
-        self.op([0xFD, 0x51])
+        self.put([0xFD, 0x51], [])
     }
 
     /// Appends `v128.bitselect` (opcode 0xFD 82), a vector instruction that selects bits of two vectors by the bits of a third.
@@ -2980,7 +2980,7 @@ impl InstructionSink<'_> {
     /// [`Instruction::V128Bitselect`](super::Instruction::V128Bitselect) is the same instruction as a value.
     #[doc(alias = "v128.bitselect")]
     pub fn v128_bitselect(&mut self) -> &mut Self {
-        self.op([0xFD, 0x52])
+        self.put([0xFD, 0x52], [])
     }
 
     /// Appends `v128.any_true` (opcode 0xFD 83), a vector instruction that tests whether a bit of a vector is set.
@@ -2988,7 +2988,7 @@ impl InstructionSink<'_> {
     /// [`Instruction::V128AnyTrue`](super::Instruction::V128AnyTrue) is the same instruction as a value.
     #[doc(alias = "v128.any_true")]
     pub fn v128_any_true(&mut self) -> &mut Self {
-        self.op([0xFD, 0x53])
+        self.put([0xFD, 0x53], [])
     }
 
     /// Appends `v128.load8_lane` (opcode 0xFD 84), a vector instruction that loads one lane of a vector from a memory.
@@ -3076,7 +3076,7 @@ impl InstructionSink<'_> {
     /// [`Instruction::F32x4DemoteF64x2Zero`](super::Instruction::F32x4DemoteF64x2Zero) is the same instruction as a value.
     #[doc(alias = "f32x4.demote_f64x2_zero")]
     pub fn f32x4_demote_f64x2_zero(&mut self) -> &mut Self {
-        self.op([0xFD, 0x5E])
+        self.put([0xFD, 0x5E], [])
     }
 
     /// Appends `f64x2.promote_low_f32x4` (opcode 0xFD 95), a vector instruction that converts the lower floats of a vector to 64 bits.
@@ -3084,7 +3084,7 @@ impl InstructionSink<'_> {
     /// [`Instruction::F64x2PromoteLowF32x4`](super::Instruction::F64x2PromoteLowF32x4) is the same instruction as a value.
     #[doc(alias = "f64x2.promote_low_f32x4")]
     pub fn f64x2_promote_low_f32x4(&mut self) -> &mut Self {
-        self.op([0xFD, 0x5F])
+        self.put([0xFD, 0x5F], [])
     }
 
     /// Appends `i8x16.abs` (opcode 0xFD 96), a vector instruction that computes the absolute value of each lane of a vector.
@@ -3092,7 +3092,7 @@ impl InstructionSink<'_> {
     /// [`Instruction::I8x16Abs`](super::Instruction::I8x16Abs) is the same instruction as a value.
     #[doc(alias = "i8x16.abs")]
     pub fn i8x16_abs(&mut self) -> &mut Self {
-        self.op([0xFD, 0x60])
+        self.put([0xFD, 0x60], [])
     }
 
     /// Appends `i8x16.neg` (opcode 0xFD 97), a vector instruction that negates each lane of a vector.
@@ -3100,7 +3100,7 @@ impl InstructionSink<'_> {
     /// [`Instruction::I8x16Neg`](super::Instruction::I8x16Neg) is the same instruction as a value.
     #[doc(alias = "i8x16.neg")]
     pub fn i8x16_neg(&mut self) -> &mut Self {
-        self.op([0xFD, 0x61])
+        self.put([0xFD, 0x61], [])
     }
 
     /// Appends `i8x16.popcnt` (opcode 0xFD 98), a vector instruction that counts the one bits of each lane of a vector.
@@ -3108,7 +3108,7 @@ impl InstructionSink<'_> {
     /// [`Instruction::I8x16Popcnt`](super::Instruction::I8x16Popcnt) is the same instruction as a value.
     #[doc(alias = "i8x16.popcnt")]
     pub fn i8x16_popcnt(&mut self) -> &mut Self {
-        self.op([0xFD, 0x62])
+        self.put([0xFD, 0x62], [])
     }
 
     /// Appends `i8x16.all_true` (opcode 0xFD 99), a vector instruction that tests whether no lane of a vector is zero.
@@ -3116,7 +3116,7 @@ impl InstructionSink<'_> {
     /// [`Instruction::I8x16AllTrue`](super::Instruction::I8x16AllTrue) is the same instruction as a value.
     #[doc(alias = "i8x16.all_true")]
     pub fn i8x16_all_true(&mut self) -> &mut Self {
-        self.op([0xFD, 0x63])
+        self.put([0xFD, 0x63], [])
     }
 
     /// Appends `i8x16.bitmask` (opcode 0xFD 100), a vector instruction that collects the highest bit of each lane of a vector.
@@ -3124,7 +3124,7 @@ impl InstructionSink<'_> {
     /// [`Instruction::I8x16Bitmask`](super::Instruction::I8x16Bitmask) is the same instruction as a value.
     #[doc(alias = "i8x16.bitmask")]
     pub fn i8x16_bitmask(&mut self) -> &mut Self {
-        self.op([0xFD, 0x64])
+        self.put([0xFD, 0x64], [])
     }
 
     /// Appends `i8x16.narrow_i16x8_s` (opcode 0xFD 101), a vector instruction that narrows the lanes of two vectors, and saturates.
@@ -3132,7 +3132,7 @@ impl InstructionSink<'_> {
     /// [`Instruction::I8x16NarrowI16x8S`](super::Instruction::I8x16NarrowI16x8S) is the same instruction as a value.
     #[doc(alias = "i8x16.narrow_i16x8_s")]
     pub fn i8x16_narrow_i16x8_s(&mut self) -> &mut Self {
-        self.op([0xFD, 0x65])
+        self.put([0xFD, 0x65], [])
     }
 
     /// Appends `i8x16.narrow_i16x8_u` (opcode 0xFD 102), a vector instruction that narrows the lanes of two vectors, and saturates.
@@ -3140,7 +3140,7 @@ impl InstructionSink<'_> {
     /// [`Instruction::I8x16NarrowI16x8U`](super::Instruction::I8x16NarrowI16x8U) is the same instruction as a value.
     #[doc(alias = "i8x16.narrow_i16x8_u")]
     pub fn i8x16_narrow_i16x8_u(&mut self) -> &mut Self {
-        self.op([0xFD, 0x66])
+        self.put([0xFD, 0x66], [])
     }
 
     /// Appends `f32x4.ceil` (opcode 0xFD 103), a vector instruction that rounds each lane of a vector up.
@@ -3148,7 +3148,7 @@ impl InstructionSink<'_> {
     /// [`Instruction::F32x4Ceil`](super::Instruction::F32x4Ceil) is the same instruction as a value.
     #[doc(alias = "f32x4.ceil")]
     pub fn f32x4_ceil(&mut self) -> &mut Self {
-        self.op([0xFD, 0x67])
+        self.put([0xFD, 0x67], [])
     }
 
     /// Appends `f32x4.floor` (opcode 0xFD 104), a vector instruction that rounds each lane of a vector down.
@@ -3156,7 +3156,7 @@ impl InstructionSink<'_> {
     /// [`Instruction::F32x4Floor`](super::Instruction::F32x4Floor) is the same instruction as a value.
     #[doc(alias = "f32x4.floor")]
     pub fn f32x4_floor(&mut self) -> &mut Self {
-        self.op([0xFD, 0x68])
+        self.put([0xFD, 0x68], [])
     }
 
     /// Appends `f32x4.trunc` (opcode 0xFD 105), a vector instruction that rounds each lane of a vector towards zero.
@@ -3164,7 +3164,7 @@ impl InstructionSink<'_> {
     /// [`Instruction::F32x4Trunc`](super::Instruction::F32x4Trunc) is the same instruction as a value.
     #[doc(alias = "f32x4.trunc")]
     pub fn f32x4_trunc(&mut self) -> &mut Self {
-        self.op([0xFD, 0x69])
+        self.put([0xFD, 0x69], [])
     }
 
     /// Appends `f32x4.nearest` (opcode 0xFD 106), a vector instruction that rounds each lane of a vector to the nearest integer.
@@ -3172,7 +3172,7 @@ impl InstructionSink<'_> {
     /// [`Instruction::F32x4Nearest`](super::Instruction::F32x4Nearest) is the same instruction as a value.
     #[doc(alias = "f32x4.nearest")]
     pub fn f32x4_nearest(&mut self) -> &mut Self {
-        self.op([0xFD, 0x6A])
+        self.put([0xFD, 0x6A], [])
     }
 
     /// Appends `i8x16.shl` (opcode 0xFD 107), a vector instruction that shifts each lane of a vector to the left.
@@ -3180,7 +3180,7 @@ impl InstructionSink<'_> {
     /// [`Instruction::I8x16Shl`](super::Instruction::I8x16Shl) is the same instruction as a value.
     #[doc(alias = "i8x16.shl")]
     pub fn i8x16_shl(&mut self) -> &mut Self {
-        self.op([0xFD, 0x6B])
+        self.put([0xFD, 0x6B], [])
     }
 
     /// Appends `i8x16.shr_s` (opcode 0xFD 108), a vector instruction that shifts each lane of a vector to the right.
@@ -3188,7 +3188,7 @@ impl InstructionSink<'_> {
     /// [`Instruction::I8x16ShrS`](super::Instruction::I8x16ShrS) is the same instruction as a value.
     #[doc(alias = "i8x16.shr_s")]
     pub fn i8x16_shr_s(&mut self) -> &mut Self {
-        self.op([0xFD, 0x6C])
+        self.put([0xFD, 0x6C], [])
     }
 
     /// Appends `i8x16.shr_u` (opcode 0xFD 109), a vector instruction that shifts each lane of a vector to the right.
@@ -3196,7 +3196,7 @@ impl InstructionSink<'_> {
     /// [`Instruction::I8x16ShrU`](super::Instruction::I8x16ShrU) is the same instruction as a value.
     #[doc(alias = "i8x16.shr_u")]
     pub fn i8x16_shr_u(&mut self) -> &mut Self {
-        self.op([0xFD, 0x6D])
+        self.put([0xFD, 0x6D], [])
     }
 
     /// Appends `i8x16.add` (opcode 0xFD 110), a vector instruction that adds each lane of two vectors.
@@ -3204,7 +3204,7 @@ impl InstructionSink<'_> {
     /// [`Instruction::I8x16Add`](super::Instruction::I8x16Add) is the same instruction as a value.
     #[doc(alias = "i8x16.add")]
     pub fn i8x16_add(&mut self) -> &mut Self {
-        self.op([0xFD, 0x6E])
+        self.put([0xFD, 0x6E], [])
     }
 
     /// Appends `i8x16.add_sat_s` (opcode 0xFD 111), a vector instruction that adds each lane of two vectors, and saturates.
@@ -3212,7 +3212,7 @@ impl InstructionSink<'_> {
     /// [`Instruction::I8x16AddSatS`](super::Instruction::I8x16AddSatS) is the same instruction as a value.
     #[doc(alias = "i8x16.add_sat_s")]
     pub fn i8x16_add_sat_s(&mut self) -> &mut Self {
-        self.op([0xFD, 0x6F])
+        self.put([0xFD, 0x6F], [])
     }
 
     /// Appends `i8x16.add_sat_u` (opcode 0xFD 112), a vector instruction that adds each lane of two vectors, and saturates.
@@ -3220,7 +3220,7 @@ impl InstructionSink<'_> {
     /// [`Instruction::I8x16AddSatU`](super::Instruction::I8x16AddSatU) is the same instruction as a value.
     #[doc(alias = "i8x16.add_sat_u")]
     pub fn i8x16_add_sat_u(&mut self) -> &mut Self {
-        self.op([0xFD, 0x70])
+        self.put([0xFD, 0x70], [])
     }
 
     /// Appends `i8x16.sub` (opcode 0xFD 113), a vector instruction that subtracts each lane of two vectors.
@@ -3228,7 +3228,7 @@ impl InstructionSink<'_> {
     /// [`Instruction::I8x16Sub`](super::Instruction::I8x16Sub) is the same instruction as a value.
     #[doc(alias = "i8x16.sub")]
     pub fn i8x16_sub(&mut self) -> &mut Self {
-        self.op([0xFD, 0x71])
+        self.put([0xFD, 0x71], [])
     }
 
     /// Appends `i8x16.sub_sat_s` (opcode 0xFD 114), a vector instruction that subtracts each lane of two vectors, and saturates.
@@ -3236,7 +3236,7 @@ impl InstructionSink<'_> {
     /// [`Instruction::I8x16SubSatS`](super::Instruction::I8x16SubSatS) is the same instruction as a value.
     #[doc(alias = "i8x16.sub_sat_s")]
     pub fn i8x16_sub_sat_s(&mut self) -> &mut Self {
-        self.op([0xFD, 0x72])
+        self.put([0xFD, 0x72], [])
     }
 
     /// Appends `i8x16.sub_sat_u` (opcode 0xFD 115), a vector instruction that subtracts each lane of two vectors, and saturates.
@@ -3244,7 +3244,7 @@ impl InstructionSink<'_> {
     /// [`Instruction::I8x16SubSatU`](super::Instruction::I8x16SubSatU) is the same instruction as a value.
     #[doc(alias = "i8x16.sub_sat_u")]
     pub fn i8x16_sub_sat_u(&mut self) -> &mut Self {
-        self.op([0xFD, 0x73])
+        self.put([0xFD, 0x73], [])
     }
 
     /// Appends `f64x2.ceil` (opcode 0xFD 116), a vector instruction that rounds each lane of a vector up.
@@ -3252,7 +3252,7 @@ impl InstructionSink<'_> {
     /// [`Instruction::F64x2Ceil`](super::Instruction::F64x2Ceil) is the same instruction as a value.
     #[doc(alias = "f64x2.ceil")]
     pub fn f64x2_ceil(&mut self) -> &mut Self {
-        self.op([0xFD, 0x74])
+        self.put([0xFD, 0x74], [])
     }
 
     /// Appends `f64x2.floor` (opcode 0xFD 117), a vector instruction that rounds each lane of a vector down.
@@ -3260,7 +3260,7 @@ impl InstructionSink<'_> {
     /// [`Instruction::F64x2Floor`](super::Instruction::F64x2Floor) is the same instruction as a value.
     #[doc(alias = "f64x2.floor")]
     pub fn f64x2_floor(&mut self) -> &mut Self {
-        self.op([0xFD, 0x75])
+        self.put([0xFD, 0x75], [])
     }
 
     /// Appends `i8x16.min_s` (opcode 0xFD 118), a vector instruction that computes the minimum of each lane of two vectors.
@@ -3268,7 +3268,7 @@ impl InstructionSink<'_> {
     /// [`Instruction::I8x16MinS`](super::Instruction::I8x16MinS) is the same instruction as a value.
     #[doc(alias = "i8x16.min_s")]
     pub fn i8x16_min_s(&mut self) -> &mut Self {
-        self.op([0xFD, 0x76])
+        self.put([0xFD, 0x76], [])
     }
 
     /// Appends `i8x16.min_u` (opcode 0xFD 119), a vector instruction that computes the minimum of each lane of two vectors.
@@ -3276,7 +3276,7 @@ impl InstructionSink<'_> {
     /// [`Instruction::I8x16MinU`](super::Instruction::I8x16MinU) is the same instruction as a value.
     #[doc(alias = "i8x16.min_u")]
     pub fn i8x16_min_u(&mut self) -> &mut Self {
-        self.op([0xFD, 0x77])
+        self.put([0xFD, 0x77], [])
     }
 
     /// Appends `i8x16.max_s` (opcode 0xFD 120), a vector instruction that computes the maximum of each lane of two vectors.
@@ -3284,7 +3284,7 @@ impl InstructionSink<'_> {
     /// [`Instruction::I8x16MaxS`](super::Instruction::I8x16MaxS) is the same instruction as a value.
     #[doc(alias = "i8x16.max_s")]
     pub fn i8x16_max_s(&mut self) -> &mut Self {
-        self.op([0xFD, 0x78])
+        self.put([0xFD, 0x78], [])
     }
 
     /// Appends `i8x16.max_u` (opcode 0xFD 121), a vector instruction that computes the maximum of each lane of two vectors.
@@ -3292,7 +3292,7 @@ impl InstructionSink<'_> {
     /// [`Instruction::I8x16MaxU`](super::Instruction::I8x16MaxU) is the same instruction as a value.
     #[doc(alias = "i8x16.max_u")]
     pub fn i8x16_max_u(&mut self) -> &mut Self {
-        self.op([0xFD, 0x79])
+        self.put([0xFD, 0x79], [])
     }
 
     /// Appends `f64x2.trunc` (opcode 0xFD 122), a vector instruction that rounds each lane of a vector towards zero.
@@ -3300,7 +3300,7 @@ impl InstructionSink<'_> {
     /// [`Instruction::F64x2Trunc`](super::Instruction::F64x2Trunc) is the same instruction as a value.
     #[doc(alias = "f64x2.trunc")]
     pub fn f64x2_trunc(&mut self) -> &mut Self {
-        self.op([0xFD, 0x7A])
+        self.put([0xFD, 0x7A], [])
     }
 
     /// Appends `i8x16.avgr_u` (opcode 0xFD 123), a vector instruction that averages each lane of two vectors, rounded up.
@@ -3308,7 +3308,7 @@ impl InstructionSink<'_> {
     /// [`Instruction::I8x16AvgrU`](super::Instruction::I8x16AvgrU) is the same instruction as a value.
     #[doc(alias = "i8x16.avgr_u")]
     pub fn i8x16_avgr_u(&mut self) -> &mut Self {
-        self.op([0xFD, 0x7B])
+        self.put([0xFD, 0x7B], [])
     }
 
     /// Appends `i16x8.extadd_pairwise_i8x16_s` (opcode 0xFD 124), a vector instruction that adds neighbouring lanes of a vector to wider ones.
@@ -3316,7 +3316,7 @@ impl InstructionSink<'_> {
     /// [`Instruction::I16x8ExtAddPairwiseI8x16S`](super::Instruction::I16x8ExtAddPairwiseI8x16S) is the same instruction as a value.
     #[doc(alias = "i16x8.extadd_pairwise_i8x16_s")]
     pub fn i16x8_extadd_pairwise_i8x16_s(&mut self) -> &mut Self {
-        self.op([0xFD, 0x7C])
+        self.put([0xFD, 0x7C], [])
     }
 
     /// Appends `i16x8.extadd_pairwise_i8x16_u` (opcode 0xFD 125), a vector instruction that adds neighbouring lanes of a vector to wider ones.
@@ -3324,7 +3324,7 @@ impl InstructionSink<'_> {
     /// [`Instruction::I16x8ExtAddPairwiseI8x16U`](super::Instruction::I16x8ExtAddPairwiseI8x16U) is the same instruction as a value.
     #[doc(alias = "i16x8.extadd_pairwise_i8x16_u")]
     pub fn i16x8_extadd_pairwise_i8x16_u(&mut self) -> &mut Self {
-        self.op([0xFD, 0x7D])
+        self.put([0xFD, 0x7D], [])
     }
 
     /// Appends `i32x4.extadd_pairwise_i16x8_s` (opcode 0xFD 126), a vector instruction that adds neighbouring lanes of a vector to wider ones.
@@ -3332,7 +3332,7 @@ impl InstructionSink<'_> {
     /// [`Instruction::I32x4ExtAddPairwiseI16x8S`](super::Instruction::I32x4ExtAddPairwiseI16x8S) is the same instruction as a value.
     #[doc(alias = "i32x4.extadd_pairwise_i16x8_s")]
     pub fn i32x4_extadd_pairwise_i16x8_s(&mut self) -> &mut Self {
-        self.op([0xFD, 0x7E])
+        self.put([0xFD, 0x7E], [])
     }
 
     /// Appends `i32x4.extadd_pairwise_i16x8_u` (opcode 0xFD 127), a vector instruction that adds neighbouring lanes of a vector to wider ones.
@@ -3340,7 +3340,7 @@ impl InstructionSink<'_> {
     /// [`Instruction::I32x4ExtAddPairwiseI16x8U`](super::Instruction::I32x4ExtAddPairwiseI16x8U) is the same instruction as a value.
     #[doc(alias = "i32x4.extadd_pairwise_i16x8_u")]
     pub fn i32x4_extadd_pairwise_i16x8_u(&mut self) -> &mut Self {
-        self.op([0xFD, 0x7F])
+        self.put([0xFD, 0x7F], [])
     }
 
     /// Appends `i16x8.abs` (opcode 0xFD 128), a vector instruction that computes the absolute value of each lane of a vector.
@@ -3348,7 +3348,7 @@ impl InstructionSink<'_> {
     /// [`Instruction::I16x8Abs`](super::Instruction::I16x8Abs) is the same instruction as a value.
     #[doc(alias = "i16x8.abs")]
     pub fn i16x8_abs(&mut self) -> &mut Self {
-        self.op([0xFD, 0x80, 0x01])
+        self.put([0xFD, 0x80, 0x01], [])
     }
 
     /// Appends `i16x8.neg` (opcode 0xFD 129), a vector instruction that negates each lane of a vector.
@@ -3356,7 +3356,7 @@ impl InstructionSink<'_> {
     /// [`Instruction::I16x8Neg`](super::Instruction::I16x8Neg) is the same instruction as a value.
     #[doc(alias = "i16x8.neg")]
     pub fn i16x8_neg(&mut self) -> &mut Self {
-        self.op([0xFD, 0x81, 0x01])
+        self.put([0xFD, 0x81, 0x01], [])
     }
 
     /// Appends `i16x8.q15mulr_sat_s` (opcode 0xFD 130), a vector instruction that multiplies each lane of two vectors as fixed-point numbers, rounded.
@@ -3364,7 +3364,7 @@ impl InstructionSink<'_> {
     /// [`Instruction::I16x8Q15MulrSatS`](super::Instruction::I16x8Q15MulrSatS) is the same instruction as a value.
     #[doc(alias = "i16x8.q15mulr_sat_s")]
     pub fn i16x8_q15mulr_sat_s(&mut self) -> &mut Self {
-        self.op([0xFD, 0x82, 0x01])
+        self.put([0xFD, 0x82, 0x01], [])
     }
 
     /// Appends `i16x8.all_true` (opcode 0xFD 131), a vector instruction that tests whether no lane of a vector is zero.
@@ -3372,7 +3372,7 @@ impl InstructionSink<'_> {
     /// [`Instruction::I16x8AllTrue`](super::Instruction::I16x8AllTrue) is the same instruction as a value.
     #[doc(alias = "i16x8.all_true")]
     pub fn i16x8_all_true(&mut self) -> &mut Self {
-        self.op([0xFD, 0x83, 0x01])
+        self.put([0xFD, 0x83, 0x01], [])
     }
 
     /// Appends `i16x8.bitmask` (opcode 0xFD 132), a vector instruction that collects the highest bit of each lane of a vector.
@@ -3380,7 +3380,7 @@ impl InstructionSink<'_> {
     /// [`Instruction::I16x8Bitmask`](super::Instruction::I16x8Bitmask) is the same instruction as a value.
     #[doc(alias = "i16x8.bitmask")]
     pub fn i16x8_bitmask(&mut self) -> &mut Self {
-        self.op([0xFD, 0x84, 0x01])
+        self.put([0xFD, 0x84, 0x01], [])
     }
 
     /// Appends `i16x8.narrow_i32x4_s` (opcode 0xFD 133), a vector instruction that narrows the lanes of two vectors, and saturates.
@@ -3388,7 +3388,7 @@ impl InstructionSink<'_> {
     /// [`Instruction::I16x8NarrowI32x4S`](super::Instruction::I16x8NarrowI32x4S) is the same instruction as a value.
     #[doc(alias = "i16x8.narrow_i32x4_s")]
     pub fn i16x8_narrow_i32x4_s(&mut self) -> &mut Self {
-        self.op([0xFD, 0x85, 0x01])
+        self.put([0xFD, 0x85, 0x01], [])
     }
 
     /// Appends `i16x8.narrow_i32x4_u` (opcode 0xFD 134), a vector instruction that narrows the lanes of two vectors, and saturates.
@@ -3396,7 +3396,7 @@ impl InstructionSink<'_> {
     /// [`Instruction::I16x8NarrowI32x4U`](super::Instruction::I16x8NarrowI32x4U) is the same instruction as a value.
     #[doc(alias = "i16x8.narrow_i32x4_u")]
     pub fn i16x8_narrow_i32x4_u(&mut self) -> &mut Self {
-        self.op([0xFD, 0x86, 0x01])
+        self.put([0xFD, 0x86, 0x01], [])
     }
 
     /// Appends `i16x8.extend_low_i8x16_s` (opcode 0xFD 135), a vector instruction that extends the lower lanes of a vector.
@@ -3404,7 +3404,7 @@ impl InstructionSink<'_> {
     /// [`Instruction::I16x8ExtendLowI8x16S`](super::Instruction::I16x8ExtendLowI8x16S) is the same instruction as a value.
     #[doc(alias = "i16x8.extend_low_i8x16_s")]
     pub fn i16x8_extend_low_i8x16_s(&mut self) -> &mut Self {
-        self.op([0xFD, 0x87, 0x01])
+        self.put([0xFD, 0x87, 0x01], [])
     }
 
     /// Appends `i16x8.extend_high_i8x16_s` (opcode 0xFD 136), a vector instruction that extends the upper lanes of a vector.
@@ -3412,7 +3412,7 @@ impl InstructionSink<'_> {
     /// [`Instruction::I16x8ExtendHighI8x16S`](super::Instruction::I16x8ExtendHighI8x16S) is the same instruction as a value.
     #[doc(alias = "i16x8.extend_high_i8x16_s")]
     pub fn i16x8_extend_high_i8x16_s(&mut self) -> &mut Self {
-        self.op([0xFD, 0x88, 0x01])
+        self.put([0xFD, 0x88, 0x01], [])
     }
 
     /// Appends `i16x8.extend_low_i8x16_u` (opcode 0xFD 137), a vector instruction that extends the lower lanes of a vector.
@@ -3420,7 +3420,7 @@ impl InstructionSink<'_> {
     /// [`Instruction::I16x8ExtendLowI8x16U`](super::Instruction::I16x8ExtendLowI8x16U) is the same instruction as a value.
     #[doc(alias = "i16x8.extend_low_i8x16_u")]
     pub fn i16x8_extend_low_i8x16_u(&mut self) -> &mut Self {
-        self.op([0xFD, 0x89, 0x01])
+        self.put([0xFD, 0x89, 0x01], [])
     }
 
     /// Appends `i16x8.extend_high_i8x16_u` (opcode 0xFD 138), a vector instruction that extends the upper lanes of a vector.
@@ -3428,7 +3428,7 @@ impl InstructionSink<'_> {
     /// [`Instruction::I16x8ExtendHighI8x16U`](super::Instruction::I16x8ExtendHighI8x16U) is the same instruction as a value.
     #[doc(alias = "i16x8.extend_high_i8x16_u")]
     pub fn i16x8_extend_high_i8x16_u(&mut self) -> &mut Self {
-        self.op([0xFD, 0x8A, 0x01])
+        self.put([0xFD, 0x8A, 0x01], [])
     }
 
     /// Appends `i16x8.shl` (opcode 0xFD 139), a vector instruction that shifts each lane of a vector to the left.
@@ -3436,7 +3436,7 @@ impl InstructionSink<'_> {
     /// [`Instruction::I16x8Shl`](super::Instruction::I16x8Shl) is the same instruction as a value.
     #[doc(alias = "i16x8.shl")]
     pub fn i16x8_shl(&mut self) -> &mut Self {
-        self.op([0xFD, 0x8B, 0x01])
+        self.put([0xFD, 0x8B, 0x01], [])
     }
 
     /// Appends `i16x8.shr_s` (opcode 0xFD 140), a vector instruction that shifts each lane of a vector to the right.
@@ -3444,7 +3444,7 @@ impl InstructionSink<'_> {
     /// [`Instruction::I16x8ShrS`](super::Instruction::I16x8ShrS) is the same instruction as a value.
     #[doc(alias = "i16x8.shr_s")]
     pub fn i16x8_shr_s(&mut self) -> &mut Self {
-        self.op([0xFD, 0x8C, 0x01])
+        self.put([0xFD, 0x8C, 0x01], [])
     }
 
     /// Appends `i16x8.shr_u` (opcode 0xFD 141), a vector instruction that shifts each lane of a vector to the right.
@@ -3452,7 +3452,7 @@ impl InstructionSink<'_> {
     /// [`Instruction::I16x8ShrU`](super::Instruction::I16x8ShrU) is the same instruction as a value.
     #[doc(alias = "i16x8.shr_u")]
     pub fn i16x8_shr_u(&mut self) -> &mut Self {
-        self.op([0xFD, 0x8D, 0x01])
+        self.put([0xFD, 0x8D, 0x01], [])
     }
 
     /// Appends `i16x8.add` (opcode 0xFD 142), a vector instruction that adds each lane of two vectors.
@@ -3460,7 +3460,7 @@ impl InstructionSink<'_> {
     /// [`Instruction::I16x8Add`](super::Instruction::I16x8Add) is the same instruction as a value.
     #[doc(alias = "i16x8.add")]
     pub fn i16x8_add(&mut self) -> &mut Self {
-        self.op([0xFD, 0x8E, 0x01])
+        self.put([0xFD, 0x8E, 0x01], [])
     }
 
     /// Appends `i16x8.add_sat_s` (opcode 0xFD 143), a vector instruction that adds each lane of two vectors, and saturates.
@@ -3468,7 +3468,7 @@ impl InstructionSink<'_> {
     /// [`Instruction::I16x8AddSatS`](super::Instruction::I16x8AddSatS) is the same instruction as a value.
     #[doc(alias = "i16x8.add_sat_s")]
     pub fn i16x8_add_sat_s(&mut self) -> &mut Self {
-        self.op([0xFD, 0x8F, 0x01])
+        self.put([0xFD, 0x8F, 0x01], [])
     }
 
     /// Appends `i16x8.add_sat_u` (opcode 0xFD 144), a vector instruction that adds each lane of two vectors, and saturates.
@@ -3476,7 +3476,7 @@ impl InstructionSink<'_> {
     /// [`Instruction::I16x8AddSatU`](super::Instruction::I16x8AddSatU) is the same instruction as a value.
     #[doc(alias = "i16x8.add_sat_u")]
     pub fn i16x8_add_sat_u(&mut self) -> &mut Self {
-        self.op([0xFD, 0x90, 0x01])
+        self.put([0xFD, 0x90, 0x01], [])
     }
 
     /// Appends `i16x8.sub` (opcode 0xFD 145), a vector instruction that subtracts each lane of two vectors.
@@ -3484,7 +3484,7 @@ impl InstructionSink<'_> {
     /// [`Instruction::I16x8Sub`](super::Instruction::I16x8Sub) is the same instruction as a value.
     #[doc(alias = "i16x8.sub")]
     pub fn i16x8_sub(&mut self) -> &mut Self {
-        self.op([0xFD, 0x91, 0x01])
+        self.put([0xFD, 0x91, 0x01], [])
     }
 
     /// Appends `i16x8.sub_sat_s` (opcode 0xFD 146), a vector instruction that subtracts each lane of two vectors, and saturates.
@@ -3492,7 +3492,7 @@ impl InstructionSink<'_> {
     /// [`Instruction::I16x8SubSatS`](super::Instruction::I16x8SubSatS) is the same instruction as a value.
     #[doc(alias = "i16x8.sub_sat_s")]
     pub fn i16x8_sub_sat_s(&mut self) -> &mut Self {
-        self.op([0xFD, 0x92, 0x01])
+        self.put([0xFD, 0x92, 0x01], [])
     }
 
     /// Appends `i16x8.sub_sat_u` (opcode 0xFD 147), a vector instruction that subtracts each lane of two vectors, and saturates.
@@ -3500,7 +3500,7 @@ impl InstructionSink<'_> {
     /// [`Instruction::I16x8SubSatU`](super::Instruction::I16x8SubSatU) is the same instruction as a value.
     #[doc(alias = "i16x8.sub_sat_u")]
     pub fn i16x8_sub_sat_u(&mut self) -> &mut Self {
-        self.op([0xFD, 0x93, 0x01])
+        self.put([0xFD, 0x93, 0x01], [])
     }
 
     /// Appends `f64x2.nearest` (opcode 0xFD 148), a vector instruction that rounds each lane of a vector to the nearest integer.
@@ -3508,7 +3508,7 @@ impl InstructionSink<'_> {
     /// [`Instruction::F64x2Nearest`](super::Instruction::F64x2Nearest) is the same instruction as a value.
     #[doc(alias = "f64x2.nearest")]
     pub fn f64x2_nearest(&mut self) -> &mut Self {
-        self.op([0xFD, 0x94, 0x01])
+        self.put([0xFD, 0x94, 0x01], [])
     }
 
     /// Appends `i16x8.mul` (opcode 0xFD 149), a vector instruction that multiplies each lane of two vectors.
@@ -3516,7 +3516,7 @@ impl InstructionSink<'_> {
     /// [`Instruction::I16x8Mul`](super::Instruction::I16x8Mul) is the same instruction as a value.
     #[doc(alias = "i16x8.mul")]
     pub fn i16x8_mul(&mut self) -> &mut Self {
-        self.op([0xFD, 0x95, 0x01])
+        self.put([0xFD, 0x95, 0x01], [])
     }
 
     /// Appends `i16x8.min_s` (opcode 0xFD 150), a vector instruction that computes the minimum of each lane of two vectors.
@@ -3524,7 +3524,7 @@ impl InstructionSink<'_> {
     /// [`Instruction::I16x8MinS`](super::Instruction::I16x8MinS) is the same instruction as a value.
     #[doc(alias = "i16x8.min_s")]
     pub fn i16x8_min_s(&mut self) -> &mut Self {
-        self.op([0xFD, 0x96, 0x01])
+        self.put([0xFD, 0x96, 0x01], [])
     }
 
     /// Appends `i16x8.min_u` (opcode 0xFD 151), a vector instruction that computes the minimum of each lane of two vectors.
@@ -3532,7 +3532,7 @@ impl InstructionSink<'_> {
     /// [`Instruction::I16x8MinU`](super::Instruction::I16x8MinU) is the same instruction as a value.
     #[doc(alias = "i16x8.min_u")]
     pub fn i16x8_min_u(&mut self) -> &mut Self {
-        self.op([0xFD, 0x97, 0x01])
+        self.put([0xFD, 0x97, 0x01], [])
     }
 
     /// Appends `i16x8.max_s` (opcode 0xFD 152), a vector instruction that computes the maximum of each lane of two vectors.
@@ -3540,7 +3540,7 @@ impl InstructionSink<'_> {
     /// [`Instruction::I16x8MaxS`](super::Instruction::I16x8MaxS) is the same instruction as a value.
     #[doc(alias = "i16x8.max_s")]
     pub fn i16x8_max_s(&mut self) -> &mut Self {
-        self.op([0xFD, 0x98, 0x01])
+        self.put([0xFD, 0x98, 0x01], [])
     }
 
     /// Appends `i16x8.max_u` (opcode 0xFD 153), a vector instruction that computes the maximum of each lane of two vectors.
@@ -3548,7 +3548,7 @@ impl InstructionSink<'_> {
     /// [`Instruction::I16x8MaxU`](super::Instruction::I16x8MaxU) is the same instruction as a value.
     #[doc(alias = "i16x8.max_u")]
     pub fn i16x8_max_u(&mut self) -> &mut Self {
-        self.op([0xFD, 0x99, 0x01])
+        self.put([0xFD, 0x99, 0x01], [])
     }
 
     /// Appends `i16x8.avgr_u` (opcode 0xFD 155), a vector instruction that averages each lane of two vectors, rounded up.
@@ -3556,7 +3556,7 @@ impl InstructionSink<'_> {
     /// [`Instruction::I16x8AvgrU`](super::Instruction::I16x8AvgrU) is the same instruction as a value.
     #[doc(alias = "i16x8.avgr_u")]
     pub fn i16x8_avgr_u(&mut self) -> &mut Self {
-        self.op([0xFD, 0x9B, 0x01])
+        self.put([0xFD, 0x9B, 0x01], [])
     }
 
     /// Appends `i16x8.extmul_low_i8x16_s` (opcode 0xFD 156), a vector instruction that multiplies the lower lanes of two vectors to wider ones.
@@ -3564,7 +3564,7 @@ impl InstructionSink<'_> {
     /// [`Instruction::I16x8ExtMulLowI8x16S`](super::Instruction::I16x8ExtMulLowI8x16S) is the same instruction as a value.
     #[doc(alias = "i16x8.extmul_low_i8x16_s")]
     pub fn i16x8_extmul_low_i8x16_s(&mut self) -> &mut Self {
-        self.op([0xFD, 0x9C, 0x01])
+        self.put([0xFD, 0x9C, 0x01], [])
     }
 
     /// Appends `i16x8.extmul_high_i8x16_s` (opcode 0xFD 157), a vector instruction that multiplies the upper lanes of two vectors to wider ones.
@@ -3572,7 +3572,7 @@ impl InstructionSink<'_> {
     /// [`Instruction::I16x8ExtMulHighI8x16S`](super::Instruction::I16x8ExtMulHighI8x16S) is the same instruction as a value.
     #[doc(alias = "i16x8.extmul_high_i8x16_s")]
     pub fn i16x8_extmul_high_i8x16_s(&mut self) -> &mut Self {
-        self.op([0xFD, 0x9D, 0x01])
+        self.put([0xFD, 0x9D, 0x01], [])
     }
 
     /// Appends `i16x8.extmul_low_i8x16_u` (opcode 0xFD 158), a vector instruction that multiplies the lower lanes of two vectors to wider ones.
@@ -3580,7 +3580,7 @@ impl InstructionSink<'_> {
     /// [`Instruction::I16x8ExtMulLowI8x16U`](super::Instruction::I16x8ExtMulLowI8x16U) is the same instruction as a value.
     #[doc(alias = "i16x8.extmul_low_i8x16_u")]
     pub fn i16x8_extmul_low_i8x16_u(&mut self) -> &mut Self {
-        self.op([0xFD, 0x9E, 0x01])
+        self.put([0xFD, 0x9E, 0x01], [])
     }
 
     /// Appends `i16x8.extmul_high_i8x16_u` (opcode 0xFD 159), a vector instruction that multiplies the upper lanes of two vectors to wider ones.
@@ -3588,7 +3588,7 @@ impl InstructionSink<'_> {
     /// [`Instruction::I16x8ExtMulHighI8x16U`](super::Instruction::I16x8ExtMulHighI8x16U) is the same instruction as a value.
     #[doc(alias = "i16x8.extmul_high_i8x16_u")]
     pub fn i16x8_extmul_high_i8x16_u(&mut self) -> &mut Self {
-        self.op([0xFD, 0x9F, 0x01])
+        self.put([0xFD, 0x9F, 0x01], [])
     }
 
     /// Appends `i32x4.abs` (opcode 0xFD 160), a vector instruction that computes the absolute value of each lane of a vector.
@@ -3596,7 +3596,7 @@ impl InstructionSink<'_> {
     /// [`Instruction::I32x4Abs`](super::Instruction::I32x4Abs) is the same instruction as a value.
     #[doc(alias = "i32x4.abs")]
     pub fn i32x4_abs(&mut self) -> &mut Self {
-        self.op([0xFD, 0xA0, 0x01])
+        self.put([0xFD, 0xA0, 0x01], [])
     }
 
     /// Appends `i32x4.neg` (opcode 0xFD 161), a vector instruction that negates each lane of a vector.
@@ -3604,7 +3604,7 @@ impl InstructionSink<'_> {
     /// [`Instruction::I32x4Neg`](super::Instruction::I32x4Neg) is the same instruction as a value.
     #[doc(alias = "i32x4.neg")]
     pub fn i32x4_neg(&mut self) -> &mut Self {
-        self.op([0xFD, 0xA1, 0x01])
+        self.put([0xFD, 0xA1, 0x01], [])
     }
 
     /// Appends `i32x4.all_true` (opcode 0xFD 163), a vector instruction that tests whether no lane of a vector is zero.
@@ -3612,7 +3612,7 @@ impl InstructionSink<'_> {
     /// [`Instruction::I32x4AllTrue`](super::Instruction::I32x4AllTrue) is the same instruction as a value.
     #[doc(alias = "i32x4.all_true")]
     pub fn i32x4_all_true(&mut self) -> &mut Self {
-        self.op([0xFD, 0xA3, 0x01])
+        self.put([0xFD, 0xA3, 0x01], [])
     }
 
     /// Appends `i32x4.bitmask` (opcode 0xFD 164), a vector instruction that collects the highest bit of each lane of a vector.
@@ -3620,7 +3620,7 @@ impl InstructionSink<'_> {
     /// [`Instruction::I32x4Bitmask`](super::Instruction::I32x4Bitmask) is the same instruction as a value.
     #[doc(alias = "i32x4.bitmask")]
     pub fn i32x4_bitmask(&mut self) -> &mut Self {
-        self.op([0xFD, 0xA4, 0x01])
+        self.put([0xFD, 0xA4, 0x01], [])
     }
 
     /// Appends `i32x4.extend_low_i16x8_s` (opcode 0xFD 167), a vector instruction that extends the lower lanes of a vector.
@@ -3628,7 +3628,7 @@ impl InstructionSink<'_> {
     /// [`Instruction::I32x4ExtendLowI16x8S`](super::Instruction::I32x4ExtendLowI16x8S) is the same instruction as a value.
     #[doc(alias = "i32x4.extend_low_i16x8_s")]
     pub fn i32x4_extend_low_i16x8_s(&mut self) -> &mut Self {
-        self.op([0xFD, 0xA7, 0x01])
+        self.put([0xFD, 0xA7, 0x01], [])
     }
 
     /// Appends `i32x4.extend_high_i16x8_s` (opcode 0xFD 168), a vector instruction that extends the upper lanes of a vector.
@@ -3636,7 +3636,7 @@ impl InstructionSink<'_> {
     /// [`Instruction::I32x4ExtendHighI16x8S`](super::Instruction::I32x4ExtendHighI16x8S) is the same instruction as a value.
     #[doc(alias = "i32x4.extend_high_i16x8_s")]
     pub fn i32x4_extend_high_i16x8_s(&mut self) -> &mut Self {
-        self.op([0xFD, 0xA8, 0x01])
+        self.put([0xFD, 0xA8, 0x01], [])
     }
 
     /// Appends `i32x4.extend_low_i16x8_u` (opcode 0xFD 169), a vector instruction that extends the lower lanes of a vector.
@@ -3644,7 +3644,7 @@ impl InstructionSink<'_> {
     /// [`Instruction::I32x4ExtendLowI16x8U`](super::Instruction::I32x4ExtendLowI16x8U) is the same instruction as a value.
     #[doc(alias = "i32x4.extend_low_i16x8_u")]
     pub fn i32x4_extend_low_i16x8_u(&mut self) -> &mut Self {
-        self.op([0xFD, 0xA9, 0x01])
+        self.put([0xFD, 0xA9, 0x01], [])
     }
 
     /// Appends `i32x4.extend_high_i16x8_u` (opcode 0xFD 170), a vector instruction that extends the upper lanes of a vector.
@@ -3652,7 +3652,7 @@ impl InstructionSink<'_> {
     /// [`Instruction::I32x4ExtendHighI16x8U`](super::Instruction::I32x4ExtendHighI16x8U) is the same instruction as a value.
     #[doc(alias = "i32x4.extend_high_i16x8_u")]
     pub fn i32x4_extend_high_i16x8_u(&mut self) -> &mut Self {
-        self.op([0xFD, 0xAA, 0x01])
+        self.put([0xFD, 0xAA, 0x01], [])
     }
 
     /// Appends `i32x4.shl` (opcode 0xFD 171), a vector instruction that shifts each lane of a vector to the left.
@@ -3660,7 +3660,7 @@ impl InstructionSink<'_> {
     /// [`Instruction::I32x4Shl`](super::Instruction::I32x4Shl) is the same instruction as a value.
     #[doc(alias = "i32x4.shl")]
     pub fn i32x4_shl(&mut self) -> &mut Self {
-        self.op([0xFD, 0xAB, 0x01])
+        self.put([0xFD, 0xAB, 0x01], [])
     }
 
     /// Appends `i32x4.shr_s` (opcode 0xFD 172), a vector instruction that shifts each lane of a vector to the right.
@@ -3668,7 +3668,7 @@ impl InstructionSink<'_> {
     /// [`Instruction::I32x4ShrS`](super::Instruction::I32x4ShrS) is the same instruction as a value.
     #[doc(alias = "i32x4.shr_s")]
     pub fn i32x4_shr_s(&mut self) -> &mut Self {
-        self.op([0xFD, 0xAC, 0x01])
+        self.put([0xFD, 0xAC, 0x01], [])
     }
 
     /// Appends `i32x4.shr_u` (opcode 0xFD 173), a vector instruction that shifts each lane of a vector to the right.
@@ -3676,7 +3676,7 @@ impl InstructionSink<'_> {
     /// [`Instruction::I32x4ShrU`](super::Instruction::I32x4ShrU) is the same instruction as a value.
     #[doc(alias = "i32x4.shr_u")]
     pub fn i32x4_shr_u(&mut self) -> &mut Self {
-        self.op([0xFD, 0xAD, 0x01])
+        self.put([0xFD, 0xAD, 0x01], [])
     }
 
     /// Appends `i32x4.add` (opcode 0xFD 174), a vector instruction that adds each lane of two vectors.
@@ -3684,7 +3684,7 @@ impl InstructionSink<'_> {
     /// [`Instruction::I32x4Add`](super::Instruction::I32x4Add) is the same instruction as a value.
     #[doc(alias = "i32x4.add")]
     pub fn i32x4_add(&mut self) -> &mut Self {
-        self.op([0xFD, 0xAE, 0x01])
+        self.put([0xFD, 0xAE, 0x01], [])
     }
 
     /// Appends `i32x4.sub` (opcode 0xFD 177), a vector instruction that subtracts each lane of two vectors.
@@ -3692,7 +3692,7 @@ impl InstructionSink<'_> {
     /// [`Instruction::I32x4Sub`](super::Instruction::I32x4Sub) is the same instruction as a value.
     #[doc(alias = "i32x4.sub")]
     pub fn i32x4_sub(&mut self) -> &mut Self {
-        self.op([0xFD, 0xB1, 0x01])
+        self.put([0xFD, 0xB1, 0x01], [])
     }
 
     /// Appends `i32x4.mul` (opcode 0xFD 181), a vector instruction that multiplies each lane of two vectors.
@@ -3700,7 +3700,7 @@ impl InstructionSink<'_> {
     /// [`Instruction::I32x4Mul`](super::Instruction::I32x4Mul) is the same instruction as a value.
     #[doc(alias = "i32x4.mul")]
     pub fn i32x4_mul(&mut self) -> &mut Self {
-        self.op([0xFD, 0xB5, 0x01])
+        self.put([0xFD, 0xB5, 0x01], [])
     }
 
     /// Appends `i32x4.min_s` (opcode 0xFD 182), a vector instruction that computes the minimum of each lane of two vectors.
@@ -3708,7 +3708,7 @@ impl InstructionSink<'_> {
     /// [`Instruction::I32x4MinS`](super::Instruction::I32x4MinS) is the same instruction as a value.
     #[doc(alias = "i32x4.min_s")]
     pub fn i32x4_min_s(&mut self) -> &mut Self {
-        self.op([0xFD, 0xB6, 0x01])
+        self.put([0xFD, 0xB6, 0x01], [])
     }
 
     /// Appends `i32x4.min_u` (opcode 0xFD 183), a vector instruction that computes the minimum of each lane of two vectors.
@@ -3716,7 +3716,7 @@ impl InstructionSink<'_> {
     /// [`Instruction::I32x4MinU`](super::Instruction::I32x4MinU) is the same instruction as a value.
     #[doc(alias = "i32x4.min_u")]
     pub fn i32x4_min_u(&mut self) -> &mut Self {
-        self.op([0xFD, 0xB7, 0x01])
+        self.put([0xFD, 0xB7, 0x01], [])
     }
 
     /// Appends `i32x4.max_s` (opcode 0xFD 184), a vector instruction that computes the maximum of each lane of two vectors.
@@ -3724,7 +3724,7 @@ impl InstructionSink<'_> {
     /// [`Instruction::I32x4MaxS`](super::Instruction::I32x4MaxS) is the same instruction as a value.
     #[doc(alias = "i32x4.max_s")]
     pub fn i32x4_max_s(&mut self) -> &mut Self {
-        self.op([0xFD, 0xB8, 0x01])
+        self.put([0xFD, 0xB8, 0x01], [])
     }
 
     /// Appends `i32x4.max_u` (opcode 0xFD 185), a vector instruction that computes the maximum of each lane of two vectors.
@@ -3732,7 +3732,7 @@ impl InstructionSink<'_> {
     /// [`Instruction::I32x4MaxU`](super::Instruction::I32x4MaxU) is the same instruction as a value.
     #[doc(alias = "i32x4.max_u")]
     pub fn i32x4_max_u(&mut self) -> &mut Self {
-        self.op([0xFD, 0xB9, 0x01])
+        self.put([0xFD, 0xB9, 0x01], [])
     }
 
     /// Appends `i32x4.dot_i16x8_s` (opcode 0xFD 186), a vector instruction that multiplies each lane of two vectors, and adds neighbouring products.
@@ -3740,7 +3740,7 @@ impl InstructionSink<'_> {
     /// [`Instruction::I32x4DotI16x8S`](super::Instruction::I32x4DotI16x8S) is the same instruction as a value.
     #[doc(alias = "i32x4.dot_i16x8_s")]
     pub fn i32x4_dot_i16x8_s(&mut self) -> &mut Self {
-        self.op([0xFD, 0xBA, 0x01])
+        self.put([0xFD, 0xBA, 0x01], [])
     }
 
     /// Appends `i32x4.extmul_low_i16x8_s` (opcode 0xFD 188), a vector instruction that multiplies the lower lanes of two vectors to wider ones.
@@ -3748,7 +3748,7 @@ impl InstructionSink<'_> {
     /// [`Instruction::I32x4ExtMulLowI16x8S`](super::Instruction::I32x4ExtMulLowI16x8S) is the same instruction as a value.
     #[doc(alias = "i32x4.extmul_low_i16x8_s")]
     pub fn i32x4_extmul_low_i16x8_s(&mut self) -> &mut Self {
-        self.op([0xFD, 0xBC, 0x01])
+        self.put([0xFD, 0xBC, 0x01], [])
     }
 
     /// Appends `i32x4.extmul_high_i16x8_s` (opcode 0xFD 189), a vector instruction that multiplies the upper lanes of two vectors to wider ones.
@@ -3756,7 +3756,7 @@ impl InstructionSink<'_> {
     /// [`Instruction::I32x4ExtMulHighI16x8S`](super::Instruction::I32x4ExtMulHighI16x8S) is the same instruction as a value.
     #[doc(alias = "i32x4.extmul_high_i16x8_s")]
     pub fn i32x4_extmul_high_i16x8_s(&mut self) -> &mut Self {
-        self.op([0xFD, 0xBD, 0x01])
+        self.put([0xFD, 0xBD, 0x01], [])
     }
 
     /// Appends `i32x4.extmul_low_i16x8_u` (opcode 0xFD 190), a vector instruction that multiplies the lower lanes of two vectors to wider ones.
@@ -3764,7 +3764,7 @@ impl InstructionSink<'_> {
     /// [`Instruction::I32x4ExtMulLowI16x8U`](super::Instruction::I32x4ExtMulLowI16x8U) is the same instruction as a value.
     #[doc(alias = "i32x4.extmul_low_i16x8_u")]
     pub fn i32x4_extmul_low_i16x8_u(&mut self) -> &mut Self {
-        self.op([0xFD, 0xBE, 0x01])
+        self.put([0xFD, 0xBE, 0x01], [])
     }
 
     /// Appends `i32x4.extmul_high_i16x8_u` (opcode 0xFD 191), a vector instruction that multiplies the upper lanes of two vectors to wider ones.
@@ -3772,7 +3772,7 @@ impl InstructionSink<'_> {
     /// [`Instruction::I32x4ExtMulHighI16x8U`](super::Instruction::I32x4ExtMulHighI16x8U) is the same instruction as a value.
     #[doc(alias = "i32x4.extmul_high_i16x8_u")]
     pub fn i32x4_extmul_high_i16x8_u(&mut self) -> &mut Self {
-        self.op([0xFD, 0xBF, 0x01])
+        self.put([0xFD, 0xBF, 0x01], [])
     }
 
     /// Appends `i64x2.abs` (opcode 0xFD 192), a vector instruction that computes the absolute value of each lane of a vector.
@@ -3780,7 +3780,7 @@ impl InstructionSink<'_> {
     /// [`Instruction::I64x2Abs`](super::Instruction::I64x2Abs) is the same instruction as a value.
     #[doc(alias = "i64x2.abs")]
     pub fn i64x2_abs(&mut self) -> &mut Self {
-        self.op([0xFD, 0xC0, 0x01])
+        self.put([0xFD, 0xC0, 0x01], [])
     }
 
     /// Appends `i64x2.neg` (opcode 0xFD 193), a vector instruction that negates each lane of a vector.
@@ -3788,7 +3788,7 @@ impl InstructionSink<'_> {
     /// [`Instruction::I64x2Neg`](super::Instruction::I64x2Neg) is the same instruction as a value.
     #[doc(alias = "i64x2.neg")]
     pub fn i64x2_neg(&mut self) -> &mut Self {
-        self.op([0xFD, 0xC1, 0x01])
+        self.put([0xFD, 0xC1, 0x01], [])
     }
 
     /// Appends `i64x2.all_true` (opcode 0xFD 195), a vector instruction that tests whether no lane of a vector is zero.
@@ -3796,7 +3796,7 @@ impl InstructionSink<'_> {
     /// [`Instruction::I64x2AllTrue`](super::Instruction::I64x2AllTrue) is the same instruction as a value.
     #[doc(alias = "i64x2.all_true")]
     pub fn i64x2_all_true(&mut self) -> &mut Self {
-        self.op([0xFD, 0xC3, 0x01])
+        self.put([0xFD, 0xC3, 0x01], [])
     }
 
     /// Appends `i64x2.bitmask` (opcode 0xFD 196), a vector instruction that collects the highest bit of each lane of a vector.
@@ -3804,7 +3804,7 @@ impl InstructionSink<'_> {
     /// [`Instruction::I64x2Bitmask`](super::Instruction::I64x2Bitmask) is the same instruction as a value.
     #[doc(alias = "i64x2.bitmask")]
     pub fn i64x2_bitmask(&mut self) -> &mut Self {
-        self.op([0xFD, 0xC4, 0x01])
+        self.put([0xFD, 0xC4, 0x01], [])
     }
 
     /// Appends `i64x2.extend_low_i32x4_s` (opcode 0xFD 199), a vector instruction that extends the lower lanes of a vector.
@@ -3812,7 +3812,7 @@ impl InstructionSink<'_> {
     /// [`Instruction::I64x2ExtendLowI32x4S`](super::Instruction::I64x2ExtendLowI32x4S) is the same instruction as a value.
     #[doc(alias = "i64x2.extend_low_i32x4_s")]
     pub fn i64x2_extend_low_i32x4_s(&mut self) -> &mut Self {
-        self.op([0xFD, 0xC7, 0x01])
+        self.put([0xFD, 0xC7, 0x01], [])
     }
 
     /// Appends `i64x2.extend_high_i32x4_s` (opcode 0xFD 200), a vector instruction that extends the upper lanes of a vector.
@@ -3820,7 +3820,7 @@ impl InstructionSink<'_> {
     /// [`Instruction::I64x2ExtendHighI32x4S`](super::Instruction::I64x2ExtendHighI32x4S) is the same instruction as a value.
     #[doc(alias = "i64x2.extend_high_i32x4_s")]
     pub fn i64x2_extend_high_i32x4_s(&mut self) -> &mut Self {
-        self.op([0xFD, 0xC8, 0x01])
+        self.put([0xFD, 0xC8, 0x01], [])
     }
 
     /// Appends `i64x2.extend_low_i32x4_u` (opcode 0xFD 201), a vector instruction that extends the lower lanes of a vector.
@@ -3828,7 +3828,7 @@ impl InstructionSink<'_> {
     /// [`Instruction::I64x2ExtendLowI32x4U`](super::Instruction::I64x2ExtendLowI32x4U) is the same instruction as a value.
     #[doc(alias = "i64x2.extend_low_i32x4_u")]
     pub fn i64x2_extend_low_i32x4_u(&mut self) -> &mut Self {
-        self.op([0xFD, 0xC9, 0x01])
+        self.put([0xFD, 0xC9, 0x01], [])
     }
 
     /// Appends `i64x2.extend_high_i32x4_u` (opcode 0xFD 202), a vector instruction that extends the upper lanes of a vector.
@@ -3836,7 +3836,7 @@ impl InstructionSink<'_> {
     /// [`Instruction::I64x2ExtendHighI32x4U`](super::Instruction::I64x2ExtendHighI32x4U) is the same instruction as a value.
     #[doc(alias = "i64x2.extend_high_i32x4_u")]
     pub fn i64x2_extend_high_i32x4_u(&mut self) -> &mut Self {
-        self.op([0xFD, 0xCA, 0x01])
+        self.put([0xFD, 0xCA, 0x01], [])
     }
 
     /// Appends `i64x2.shl` (opcode 0xFD 203), a vector instruction that shifts each lane of a vector to the left.
@@ -3844,7 +3844,7 @@ impl InstructionSink<'_> {
     /// [`Instruction::I64x2Shl`](super::Instruction::I64x2Shl) is the same instruction as a value.
     #[doc(alias = "i64x2.shl")]
     pub fn i64x2_shl(&mut self) -> &mut Self {
-        self.op([0xFD, 0xCB, 0x01])
+        self.put([0xFD, 0xCB, 0x01], [])
     }
 
     /// Appends `i64x2.shr_s` (opcode 0xFD 204), a vector instruction that shifts each lane of a vector to the right.
@@ -3852,7 +3852,7 @@ impl InstructionSink<'_> {
     /// [`Instruction::I64x2ShrS`](super::Instruction::I64x2ShrS) is the same instruction as a value.
     #[doc(alias = "i64x2.shr_s")]
     pub fn i64x2_shr_s(&mut self) -> &mut Self {
-        self.op([0xFD, 0xCC, 0x01])
+        self.put([0xFD, 0xCC, 0x01], [])
     }
 
     /// Appends `i64x2.shr_u` (opcode 0xFD 205), a vector instruction that shifts each lane of a vector to the right.
@@ -3860,7 +3860,7 @@ impl InstructionSink<'_> {
     /// [`Instruction::I64x2ShrU`](super::Instruction::I64x2ShrU) is the same instruction as a value.
     #[doc(alias = "i64x2.shr_u")]
     pub fn i64x2_shr_u(&mut self) -> &mut Self {
-        self.op([0xFD, 0xCD, 0x01])
+        self.put([0xFD, 0xCD, 0x01], [])
     }
 
     /// Appends `i64x2.add` (opcode 0xFD 206), a vector instruction that adds each lane of two vectors.
@@ -3868,7 +3868,7 @@ impl InstructionSink<'_> {
     /// [`Instruction::I64x2Add`](super::Instruction::I64x2Add) is the same instruction as a value.
     #[doc(alias = "i64x2.add")]
     pub fn i64x2_add(&mut self) -> &mut Self {
-        self.op([0xFD, 0xCE, 0x01])
+        self.put([0xFD, 0xCE, 0x01], [])
     }
 
     /// Appends `i64x2.sub` (opcode 0xFD 209), a vector instruction that subtracts each lane of two vectors.
@@ -3876,7 +3876,7 @@ impl InstructionSink<'_> {
     /// [`Instruction::I64x2Sub`](super::Instruction::I64x2Sub) is the same instruction as a value.
     #[doc(alias = "i64x2.sub")]
     pub fn i64x2_sub(&mut self) -> &mut Self {
-        self.op([0xFD, 0xD1, 0x01])
+        self.put([0xFD, 0xD1, 0x01], [])
     }
 
     /// Appends `i64x2.mul` (opcode 0xFD 213), a vector instruction that multiplies each lane of two vectors.
@@ -3884,7 +3884,7 @@ impl InstructionSink<'_> {
     /// [`Instruction::I64x2Mul`](super::Instruction::I64x2Mul) is the same instruction as a value.
     #[doc(alias = "i64x2.mul")]
     pub fn i64x2_mul(&mut self) -> &mut Self {
-        self.op([0xFD, 0xD5, 0x01])
+        self.put([0xFD, 0xD5, 0x01], [])
     }
 
     /// Appends `i64x2.eq` (opcode 0xFD 214), a vector instruction that compares each lane of two vectors.
@@ -3892,7 +3892,7 @@ impl InstructionSink<'_> {
     /// [`Instruction::I64x2Eq`](super::Instruction::I64x2Eq) is the same instruction as a value.
     #[doc(alias = "i64x2.eq")]
     pub fn i64x2_eq(&mut self) -> &mut Self {
-        self.op([0xFD, 0xD6, 0x01])
+        self.put([0xFD, 0xD6, 0x01], [])
     }
 
     /// Appends `i64x2.ne` (opcode 0xFD 215), a vector instruction that compares each lane of two vectors.
@@ -3900,7 +3900,7 @@ impl InstructionSink<'_> {
     /// [`Instruction::I64x2Ne`](super::Instruction::I64x2Ne) is the same instruction as a value.
     #[doc(alias = "i64x2.ne")]
     pub fn i64x2_ne(&mut self) -> &mut Self {
-        self.op([0xFD, 0xD7, 0x01])
+        self.put([0xFD, 0xD7, 0x01], [])
     }
 
     /// Appends `i64x2.lt_s` (opcode 0xFD 216), a vector instruction that compares each lane of two vectors.
@@ -3908,7 +3908,7 @@ impl InstructionSink<'_> {
     /// [`Instruction::I64x2LtS`](super::Instruction::I64x2LtS) is the same instruction as a value.
     #[doc(alias = "i64x2.lt_s")]
     pub fn i64x2_lt_s(&mut self) -> &mut Self {
-        self.op([0xFD, 0xD8, 0x01])
+        self.put([0xFD, 0xD8, 0x01], [])
     }
 
     /// Appends `i64x2.gt_s` (opcode 0xFD 217), a vector instruction that compares each lane of two vectors.
@@ -3916,7 +3916,7 @@ impl InstructionSink<'_> {
     /// [`Instruction::I64x2GtS`](super::Instruction::I64x2GtS) is the same instruction as a value.
     #[doc(alias = "i64x2.gt_s")]
     pub fn i64x2_gt_s(&mut self) -> &mut Self {
-        self.op([0xFD, 0xD9, 0x01])
+        self.put([0xFD, 0xD9, 0x01], [])
     }
 
     /// Appends `i64x2.le_s` (opcode 0xFD 218), a vector instruction that compares each lane of two vectors.
@@ -3924,7 +3924,7 @@ impl InstructionSink<'_> {
     /// [`Instruction::I64x2LeS`](super::Instruction::I64x2LeS) is the same instruction as a value.
     #[doc(alias = "i64x2.le_s")]
     pub fn i64x2_le_s(&mut self) -> &mut Self {
-        self.op([0xFD, 0xDA, 0x01])
+        self.put([0xFD, 0xDA, 0x01], [])
     }
 
     /// Appends `i64x2.ge_s` (opcode 0xFD 219), a vector instruction that compares each lane of two vectors.
@@ -3932,7 +3932,7 @@ impl InstructionSink<'_> {
     /// [`Instruction::I64x2GeS`](super::Instruction::I64x2GeS) is the same instruction as a value.
     #[doc(alias = "i64x2.ge_s")]
     pub fn i64x2_ge_s(&mut self) -> &mut Self {
-        self.op([0xFD, 0xDB, 0x01])
+        self.put([0xFD, 0xDB, 0x01], [])
     }
 
     /// Appends `i64x2.extmul_low_i32x4_s` (opcode 0xFD 220), a vector instruction that multiplies the lower lanes of two vectors to wider ones.
@@ -3940,7 +3940,7 @@ impl InstructionSink<'_> {
     /// [`Instruction::I64x2ExtMulLowI32x4S`](super::Instruction::I64x2ExtMulLowI32x4S) is the same instruction as a value.
     #[doc(alias = "i64x2.extmul_low_i32x4_s")]
     pub fn i64x2_extmul_low_i32x4_s(&mut self) -> &mut Self {
-        self.op([0xFD, 0xDC, 0x01])
+        self.put([0xFD, 0xDC, 0x01], [])
     }
 
     /// Appends `i64x2.extmul_high_i32x4_s` (opcode 0xFD 221), a vector instruction that multiplies the upper lanes of two vectors to wider ones.
@@ -3948,7 +3948,7 @@ impl InstructionSink<'_> {
     /// [`Instruction::I64x2ExtMulHighI32x4S`](super::Instruction::I64x2ExtMulHighI32x4S) is the same instruction as a value.
     #[doc(alias = "i64x2.extmul_high_i32x4_s")]
     pub fn i64x2_extmul_high_i32x4_s(&mut self) -> &mut Self {
-        self.op([0xFD, 0xDD, 0x01])
+        self.put([0xFD, 0xDD, 0x01], [])
     }
 
     /// Appends `i64x2.extmul_low_i32x4_u` (opcode 0xFD 222), a vector instruction that multiplies the lower lanes of two vectors to wider ones.
@@ -3956,7 +3956,7 @@ impl InstructionSink<'_> {
     /// [`Instruction::I64x2ExtMulLowI32x4U`](super::Instruction::I64x2ExtMulLowI32x4U) is the same instruction as a value.
     #[doc(alias = "i64x2.extmul_low_i32x4_u")]
     pub fn i64x2_extmul_low_i32x4_u(&mut self) -> &mut Self {
-        self.op([0xFD, 0xDE, 0x01])
+        self.put([0xFD, 0xDE, 0x01], [])
     }
 
     /// Appends `i64x2.extmul_high_i32x4_u` (opcode 0xFD 223), a vector instruction that multiplies the upper lanes of two vectors to wider ones.
@@ -3964,7 +3964,7 @@ impl InstructionSink<'_> {
     /// [`Instruction::I64x2ExtMulHighI32x4U`](super::Instruction::I64x2ExtMulHighI32x4U) is the same instruction as a value.
     #[doc(alias = "i64x2.extmul_high_i32x4_u")]
     pub fn i64x2_extmul_high_i32x4_u(&mut self) -> &mut Self {
-        self.op([0xFD, 0xDF, 0x01])
+        self.put([0xFD, 0xDF, 0x01], [])
     }
 
     /// Appends `f32x4.abs` (opcode 0xFD 224), a vector instruction that computes the absolute value of each lane of a vector.
@@ -3972,7 +3972,7 @@ impl InstructionSink<'_> {
     /// [`Instruction::F32x4Abs`](super::Instruction::F32x4Abs) is the same instruction as a value.
     #[doc(alias = "f32x4.abs")]
     pub fn f32x4_abs(&mut self) -> &mut Self {
-        self.op([0xFD, 0xE0, 0x01])
+        self.put([0xFD, 0xE0, 0x01], [])
     }
 
     /// Appends `f32x4.neg` (opcode 0xFD 225), a vector instruction that negates each lane of a vector.
@@ -3980,7 +3980,7 @@ impl InstructionSink<'_> {
     /// [`Instruction::F32x4Neg`](super::Instruction::F32x4Neg) is the same instruction as a value.
     #[doc(alias = "f32x4.neg")]
     pub fn f32x4_neg(&mut self) -> &mut Self {
-        self.op([0xFD, 0xE1, 0x01])
+        self.put([0xFD, 0xE1, 0x01], [])
     }
 
     /// Appends `f32x4.sqrt` (opcode 0xFD 227), a vector instruction that computes the square root of each lane of a vector.
@@ -3988,7 +3988,7 @@ impl InstructionSink<'_> {
     /// [`Instruction::F32x4Sqrt`](super::Instruction::F32x4Sqrt) is the same instruction as a value.
     #[doc(alias = "f32x4.sqrt")]
     pub fn f32x4_sqrt(&mut self) -> &mut Self {
-        self.op([0xFD, 0xE3, 0x01])
+        self.put([0xFD, 0xE3, 0x01], [])
     }
 
     /// Appends `f32x4.add` (opcode 0xFD 228), a vector instruction that adds each lane of two vectors.
@@ -3996,7 +3996,7 @@ impl InstructionSink<'_> {
     /// [`Instruction::F32x4Add`](super::Instruction::F32x4Add) is the same instruction as a value.
     #[doc(alias = "f32x4.add")]
     pub fn f32x4_add(&mut self) -> &mut Self {
-        self.op([0xFD, 0xE4, 0x01])
+        self.put([0xFD, 0xE4, 0x01], [])
     }
 
     /// Appends `f32x4.sub` (opcode 0xFD 229), a vector instruction that subtracts each lane of two vectors.
@@ -4004,7 +4004,7 @@ impl InstructionSink<'_> {
     /// [`Instruction::F32x4Sub`](super::Instruction::F32x4Sub) is the same instruction as a value.
     #[doc(alias = "f32x4.sub")]
     pub fn f32x4_sub(&mut self) -> &mut Self {
-        self.op([0xFD, 0xE5, 0x01])
+        self.put([0xFD, 0xE5, 0x01], [])
     }
 
     /// Appends `f32x4.mul` (opcode 0xFD 230), a vector instruction that multiplies each lane of two vectors.
@@ -4012,7 +4012,7 @@ impl InstructionSink<'_> {
     /// [`Instruction::F32x4Mul`](super::Instruction::F32x4Mul) is the same instruction as a value.
     #[doc(alias = "f32x4.mul")]
     pub fn f32x4_mul(&mut self) -> &mut Self {
-        self.op([0xFD, 0xE6, 0x01])
+        self.put([0xFD, 0xE6, 0x01], [])
     }
 
     /// Appends `f32x4.div` (opcode 0xFD 231), a vector instruction that divides each lane of two vectors.
@@ -4020,7 +4020,7 @@ impl InstructionSink<'_> {
     /// [`Instruction::F32x4Div`](super::Instruction::F32x4Div) is the same instruction as a value.
     #[doc(alias = "f32x4.div")]
     pub fn f32x4_div(&mut self) -> &mut Self {
-        self.op([0xFD, 0xE7, 0x01])
+        self.put([0xFD, 0xE7, 0x01], [])
     }
 
     /// Appends `f32x4.min` (opcode 0xFD 232), a vector instruction that computes the minimum of each lane of two vectors.
@@ -4028,7 +4028,7 @@ impl InstructionSink<'_> {
     /// [`Instruction::F32x4Min`](super::Instruction::F32x4Min) is the same instruction as a value.
     #[doc(alias = "f32x4.min")]
     pub fn f32x4_min(&mut self) -> &mut Self {
-        self.op([0xFD, 0xE8, 0x01])
+        self.put([0xFD, 0xE8, 0x01], [])
     }
 
     /// Appends `f32x4.max` (opcode 0xFD 233), a vector instruction that computes the maximum of each lane of two vectors.
@@ -4036,7 +4036,7 @@ impl InstructionSink<'_> {
     /// [`Instruction::F32x4Max`](super::Instruction::F32x4Max) is the same instruction as a value.
     #[doc(alias = "f32x4.max")]
     pub fn f32x4_max(&mut self) -> &mut Self {
-        self.op([0xFD, 0xE9, 0x01])
+        self.put([0xFD, 0xE9, 0x01], [])
     }
 
     /// Appends `f32x4.pmin` (opcode 0xFD 234), a vector instruction that computes the pseudo-minimum of each lane of two vectors.
@@ -4044,7 +4044,7 @@ impl InstructionSink<'_> {
     /// [`Instruction::F32x4PMin`](super::Instruction::F32x4PMin) is the same instruction as a value.
     #[doc(alias = "f32x4.pmin")]
     pub fn f32x4_pmin(&mut self) -> &mut Self {
-        self.op([0xFD, 0xEA, 0x01])
+        self.put([0xFD, 0xEA, 0x01], [])
     }
 
     /// Appends `f32x4.pmax` (opcode 0xFD 235), a vector instruction that computes the pseudo-maximum of each lane of two vectors.
@@ -4052,7 +4052,7 @@ impl InstructionSink<'_> {
     /// [`Instruction::F32x4PMax`](super::Instruction::F32x4PMax) is the same instruction as a value.
     #[doc(alias = "f32x4.pmax")]
     pub fn f32x4_pmax(&mut self) -> &mut Self {
-        self.op([0xFD, 0xEB, 0x01])
+        self.put([0xFD, 0xEB, 0x01], [])
     }
 
     /// Appends `f64x2.abs` (opcode 0xFD 236), a vector instruction that computes the absolute value of each lane of a vector.
@@ -4060,7 +4060,7 @@ impl InstructionSink<'_> {
     /// [`Instruction::F64x2Abs`](super::Instruction::F64x2Abs) is the same instruction as a value.
     #[doc(alias = "f64x2.abs")]
     pub fn f64x2_abs(&mut self) -> &mut Self {
-        self.op([0xFD, 0xEC, 0x01])
+        self.put([0xFD, 0xEC, 0x01], [])
     }
 
     /// Appends `f64x2.neg` (opcode 0xFD 237), a vector instruction that negates each lane of a vector.
@@ -4068,7 +4068,7 @@ impl InstructionSink<'_> {
     /// [`Instruction::F64x2Neg`](super::Instruction::F64x2Neg) is the same instruction as a value.
     #[doc(alias = "f64x2.neg")]
     pub fn f64x2_neg(&mut self) -> &mut Self {
-        self.op([0xFD, 0xED, 0x01])
+        self.put([0xFD, 0xED, 0x01], [])
     }
 
     /// Appends `f64x2.sqrt` (opcode 0xFD 239), a vector instruction that computes the square root of each lane of a vector.
@@ -4076,7 +4076,7 @@ impl InstructionSink<'_> {
     /// [`Instruction::F64x2Sqrt`](super::Instruction::F64x2Sqrt) is the same instruction as a value.
     #[doc(alias = "f64x2.sqrt")]
     pub fn f64x2_sqrt(&mut self) -> &mut Self {
-        self.op([0xFD, 0xEF, 0x01])
+        self.put([0xFD, 0xEF, 0x01], [])
     }
 
     /// Appends `f64x2.add` (opcode 0xFD 240), a vector instruction that adds each lane of two vectors.
@@ -4084,7 +4084,7 @@ impl InstructionSink<'_> {
     /// [`Instruction::F64x2Add`](super::Instruction::F64x2Add) is the same instruction as a value.
     #[doc(alias = "f64x2.add")]
     pub fn f64x2_add(&mut self) -> &mut Self {
-        self.op([0xFD, 0xF0, 0x01])
+        self.put([0xFD, 0xF0, 0x01], [])
     }
 
     /// Appends `f64x2.sub` (opcode 0xFD 241), a vector instruction that subtracts each lane of two vectors.
@@ -4092,7 +4092,7 @@ impl InstructionSink<'_> {
     /// [`Instruction::F64x2Sub`](super::Instruction::F64x2Sub) is the same instruction as a value.
     #[doc(alias = "f64x2.sub")]
     pub fn f64x2_sub(&mut self) -> &mut Self {
-        self.op([0xFD, 0xF1, 0x01])
+        self.put([0xFD, 0xF1, 0x01], [])
     }
 
     /// Appends `f64x2.mul` (opcode 0xFD 242), a vector instruction that multiplies each lane of two vectors.
@@ -4100,7 +4100,7 @@ impl InstructionSink<'_> {
     /// [`Instruction::F64x2Mul`](super::Instruction::F64x2Mul) is the same instruction as a value.
     #[doc(alias = "f64x2.mul")]
     pub fn f64x2_mul(&mut self) -> &mut Self {
-        self.op([0xFD, 0xF2, 0x01])
+        self.put([0xFD, 0xF2, 0x01], [])
     }
 
     /// Appends `f64x2.div` (opcode 0xFD 243), a vector instruction that divides each lane of two vectors.
@@ -4108,7 +4108,7 @@ impl InstructionSink<'_> {
     /// [`Instruction::F64x2Div`](super::Instruction::F64x2Div) is the same instruction as a value.
     #[doc(alias = "f64x2.div")]
     pub fn f64x2_div(&mut self) -> &mut Self {
-        self.op([0xFD, 0xF3, 0x01])
+        self.put([0xFD, 0xF3, 0x01], [])
     }
 
     /// Appends `f64x2.min` (opcode 0xFD 244), a vector instruction that computes the minimum of each lane of two vectors.
@@ -4116,7 +4116,7 @@ impl InstructionSink<'_> {
     /// [`Instruction::F64x2Min`](super::Instruction::F64x2Min) is the same instruction as a value.
     #[doc(alias = "f64x2.min")]
     pub fn f64x2_min(&mut self) -> &mut Self {
-        self.op([0xFD, 0xF4, 0x01])
+        self.put([0xFD, 0xF4, 0x01], [])
     }
 
     /// Appends `f64x2.max` (opcode 0xFD 245), a vector instruction that computes the maximum of each lane of two vectors.
@@ -4124,7 +4124,7 @@ impl InstructionSink<'_> {
     /// [`Instruction::F64x2Max`](super::Instruction::F64x2Max) is the same instruction as a value.
     #[doc(alias = "f64x2.max")]
     pub fn f64x2_max(&mut self) -> &mut Self {
-        self.op([0xFD, 0xF5, 0x01])
+        self.put([0xFD, 0xF5, 0x01], [])
     }
 
     /// Appends `f64x2.pmin` (opcode 0xFD 246), a vector instruction that computes the pseudo-minimum of each lane of two vectors.
@@ -4132,7 +4132,7 @@ impl InstructionSink<'_> {
     /// [`Instruction::F64x2PMin`](super::Instruction::F64x2PMin) is the same instruction as a value.
     #[doc(alias = "f64x2.pmin")]
     pub fn f64x2_pmin(&mut self) -> &mut Self {
-        self.op([0xFD, 0xF6, 0x01])
+        self.put([0xFD, 0xF6, 0x01], [])
     }
 
     /// Appends `f64x2.pmax` (opcode 0xFD 247), a vector instruction that computes the pseudo-maximum of each lane of two vectors.
@@ -4140,7 +4140,7 @@ impl InstructionSink<'_> {
     /// [`Instruction::F64x2PMax`](super::Instruction::F64x2PMax) is the same instruction as a value.
     #[doc(alias = "f64x2.pmax")]
     pub fn f64x2_pmax(&mut self) -> &mut Self {
-        self.op([0xFD, 0xF7, 0x01])
+        self.put([0xFD, 0xF7, 0x01], [])
     }
 
     /// Appends `i32x4.trunc_sat_f32x4_s` (opcode 0xFD 248), a vector instruction that converts the floats of a vector to integers.
@@ -4148,7 +4148,7 @@ impl InstructionSink<'_> {
     /// [`Instruction::I32x4TruncSatF32x4S`](super::Instruction::I32x4TruncSatF32x4S) is the same instruction as a value.
     #[doc(alias = "i32x4.trunc_sat_f32x4_s")]
     pub fn i32x4_trunc_sat_f32x4_s(&mut self) -> &mut Self {
-        self.op([0xFD, 0xF8, 0x01])
+        self.put([0xFD, 0xF8, 0x01], [])
     }
 
     /// Appends `i32x4.trunc_sat_f32x4_u` (opcode 0xFD 249), a vector instruction that converts the floats of a vector to integers.
@@ -4156,7 +4156,7 @@ impl InstructionSink<'_> {
     /// [`Instruction::I32x4TruncSatF32x4U`](super::Instruction::I32x4TruncSatF32x4U) is the same instruction as a value.
     #[doc(alias = "i32x4.trunc_sat_f32x4_u")]
     pub fn i32x4_trunc_sat_f32x4_u(&mut self) -> &mut Self {
-        self.op([0xFD, 0xF9, 0x01])
+        self.put([0xFD, 0xF9, 0x01], [])
     }
 
     /// Appends `f32x4.convert_i32x4_s` (opcode 0xFD 250), a vector instruction that converts the integers of a vector to floats.
@@ -4164,7 +4164,7 @@ impl InstructionSink<'_> {
     /// [`Instruction::F32x4ConvertI32x4S`](super::Instruction::F32x4ConvertI32x4S) is the same instruction as a value.
     #[doc(alias = "f32x4.convert_i32x4_s")]
     pub fn f32x4_convert_i32x4_s(&mut self) -> &mut Self {
-        self.op([0xFD, 0xFA, 0x01])
+        self.put([0xFD, 0xFA, 0x01], [])
     }
 
     /// Appends `f32x4.convert_i32x4_u` (opcode 0xFD 251), a vector instruction that converts the integers of a vector to floats.
@@ -4172,7 +4172,7 @@ impl InstructionSink<'_> {
     /// [`Instruction::F32x4ConvertI32x4U`](super::Instruction::F32x4ConvertI32x4U) is the same instruction as a value.
     #[doc(alias = "f32x4.convert_i32x4_u")]
     pub fn f32x4_convert_i32x4_u(&mut self) -> &mut Self {
-        self.op([0xFD, 0xFB, 0x01])
+        self.put([0xFD, 0xFB, 0x01], [])
     }
 
     /// Appends `i32x4.trunc_sat_f64x2_s_zero` (opcode 0xFD 252), a vector instruction that converts the floats of a vector to integers.
@@ -4180,7 +4180,7 @@ impl InstructionSink<'_> {
     /// [`Instruction::I32x4TruncSatF64x2SZero`](super::Instruction::I32x4TruncSatF64x2SZero) is the same instruction as a value.
     #[doc(alias = "i32x4.trunc_sat_f64x2_s_zero")]
     pub fn i32x4_trunc_sat_f64x2_s_zero(&mut self) -> &mut Self {
-        self.op([0xFD, 0xFC, 0x01])
+        self.put([0xFD, 0xFC, 0x01], [])
     }
 
     /// Appends `i32x4.trunc_sat_f64x2_u_zero` (opcode 0xFD 253), a vector instruction that converts the floats of a vector to integers.
@@ -4188,7 +4188,7 @@ impl InstructionSink<'_> {
     /// [`Instruction::I32x4TruncSatF64x2UZero`](super::Instruction::I32x4TruncSatF64x2UZero) is the same instruction as a value.
     #[doc(alias = "i32x4.trunc_sat_f64x2_u_zero")]
     pub fn i32x4_trunc_sat_f64x2_u_zero(&mut self) -> &mut Self {
-        self.op([0xFD, 0xFD, 0x01])
+        self.put([0xFD, 0xFD, 0x01], [])
     }
 
     /// Appends `f64x2.convert_low_i32x4_s` (opcode 0xFD 254), a vector instruction that converts the integers of a vector to floats.
@@ -4196,7 +4196,7 @@ impl InstructionSink<'_> {
     /// [`Instruction::F64x2ConvertLowI32x4S`](super::Instruction::F64x2ConvertLowI32x4S) is the same instruction as a value.
     #[doc(alias = "f64x2.convert_low_i32x4_s")]
     pub fn f64x2_convert_low_i32x4_s(&mut self) -> &mut Self {
-        self.op([0xFD, 0xFE, 0x01])
+        self.put([0xFD, 0xFE, 0x01], [])
     }
 
     /// Appends `f64x2.convert_low_i32x4_u` (opcode 0xFD 255), a vector instruction that converts the integers of a vector to floats.
@@ -4204,7 +4204,7 @@ impl InstructionSink<'_> {
     /// [`Instruction::F64x2ConvertLowI32x4U`](super::Instruction::F64x2ConvertLowI32x4U) is the same instruction as a value.
     #[doc(alias = "f64x2.convert_low_i32x4_u")]
     pub fn f64x2_convert_low_i32x4_u(&mut self) -> &mut Self {
-        self.op([0xFD, 0xFF, 0x01])
+        self.put([0xFD, 0xFF, 0x01], [])
     }
 
     /// Appends `i8x16.relaxed_swizzle` (opcode 0xFD 256), a relaxed vector instruction that selects lanes of a vector by those of another.
@@ -4212,7 +4212,7 @@ impl InstructionSink<'_> {
     /// [`Instruction::I8x16RelaxedSwizzle`](super::Instruction::I8x16RelaxedSwizzle) is the same instruction as a value.
     #[doc(alias = "i8x16.relaxed_swizzle")]
     pub fn i8x16_relaxed_swizzle(&mut self) -> &mut Self {
-        self.op([0xFD, 0x80, 0x02])
+        self.put([0xFD, 0x80, 0x02], [])
     }
 
     /// Appends `i32x4.relaxed_trunc_f32x4_s` (opcode 0xFD 257), a relaxed vector instruction that converts the floats of a vector to integers.
@@ -4220,7 +4220,7 @@ impl InstructionSink<'_> {
     /// [`Instruction::I32x4RelaxedTruncF32x4S`](super::Instruction::I32x4RelaxedTruncF32x4S) is the same instruction as a value.
     #[doc(alias = "i32x4.relaxed_trunc_f32x4_s")]
     pub fn i32x4_relaxed_trunc_f32x4_s(&mut self) -> &mut Self {
-        self.op([0xFD, 0x81, 0x02])
+        self.put([0xFD, 0x81, 0x02], [])
     }
 
     /// Appends `i32x4.relaxed_trunc_f32x4_u` (opcode 0xFD 258), a relaxed vector instruction that converts the floats of a vector to integers.
@@ -4228,7 +4228,7 @@ impl InstructionSink<'_> {
     /// [`Instruction::I32x4RelaxedTruncF32x4U`](super::Instruction::I32x4RelaxedTruncF32x4U) is the same instruction as a value.
     #[doc(alias = "i32x4.relaxed_trunc_f32x4_u")]
     pub fn i32x4_relaxed_trunc_f32x4_u(&mut self) -> &mut Self {
-        self.op([0xFD, 0x82, 0x02])
+        self.put([0xFD, 0x82, 0x02], [])
     }
 
     /// Appends `i32x4.relaxed_trunc_f64x2_s_zero` (opcode 0xFD 259), a relaxed vector instruction that converts the floats of a vector to integers.
@@ -4236,7 +4236,7 @@ impl InstructionSink<'_> {
     /// [`Instruction::I32x4RelaxedTruncF64x2SZero`](super::Instruction::I32x4RelaxedTruncF64x2SZero) is the same instruction as a value.
     #[doc(alias = "i32x4.relaxed_trunc_f64x2_s_zero")]
     pub fn i32x4_relaxed_trunc_f64x2_s_zero(&mut self) -> &mut Self {
-        self.op([0xFD, 0x83, 0x02])
+        self.put([0xFD, 0x83, 0x02], [])
     }
 
     /// Appends `i32x4.relaxed_trunc_f64x2_u_zero` (opcode 0xFD 260), a relaxed vector instruction that converts the floats of a vector to integers.
@@ -4244,7 +4244,7 @@ impl InstructionSink<'_> {
     /// [`Instruction::I32x4RelaxedTruncF64x2UZero`](super::Instruction::I32x4RelaxedTruncF64x2UZero) is the same instruction as a value.
     #[doc(alias = "i32x4.relaxed_trunc_f64x2_u_zero")]
     pub fn i32x4_relaxed_trunc_f64x2_u_zero(&mut self) -> &mut Self {
-        self.op([0xFD, 0x84, 0x02])
+        self.put([0xFD, 0x84, 0x02], [])
     }
 
     /// Appends `f32x4.relaxed_madd` (opcode 0xFD 261), a relaxed vector instruction that multiplies each lane of two vectors, and adds a third.
@@ -4252,7 +4252,7 @@ impl InstructionSink<'_> {
     /// [`Instruction::F32x4RelaxedMadd`](super::Instruction::F32x4RelaxedMadd) is the same instruction as a value.
     #[doc(alias = "f32x4.relaxed_madd")]
     pub fn f32x4_relaxed_madd(&mut self) -> &mut Self {
-        self.op([0xFD, 0x85, 0x02])
+        self.put([0xFD, 0x85, 0x02], [])
     }
 
     /// Appends `f32x4.relaxed_nmadd` (opcode 0xFD 262), a relaxed vector instruction that multiplies each lane of two vectors, and subtracts the product from a third.
@@ -4260,7 +4260,7 @@ impl InstructionSink<'_> {
     /// [`Instruction::F32x4RelaxedNmadd`](super::Instruction::F32x4RelaxedNmadd) is the same instruction as a value.
     #[doc(alias = "f32x4.relaxed_nmadd")]
     pub fn f32x4_relaxed_nmadd(&mut self) -> &mut Self {
-        self.op([0xFD, 0x86, 0x02])
+        self.put([0xFD, 0x86, 0x02], [])
     }
 
     /// Appends `f64x2.relaxed_madd` (opcode 0xFD 263), a relaxed vector instruction that multiplies each lane of two vectors, and adds a third.
@@ -4268,7 +4268,7 @@ impl InstructionSink<'_> {
     /// [`Instruction::F64x2RelaxedMadd`](super::Instruction::F64x2RelaxedMadd) is the same instruction as a value.
     #[doc(alias = "f64x2.relaxed_madd")]
     pub fn f64x2_relaxed_madd(&mut self) -> &mut Self {
-        self.op([0xFD, 0x87, 0x02])
+        self.put([0xFD, 0x87, 0x02], [])
     }
 
     /// Appends `f64x2.relaxed_nmadd` (opcode 0xFD 264), a relaxed vector instruction that multiplies each lane of two vectors, and subtracts the product from a third.
@@ -4276,7 +4276,7 @@ impl InstructionSink<'_> {
     /// [`Instruction::F64x2RelaxedNmadd`](super::Instruction::F64x2RelaxedNmadd) is the same instruction as a value.
     #[doc(alias = "f64x2.relaxed_nmadd")]
     pub fn f64x2_relaxed_nmadd(&mut self) -> &mut Self {
-        self.op([0xFD, 0x88, 0x02])
+        self.put([0xFD, 0x88, 0x02], [])
     }
 
     /// Appends `i8x16.relaxed_laneselect` (opcode 0xFD 265), a relaxed vector instruction that selects lanes of two vectors by a third.
@@ -4284,7 +4284,7 @@ impl InstructionSink<'_> {
     /// [`Instruction::I8x16RelaxedLaneselect`](super::Instruction::I8x16RelaxedLaneselect) is the same instruction as a value.
     #[doc(alias = "i8x16.relaxed_laneselect")]
     pub fn i8x16_relaxed_laneselect(&mut self) -> &mut Self {
-        self.op([0xFD, 0x89, 0x02])
+        self.put([0xFD, 0x89, 0x02], [])
     }
 
     /// Appends `i16x8.relaxed_laneselect` (opcode 0xFD 266), a relaxed vector instruction that selects lanes of two vectors by a third.
@@ -4292,7 +4292,7 @@ impl InstructionSink<'_> {
     /// [`Instruction::I16x8RelaxedLaneselect`](super::Instruction::I16x8RelaxedLaneselect) is the same instruction as a value.
     #[doc(alias = "i16x8.relaxed_laneselect")]
     pub fn i16x8_relaxed_laneselect(&mut self) -> &mut Self {
-        self.op([0xFD, 0x8A, 0x02])
+        self.put([0xFD, 0x8A, 0x02], [])
     }
 
     /// Appends `i32x4.relaxed_laneselect` (opcode 0xFD 267), a relaxed vector instruction that selects lanes of two vectors by a third.
@@ -4300,7 +4300,7 @@ impl InstructionSink<'_> {
     /// [`Instruction::I32x4RelaxedLaneselect`](super::Instruction::I32x4RelaxedLaneselect) is the same instruction as a value.
     #[doc(alias = "i32x4.relaxed_laneselect")]
     pub fn i32x4_relaxed_laneselect(&mut self) -> &mut Self {
-        self.op([0xFD, 0x8B, 0x02])
+        self.put([0xFD, 0x8B, 0x02], [])
     }
 
     /// Appends `i64x2.relaxed_laneselect` (opcode 0xFD 268), a relaxed vector instruction that selects lanes of two vectors by a third.
@@ -4308,7 +4308,7 @@ impl InstructionSink<'_> {
     /// [`Instruction::I64x2RelaxedLaneselect`](super::Instruction::I64x2RelaxedLaneselect) is the same instruction as a value.
     #[doc(alias = "i64x2.relaxed_laneselect")]
     pub fn i64x2_relaxed_laneselect(&mut self) -> &mut Self {
-        self.op([0xFD, 0x8C, 0x02])
+        self.put([0xFD, 0x8C, 0x02], [])
     }
 
     /// Appends `f32x4.relaxed_min` (opcode 0xFD 269), a relaxed vector instruction that computes the minimum of each lane of two vectors.
@@ -4316,7 +4316,7 @@ impl InstructionSink<'_> {
     /// [`Instruction::F32x4RelaxedMin`](super::Instruction::F32x4RelaxedMin) is the same instruction as a value.
     #[doc(alias = "f32x4.relaxed_min")]
     pub fn f32x4_relaxed_min(&mut self) -> &mut Self {
-        self.op([0xFD, 0x8D, 0x02])
+        self.put([0xFD, 0x8D, 0x02], [])
     }
 
     /// Appends `f32x4.relaxed_max` (opcode 0xFD 270), a relaxed vector instruction that computes the maximum of each lane of two vectors.
@@ -4324,7 +4324,7 @@ impl InstructionSink<'_> {
     /// [`Instruction::F32x4RelaxedMax`](super::Instruction::F32x4RelaxedMax) is the same instruction as a value.
     #[doc(alias = "f32x4.relaxed_max")]
     pub fn f32x4_relaxed_max(&mut self) -> &mut Self {
-        self.op([0xFD, 0x8E, 0x02])
+        self.put([0xFD, 0x8E, 0x02], [])
     }
 
     /// Appends `f64x2.relaxed_min` (opcode 0xFD 271), a relaxed vector instruction that computes the minimum of each lane of two vectors.
@@ -4332,7 +4332,7 @@ impl InstructionSink<'_> {
     /// [`Instruction::F64x2RelaxedMin`](super::Instruction::F64x2RelaxedMin) is the same instruction as a value.
     #[doc(alias = "f64x2.relaxed_min")]
     pub fn f64x2_relaxed_min(&mut self) -> &mut Self {
-        self.op([0xFD, 0x8F, 0x02])
+        self.put([0xFD, 0x8F, 0x02], [])
     }
 
     /// Appends `f64x2.relaxed_max` (opcode 0xFD 272), a relaxed vector instruction that computes the maximum of each lane of two vectors.
@@ -4340,7 +4340,7 @@ impl InstructionSink<'_> {
     /// [`Instruction::F64x2RelaxedMax`](super::Instruction::F64x2RelaxedMax) is the same instruction as a value.
     #[doc(alias = "f64x2.relaxed_max")]
     pub fn f64x2_relaxed_max(&mut self) -> &mut Self {
-        self.op([0xFD, 0x90, 0x02])
+        self.put([0xFD, 0x90, 0x02], [])
     }
 
     /// Appends `i16x8.relaxed_q15mulr_s` (opcode 0xFD 273), a relaxed vector instruction that multiplies each lane of two vectors as fixed-point numbers, rounded.
@@ -4348,7 +4348,7 @@ impl InstructionSink<'_> {
     /// [`Instruction::I16x8RelaxedQ15mulrS`](super::Instruction::I16x8RelaxedQ15mulrS) is the same instruction as a value.
     #[doc(alias = "i16x8.relaxed_q15mulr_s")]
     pub fn i16x8_relaxed_q15mulr_s(&mut self) -> &mut Self {
-        self.op([0xFD, 0x91, 0x02])
+        self.put([0xFD, 0x91, 0x02], [])
     }
 
     /// Appends `i16x8.relaxed_dot_i8x16_i7x16_s` (opcode 0xFD 274), a relaxed vector instruction that multiplies each lane of two vectors, and adds neighbouring products.
@@ -4356,7 +4356,7 @@ impl InstructionSink<'_> {
     /// [`Instruction::I16x8RelaxedDotI8x16I7x16S`](super::Instruction::I16x8RelaxedDotI8x16I7x16S) is the same instruction as a value.
     #[doc(alias = "i16x8.relaxed_dot_i8x16_i7x16_s")]
     pub fn i16x8_relaxed_dot_i8x16_i7x16_s(&mut self) -> &mut Self {
-        self.op([0xFD, 0x92, 0x02])
+        self.put([0xFD, 0x92, 0x02], [])
     }
 
     /// Appends `i32x4.relaxed_dot_i8x16_i7x16_add_s` (opcode 0xFD 275), a relaxed vector instruction that multiplies each lane of two vectors, and adds neighbouring products and a third vector.
@@ -4364,7 +4364,7 @@ impl InstructionSink<'_> {
     /// [`Instruction::I32x4RelaxedDotI8x16I7x16AddS`](super::Instruction::I32x4RelaxedDotI8x16I7x16AddS) is the same instruction as a value.
     #[doc(alias = "i32x4.relaxed_dot_i8x16_i7x16_add_s")]
     pub fn i32x4_relaxed_dot_i8x16_i7x16_add_s(&mut self) -> &mut Self {
-        self.op([0xFD, 0x93, 0x02])
+        self.put([0xFD, 0x93, 0x02], [])
     }
 
     /// Appends `memory.atomic.notify` (opcode 0xFE 0), an atomic instruction of the threads proposal that wakes threads that wait at an address.
@@ -4412,7 +4412,7 @@ impl InstructionSink<'_> {
     ///
     /// [`Instruction::Pause`](super::Instruction::Pause) is the same instruction as a value.
     pub fn pause(&mut self) -> &mut Self {
-        self.op([0xFE, 0x04])
+        self.put([0xFE, 0x04], [])
     }
 
     /// Appends `i32.atomic.load` (opcode 0xFE 16), an atomic instruction of the threads proposal that loads a number from a memory.
@@ -5204,6 +5204,6 @@ impl InstructionSink<'_> {
     /// [`Instruction::RefI31Shared`](super::Instruction::RefI31Shared) is the same instruction as a value.
     #[doc(alias = "ref.i31_shared")]
     pub fn ref_i31_shared(&mut self) -> &mut Self {
-        self.op([0xFE, 0x72])
+        self.put([0xFE, 0x72], [])
     }
 }

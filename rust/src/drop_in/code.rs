@@ -2,7 +2,7 @@
 use super::bytes::{append, append_once};
 use super::short::{EMPTY_BLOCK, Short, put_short};
 use super::{NONE, done};
-use crate::base::{self, Encode as _, Result, vec_of};
+use crate::base::{self, Result, vec_of};
 use crate::ending::{Growing, Root, grow};
 use crate::immediates::BlockType;
 use crate::{code, insn};
@@ -19,30 +19,6 @@ impl<'a> InstructionSink<'a> {
     #[inline]
     pub fn new(sink: &'a mut Vec<u8>) -> Self {
         InstructionSink { sink }
-    }
-
-    /// Appends an opcode.
-    #[inline(never)]
-    pub(super) fn op<const N: usize>(&mut self, op: [u8; N]) -> &mut Self {
-        self.op_here(op)
-    }
-
-    /// As [`op`](InstructionSink::op), in the function that calls it.
-    #[inline(always)]
-    pub(super) fn op_here<const N: usize>(&mut self, op: [u8; N]) -> &mut Self {
-        if self.sink.capacity() - self.sink.len() < N {
-            return self.op_grown(op);
-        }
-        self.sink.extend_from_slice(&op);
-        self
-    }
-
-    /// Appends an opcode after the list has grown.
-    #[cold]
-    #[inline(never)]
-    fn op_grown<const N: usize>(&mut self, op: [u8; N]) -> &mut Self {
-        grow(self.sink, N);
-        self.op(op)
     }
 
     /// Appends an opcode, and its immediates by their proved `encode`.
@@ -74,8 +50,8 @@ impl<'a> InstructionSink<'a> {
         if parts.is_short() || self.sink.capacity() - self.sink.len() < N + P::MOST {
             return self.put_grown(op, parts);
         }
-        self.sink.extend_from_slice(&op);
-        done(parts.long().encode(&mut Growing(self.sink)));
+        append(&op, self.sink);
+        append(&parts.long(), self.sink);
         self
     }
 
@@ -83,21 +59,18 @@ impl<'a> InstructionSink<'a> {
     #[cold]
     #[inline(never)]
     fn put_grown<const N: usize, P: Short>(&mut self, op: [u8; N], parts: P) -> &mut Self {
-        if !parts.is_short() {
-            grow(self.sink, N + P::MOST);
-            return self.put_long(op, parts);
-        }
-        grow(self.sink, N + P::SIZE);
-        self.sink.extend_from_slice(&op);
-        done(parts.long().encode(&mut Growing(self.sink)));
-        self
+        grow(
+            self.sink,
+            N + if parts.is_short() { P::SIZE } else { P::MOST },
+        );
+        self.put(op, parts)
     }
 
     /// Appends the opcode of a block and the block's type, by the proved `encode` of what the type
     /// holds.
     pub(super) fn block_type(&mut self, op: u8, block_type: BlockType) -> &mut Self {
         match block_type {
-            BlockType::Empty => self.op([op, EMPTY_BLOCK]),
+            BlockType::Empty => self.put([op, EMPTY_BLOCK], []),
             BlockType::Result(ty) => self.put([op], ty),
             BlockType::FunctionType(index) => self.put([op], i64::from(index)),
         }

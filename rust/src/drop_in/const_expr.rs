@@ -107,13 +107,3 @@ impl ConstExpr {
         }
     }
 }
-
-#[cfg(all(test, target_pointer_width = "64"))]
-mod tests {
-    use super::*;
-
-    #[test]
-    fn an_expression_has_the_size_of_a_vector() {
-        assert_eq!(size_of::<ConstExpr>(), size_of::<Vec<u8>>());
-    }
-}

@@ -1,21 +1,22 @@
 //! `Debug` as the Rust crate derives it: a builder is a struct of the bytes of its entries and mostly
-//! their number, and a float a tuple of its bits.
+//! their number. The encoder of a type has a flag for types in components, which have a prefix.
 use super::bytes::append;
-use super::{ConstExpr, CoreDumpSection, CoreDumpStackSection, FuncType, Function};
+use super::{
+    ConstExpr, CoreDumpSection, CoreDumpStackSection, CoreTypeEncoder, FuncType, Function,
+};
 use super::{LinkingSection, Module};
 use crate::alloc::Global;
 use crate::base::{Padded, Readable};
 use crate::code::const_expr::Stored;
 use crate::custom::linking::VERSION;
-use crate::immediates::{Ieee32, Ieee64};
 use alloc_crate::vec::Vec;
 use core::fmt;
 
 /// Implements `Debug` of a struct by its fields.
 macro_rules! fields {
-    ($($name:ident |$value:ident| { $($field:ident: $shown:expr),* })*) => {
+    ($($name:ident $(<$of:lifetime>)? |$value:ident| { $($field:ident: $shown:expr),* })*) => {
         $(
-            impl fmt::Debug for $name {
+            impl fmt::Debug for $name $(<$of>)? {
                 fn fmt(&self, f: &mut fmt::Formatter<'_>) -> fmt::Result {
                     let $value = &self.0;
                     f.debug_struct(stringify!($name))
@@ -31,6 +32,7 @@ fields! {
     Module |it| { bytes: it.bytes }
     Function |it| { bytes: it.bytes }
     FuncType |it| { params_results: [it.params(), it.results()].concat(), len_params: it.params().len() }
+    CoreTypeEncoder<'_> |it| { push_prefix_if_component_core_type: false, bytes: it.section.entries.bytes }
     LinkingSection |it| { bytes: versioned(&it.entries.bytes) }
     CoreDumpSection |it| { name: name_in(&it.data) }
     CoreDumpStackSection |it| { frame_bytes: it.frames.bytes, count: it.frames.count, name: name_in(&it.front) }
@@ -55,16 +57,4 @@ fn versioned(entries: &[u8]) -> Vec<u8> {
 /// Returns the name behind the first byte of an entry of a core dump.
 fn name_in(marked: &[u8]) -> &str {
     <&str as Readable<'_, Global, Padded>>::read(&marked[1..], Global).map_or("", |(name, _)| name)
-}
-
-impl fmt::Debug for Ieee32 {
-    fn fmt(&self, f: &mut fmt::Formatter<'_>) -> fmt::Result {
-        f.debug_tuple("Ieee32").field(&self.bits()).finish()
-    }
-}
-
-impl fmt::Debug for Ieee64 {
-    fn fmt(&self, f: &mut fmt::Formatter<'_>) -> fmt::Result {
-        f.debug_tuple("Ieee64").field(&self.bits()).finish()
-    }
 }

@@ -1,24 +1,12 @@
 //! The traits of values and sections that have an encoding.
 use super::bytes::append;
 use super::short::{put_number, put_short};
-use super::{
-    CompositeInnerType, CompositeType, ConstExpr, CustomSection, RawSection, SectionId, StructType,
-    SubType, done,
-};
+use super::*;
 use crate::alloc::Global;
-use crate::base::{self, AbstractHeapType, CowSlice, CowStr, HeapType, RefType, ValType};
+use crate::base::{self, CowSlice, CowStr};
 use crate::code::const_expr::Stored;
-use crate::custom::{self, CoreDumpValue, RawCustomSection};
 use crate::ending::Growing;
-use crate::immediates::{
-    BlockType, Catch, Handle, Ieee32, Ieee64, MemArg, MemArgOrdering, Ordering,
-};
-use crate::reader;
-use crate::sections::{
-    DataCountSection, EntityType, ExportKind, GlobalType, MemoryType, StartSection, TableType,
-    TagType,
-};
-use crate::types::{self, ArrayType, ContType, FieldType, StorageType};
+use crate::{custom, reader};
 use alloc_crate::vec::Vec;
 
 #[doc = text!(Encode)]
@@ -78,12 +66,6 @@ encoded! {
         };
     reader::Section<'_> => "Copies the bytes of the section after its id, also a padded size prefix.",
         |section| &Stored(&section.bytes()[1..]);
-    StructType => "Encodes a copy that is converted.", |ty| &types::StructType::from(ty.clone());
-    CompositeInnerType => "Encodes a copy that is converted.",
-        |ty| &types::CompositeInnerType::from(ty.clone());
-    CompositeType => "Encodes a copy that is converted.",
-        |ty| &types::CompositeType::from(ty.clone());
-    SubType => "Encodes a copy that is converted.", |ty| &types::SubType::from(ty.clone());
 }
 
 /// Implements `Encode` of numbers, and of sections of one number, by the proved `encode`. A short
@@ -109,13 +91,6 @@ numbers! { u32 i32 i64 StartSection DataCountSection }
 impl<T: Encode> Encode for [T] {
     fn encode(&self, sink: &mut Vec<u8>) {
         encode_vec(self, sink);
-    }
-}
-
-/// Encodes the size prefix and the payload.
-impl Encode for RawSection<'_> {
-    fn encode(&self, sink: &mut Vec<u8>) {
-        append(&base::RawSection::from(*self), sink)
     }
 }
 

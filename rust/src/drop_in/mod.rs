@@ -8,7 +8,7 @@
 //! of its proved call. The names are written from `tools/root-exports.tsv` (`names`), and the
 //! documentation of the root's own types from `tools/rustdoc/root.md` (`texts`).
 //!
-//! An instruction is appended as its opcode, and the proved `encode` of each immediate. Short ones
+//! An instruction is appended by the proved `encode` of its opcode and of each immediate. Short ones
 //! are encoded on the stack (`short`). A body and a module are lists of bytes here, since the crate
 //! lends these before they are complete. [`encode_vec`], and `encode` of lists and options, take
 //! items of any type. Nothing of this is proved; it is tested. Code by hand appends bytes by proved

@@ -1,5 +1,4 @@
 //! Modules.
-use super::Section;
 use crate::base;
 use crate::ending::Root;
 
@@ -17,29 +16,6 @@ impl Module {
     #[doc(alias = "version")]
     #[doc(alias = "preamble")]
     pub const HEADER: [u8; 8] = *b"\0asm\x01\0\0\0";
-
-    /// Appends a section: its id, and its encoding.
-    ///
-    /// A valid module has each section at most once, in the order type, import, function, table,
-    /// memory, tag, global, export, start, element, data count, code, data. Custom sections may be
-    /// anywhere. The call checks neither.
-    ///
-    /// # Panics
-    ///
-    /// Panics if a count or length in the section would pass 4294967295.
-    ///
-    /// ```
-    /// use dolzhytik::{Module, StartSection};
-    ///
-    /// let mut module = Module::new();
-    /// module.section(&StartSection { function_index: 2 });
-    /// // Id 8, size 1, function 2.
-    /// assert_eq!(module.as_slice()[8..], [8, 1, 2]);
-    /// ```
-    pub fn section(&mut self, section: &impl Section) -> &mut Self {
-        section.append_to(self.0.bytes.as_std());
-        self
-    }
 
     /// Returns the bytes of the header and the sections so far.
     pub fn as_slice(&self) -> &[u8] {

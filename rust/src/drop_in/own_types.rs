@@ -4,9 +4,13 @@
 use super::{
     ArrayType, ConstExpr, ContType, EntityType, FieldType, FuncType, Import, ImportCompact, RefType,
 };
-use crate::{base, types};
-use alloc_crate::boxed::Box;
+use super::bytes::append;
+use crate::{base, custom, sections, types};
+use crate::base::{CowSlice, CowStr};
+use crate::ending::Root;
+use crate::vec::Vec;
 use alloc_crate::borrow::Cow;
+use alloc_crate::boxed::Box;
 
 #[doc = text!(SectionId)]
 #[derive(Clone, Copy, Debug, PartialEq, Eq, PartialOrd, Ord)]
@@ -105,6 +109,14 @@ impl<'a> From<RawSection<'a>> for base::RawSection<'a> {
     }
 }
 
+/// Encodes a copy that is converted.
+impl crate::Encode for RawSection<'_> {
+    #[inline]
+    fn encode(&self, sink: &mut alloc_crate::vec::Vec<u8>) {
+        append(&base::RawSection::from(*self), sink)
+    }
+}
+
 #[doc = text!(CustomSection)]
 #[derive(Clone, Debug, PartialEq)]
 pub struct CustomSection<'a> {
@@ -112,6 +124,16 @@ pub struct CustomSection<'a> {
     pub name: Cow<'a, str>,
     /// The data.
     pub data: Cow<'a, [u8]>,
+}
+
+impl<'a> From<custom::CustomSection<'a>> for CustomSection<'a> {
+    #[inline]
+    fn from(value: custom::CustomSection<'a>) -> Self {
+        Self {
+            name: match value.name { CowStr::Borrowed(it) => Cow::Borrowed(it), CowStr::Owned(it) => Cow::Owned(it.as_str().into()) },
+            data: match value.bytes { CowSlice::Borrowed(it) => Cow::Borrowed(it), CowSlice::Owned(it) => Cow::Owned(it.into()) },
+        }
+    }
 }
 
 #[doc = text!(Imports)]
@@ -135,6 +157,17 @@ pub enum Imports<'a> {
         /// The names of the items.
         names: Cow<'a, [&'a str]>,
     },
+}
+
+impl<'a> From<Imports<'a>> for sections::Imports<'a, Root> {
+    #[inline]
+    fn from(value: Imports<'a>) -> Self {
+        match value {
+            Imports::Single(it) => Self::Single(it),
+            Imports::Compact1 { module, items } => Self::Compact1 { module, items: match items { Cow::Borrowed(it) => CowSlice::Borrowed(it), Cow::Owned(it) => CowSlice::Owned(Vec::from(it).into_ending()) } },
+            Imports::Compact2 { module, ty, names } => Self::Compact2 { module, ty, names: match names { Cow::Borrowed(it) => CowSlice::Borrowed(it), Cow::Owned(it) => CowSlice::Owned(Vec::from(it).into_ending()) } },
+        }
+    }
 }
 
 #[doc = text!(Elements)]
@@ -203,6 +236,23 @@ pub struct StructType {
     pub fields: Box<[FieldType]>,
 }
 
+impl From<StructType> for types::StructType {
+    #[inline]
+    fn from(value: StructType) -> Self {
+        Self {
+            fields: value.fields.into_vec().into(),
+        }
+    }
+}
+
+/// Encodes a copy that is converted.
+impl crate::Encode for StructType {
+    #[inline]
+    fn encode(&self, sink: &mut alloc_crate::vec::Vec<u8>) {
+        append(&types::StructType::from(self.clone()), sink)
+    }
+}
+
 #[doc = text!(CompositeInnerType)]
 #[derive(Clone, Debug, PartialEq, Eq, Hash)]
 pub enum CompositeInnerType {
@@ -214,6 +264,26 @@ pub enum CompositeInnerType {
     Struct(StructType),
     /// A continuation type.
     Cont(ContType),
+}
+
+impl From<CompositeInnerType> for types::CompositeInnerType {
+    #[inline]
+    fn from(value: CompositeInnerType) -> Self {
+        match value {
+            CompositeInnerType::Func(it) => Self::Func(it.0),
+            CompositeInnerType::Array(it) => Self::Array(it),
+            CompositeInnerType::Struct(it) => Self::Struct(it.into()),
+            CompositeInnerType::Cont(it) => Self::Cont(it),
+        }
+    }
+}
+
+/// Encodes a copy that is converted.
+impl crate::Encode for CompositeInnerType {
+    #[inline]
+    fn encode(&self, sink: &mut alloc_crate::vec::Vec<u8>) {
+        append(&types::CompositeInnerType::from(self.clone()), sink)
+    }
 }
 
 #[doc = text!(CompositeType)]
@@ -241,6 +311,14 @@ impl From<CompositeType> for types::CompositeType {
     }
 }
 
+/// Encodes a copy that is converted.
+impl crate::Encode for CompositeType {
+    #[inline]
+    fn encode(&self, sink: &mut alloc_crate::vec::Vec<u8>) {
+        append(&types::CompositeType::from(self.clone()), sink)
+    }
+}
+
 #[doc = text!(SubType)]
 #[derive(Clone, Debug, PartialEq, Eq, Hash)]
 pub struct SubType {
@@ -260,5 +338,13 @@ impl From<SubType> for types::SubType {
             supertype_idx: value.supertype_idx,
             composite_type: value.composite_type.into(),
         }
+    }
+}
+
+/// Encodes a copy that is converted.
+impl crate::Encode for SubType {
+    #[inline]
+    fn encode(&self, sink: &mut alloc_crate::vec::Vec<u8>) {
+        append(&types::SubType::from(self.clone()), sink)
     }
 }

@@ -9,8 +9,8 @@ use super::{
     FieldType, FuncType, Function, FunctionSection, GlobalSection, GlobalType, HeapType, Ieee32,
     Ieee64, ImportSection, Imports, IndirectNameMap, Instruction, InstructionSink, LinkingSection,
     MemorySection, MemoryType, Module, NameMap, NameSection, ProducersField, ProducersSection,
-    StorageType, SubType, SymbolTable, TableSection, TableType, TagSection, TagType, TypeSection,
-    ValType, done,
+    Section, StorageType, SubType, SymbolTable, TableSection, TableType, TagSection, TagType,
+    TypeSection, ValType, done,
 };
 use super::bytes::Bytes;
 use super::const_expr::encodings;
@@ -2369,6 +2369,60 @@ impl Module {
     /// Definitions: [`header`](crate::definitions::base::formats::header), [`DecodesWhole`](crate::definitions::base::decoding::DecodesWhole), [`wasm_module`](crate::definitions::base::formats::wasm_module). [How to read clauses](crate::definitions).
     pub fn new() -> Self {
         Module(done(base::Module::new(Root)))
+    }
+
+    /// Appends a section.
+    ///
+    /// A valid module has each section at most once, in the order type, import, function, table,
+    /// memory, tag, global, export, start, element, data count, code, data. Custom sections may be
+    /// anywhere. The call checks neither. A section of your own is appended by your own calls, of
+    /// which the contract says nothing.
+    ///
+    /// # Panics
+    ///
+    /// Panics if a count or length in the section would pass 4294967295. A failed allocation ends
+    /// the program.
+    ///
+    /// # Examples
+    ///
+    /// ```
+    /// use dolzhytik::{Module, StartSection};
+    ///
+    /// let mut module = Module::new();
+    /// module.section(&StartSection { function_index: 2 });
+    /// // Id 8, size 1, function 2.
+    /// assert_eq!(module.as_slice()[8..], [8, 1, 2]);
+    /// ```
+    ///
+    /// # Proved
+    ///
+    /// The contract of [`fallible::Module::section`](crate::fallible::Module#method.section). This
+    /// call does the same, as tests show. Where that returns an error, this call panics.
+    ///
+    /// - After `Ok`, `ok`: the module gains the id and the encoding of the section.
+    /// - After `Ok`, `read`: Composition of modules: if the old bytes decode to some sections alone, the new bytes decode to these and one more. That section has this id, and any payload with the property.
+    /// - After `Ok`, `section`: the encoding decodes as the impl defines by `decoding`.
+    /// - After `Ok`, `was_encodable`: each count and length fits 32 bits.
+    /// - After an error, `err`: the value is unchanged.
+    /// - `too_long`: a section whose counts and lengths fit never gives `TooLong`.
+    /// - `too_many`: an `overlong` section gives `TooLong`.
+    ///
+    /// ```text
+    /// ensures ok { OnOk result
+    ///     (self.new ≡ self.old ++ (S.id_of section.now ∷ S.encoding section.now)) }
+    /// ensures read { OnOk result
+    ///     (DecodesOneMore (S.payload section.now) (S.id_of section.now) self.old self.new) }
+    /// ensures section { OnOk result (S.decoding section.now) }
+    /// ensures err { OnErr result (self.new ≡ self.old) }
+    /// ensures was_encodable { OnOk result (S.encodable section.now) }
+    /// ensures too_long { S.encodable section.now → result ≢ Err Refused.TooLong }
+    /// ensures too_many { S.overlong section.now → result ≡ Err Refused.TooLong }
+    /// ```
+    ///
+    /// Definitions: [`DecodesOneMore`](crate::definitions::base::calls::DecodesOneMore). [How to read clauses](crate::definitions).
+    pub fn section(&mut self, section: &impl Section) -> &mut Self {
+        section.append_to(self.0.bytes.as_std());
+        self
     }
 
     /// Returns the bytes of the module.

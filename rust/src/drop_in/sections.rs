@@ -1,11 +1,9 @@
 //! Entries of sections as the proved calls take them.
-use super::{DataSegmentMode, ElementMode, Elements, Imports, NONE};
+use super::{DataSegmentMode, ElementMode, Elements, NONE};
 use crate::base::{CowSlice, Encode, EncodeOnce, Lent, Result, encode_vec, vec_of};
-use crate::ending::Root;
 use crate::sections::data::{ACTIVE, ACTIVE_IN_MEMORY, PASSIVE};
 use crate::sections::{self, CountedSection};
-use crate::vec::{self, Sink};
-use alloc_crate::borrow::Cow;
+use crate::vec::Sink;
 use core::marker::PhantomData;
 
 builders! {
@@ -32,32 +30,6 @@ where
     #[inline(always)]
     fn encode_once<A: Sink>(self, sink: &mut A) -> Result<()> {
         vec_of(self.0)?.encode_once(sink)
-    }
-}
-
-/// Converts a list for the proved calls, without a copy.
-pub fn listed<T: Clone>(list: Cow<'_, [T]>) -> CowSlice<'_, T, Root> {
-    match list {
-        Cow::Borrowed(items) => CowSlice::Borrowed(items),
-        Cow::Owned(items) => CowSlice::Owned(vec::Vec::from(items).into_ending()),
-    }
-}
-
-/// Converts an entry for the proved calls, without a copy.
-impl<'a> From<Imports<'a>> for sections::Imports<'a, Root> {
-    fn from(imports: Imports<'a>) -> Self {
-        match imports {
-            Imports::Single(import) => Self::Single(import),
-            Imports::Compact1 { module, items } => Self::Compact1 {
-                module,
-                items: listed(items),
-            },
-            Imports::Compact2 { module, ty, names } => Self::Compact2 {
-                module,
-                ty,
-                names: listed(names),
-            },
-        }
     }
 }
 

@@ -13,58 +13,39 @@ use core::ops::{Deref, DerefMut};
 /// The encoding of the type of a block without parameters and results.
 pub const EMPTY_BLOCK: u8 = 0x40;
 
-/// The bytes that [`Exact`] has space for. As a power of two it needs no test of an index.
+/// The bytes of the array that an instruction is encoded in. As a power of two it needs no test of
+/// an index.
 const SPACE: usize = 32;
 
-/// A sink on the stack, whose calls never fail. If it is full, its length still grows, and its
-/// bytes are wrong: [`Exact::of`] then returns none.
-pub struct Exact {
-    bytes: [u8; SPACE],
+/// A sink over an array, whose calls never fail. It begins again at the front when it is full: no
+/// value that it takes has as many bytes.
+struct Slots<'a, const N: usize> {
+    bytes: &'a mut [u8; N],
     len: usize,
 }
 
-impl Exact {
-    /// Returns a sink without bytes.
-    #[inline(always)]
-    fn new() -> Self {
-        Exact {
-            bytes: [0; SPACE],
-            len: 0,
-        }
-    }
-
-    /// Returns an opcode and the encoding of a value, if they have exactly `len` bytes.
-    #[inline(always)]
-    pub fn of<const N: usize>(op: [u8; N], value: &impl Encode, len: usize) -> Option<Self> {
-        let mut sink = Exact::new();
-        sink.extend_from_slice(&op).ok()?;
-        value.encode(&mut sink).ok()?;
-        (sink.len == len && len <= SPACE).then_some(sink)
-    }
-}
-
-impl Deref for Exact {
+impl<const N: usize> Deref for Slots<'_, N> {
     type Target = [u8];
 
     #[inline]
     fn deref(&self) -> &[u8] {
-        &self.bytes[..self.len.min(SPACE)]
+        &self.bytes[..self.len]
     }
 }
 
-impl DerefMut for Exact {
+impl<const N: usize> DerefMut for Slots<'_, N> {
     #[inline]
     fn deref_mut(&mut self) -> &mut [u8] {
-        &mut self.bytes[..self.len.min(SPACE)]
+        &mut self.bytes[..self.len]
     }
 }
 
-impl Sealed for Exact {}
+impl<const N: usize> Sealed for Slots<'_, N> {}
 
-impl Sink for Exact {
+impl<const N: usize> Sink for Slots<'_, N> {
     #[inline]
     fn capacity(&self) -> usize {
-        SPACE
+        N
     }
 
     #[inline]
@@ -74,29 +55,32 @@ impl Sink for Exact {
 
     #[inline]
     fn push(&mut self, byte: u8) -> Result<(), AllocError> {
-        self.bytes[self.len % SPACE] = byte;
-        self.len += 1;
+        self.bytes[self.len % N] = byte;
+        self.len = (self.len + 1) % N;
         Ok(())
     }
 
     #[inline]
     fn push_reserved(&mut self, byte: u8) {
-        self.push(byte).ok();
+        if let Some(slot) = self.bytes.get_mut(self.len) {
+            *slot = byte;
+        }
+        self.len = (self.len + 1) % N;
     }
 
     #[inline]
     fn push_both_reserved(&mut self, bytes: [u8; 2]) {
-        self.push(bytes[0]).ok();
-        self.push(bytes[1]).ok();
+        self.push_reserved(bytes[0]);
+        self.push_reserved(bytes[1]);
     }
 
     #[inline]
     fn extend_from_slice(&mut self, bytes: &[u8]) -> Result<(), AllocError> {
         let end = self.len + bytes.len();
-        if let Some(space) = self.bytes.get_mut(self.len..end) {
-            space.copy_from_slice(bytes);
+        if let Some(slots) = self.bytes.get_mut(self.len..end) {
+            slots.copy_from_slice(bytes);
         }
-        self.len = end;
+        self.len = end % N;
         Ok(())
     }
 
@@ -132,13 +116,17 @@ pub trait Short: Copy {
 /// whether it did.
 #[inline(always)]
 pub fn put_short<const N: usize, P: Short>(list: &mut Vec<u8>, op: [u8; N], parts: P) -> bool {
+    const { assert!(P::SIZE <= P::MOST && N + P::MOST < SPACE) }
     let size = N + P::SIZE;
-    if parts.is_short()
-        && list.capacity() - list.len() >= size
-        && let Some(bytes) = Exact::of(op, &parts.short(), size)
-    {
-        list.extend_from_slice(&bytes);
-        return true;
+    if parts.is_short() && list.capacity() - list.len() >= size {
+        let bytes = &mut [0; SPACE];
+        let mut slots = Slots { bytes, len: 0 };
+        done(op.encode(&mut slots));
+        done(parts.short().encode(&mut slots));
+        if slots.len == size {
+            list.extend_from_slice(&slots.bytes[..size]);
+            return true;
+        }
     }
     false
 }
@@ -157,21 +145,25 @@ impl<P: Short> Encode for Tested<P> {
     }
 }
 
-/// The bytes that are copied at once: a copy of this size is not a call.
+/// The bytes of spare capacity with which a number is appended as a block.
 const BLOCK: usize = 16;
 
-/// Appends a number, of any length. It is encoded on the stack, where no byte needs a test of the
-/// capacity. Then a whole block is copied, and the list is truncated.
+/// Appends a number, of any length. It is encoded in a block at the end of the list, where no byte
+/// needs a test of the capacity. Then the list is truncated.
 #[inline(never)]
 pub fn put_number<P: Short>(number: P, list: &mut Vec<u8>) {
-    const { assert!(P::MOST <= BLOCK) }
-    if list.capacity() - list.len() < BLOCK {
+    const { assert!(P::MOST < BLOCK) }
+    let start = list.len();
+    if list.capacity() - start < BLOCK {
         return put_tight(number, list);
     }
-    let mut sink = Exact::new();
-    done(number.long().encode(&mut sink));
-    let end = list.len() + sink.len;
-    list.extend_from_slice(&sink.bytes[..BLOCK]);
+    list.extend_from_slice(&[0; BLOCK]);
+    let mut end = start;
+    if let Some(bytes) = list.last_chunk_mut() {
+        let mut block = Slots::<BLOCK> { bytes, len: 0 };
+        done(number.long().encode(&mut block));
+        end += block.len;
+    }
     list.truncate(end);
 }
 
@@ -222,7 +214,7 @@ short! {
     Ordering: 1, 1, |it| true => it, it;
     Ieee32: 4, 4, |it| true => it, it;
     Ieee64: 8, 8, |it| true => it, it;
-    [u8; 16]: 16, 16, |it| true => it, it;
+    {const N: usize} [u8; N]: N, N, |it| true => it, it;
     u32: 1, NUMBER, |it| it < 0x80 => it, it;
     i32: 1, NUMBER, |it| (-0x40..0x40).contains(&it) => it, it;
     i64: 1, NUMBER, |it| (-0x40..0x40).contains(&it) => it, it;
@@ -239,7 +231,7 @@ short! {
         ValType::F64 => ValType::F64,
         ValType::V128 | ValType::Ref(_) => ValType::V128,
     }, it;
-    &MemArg: 2, 4 * NUMBER, |it| it.align < 0x80
+    &MemArg: 2, 2 * NUMBER + 1, |it| it.align < 0x80
         && it.offset < 0x80
         && matches!(it.target, MemArgTarget::Memory(0))
         && it.ordering.is_none() => MemArg {
@@ -253,117 +245,4 @@ short! {
     {A: Short, B: Short, C: Short} (A, B, C): <(A, (B, C))>::SIZE, <(A, (B, C))>::MOST,
         |(a, b, c)| a.is_short() && b.is_short() && c.is_short()
             => (a.short(), b.short(), c.short()), (a.long(), b.long(), c.long());
-}
-
-#[cfg(test)]
-mod tests {
-    use super::*;
-    use crate::base::RefType;
-    use crate::immediates::MemArgOrdering;
-
-    /// Returns numbers at each border of the lengths of encodings.
-    fn numbers() -> impl Iterator<Item = i64> {
-        let powers = (0..64).flat_map(|bits| [1_u64 << bits, (1 << bits) - 1]);
-        powers.flat_map(|it| [it, !it]).map(u64::cast_signed)
-    }
-
-    fn encoding<P: Short>(value: P) -> Vec<u8> {
-        let mut bytes = Vec::new();
-        value.long().encode(&mut bytes).expect("there is memory");
-        bytes
-    }
-
-    /// An encoding that is said to be short has `SIZE` bytes, and is the same on the stack. None is
-    /// longer than `MOST`. If `strict`, each of `SIZE` bytes is said to be short.
-    fn check<P: Short>(strict: bool, value: P) {
-        let bytes = encoding(value);
-        assert!(bytes.len() <= P::MOST);
-        assert!(!strict || value.is_short() == (bytes.len() == P::SIZE));
-        if value.is_short() {
-            let exact = Exact::of([], &value.short(), P::SIZE);
-            assert_eq!(&exact.expect("the bytes are as many")[..], bytes);
-        }
-    }
-
-    #[test]
-    fn numbers_are_short_up_to_the_border() {
-        for number in numbers() {
-            let index = number as u32;
-            check(true, number);
-            check(true, number as i32);
-            check(true, index);
-            check(true, Ieee64::new(number as u64));
-            check(true, Ieee32::new(index));
-            check(true, [index as u8; 16]);
-            check(true, index as Lane);
-            #[rustfmt::skip]
-            check(true, StartSection { function_index: index });
-            check(true, DataCountSection { count: index });
-            check(true, (number, Ordering::SeqCst));
-            check(true, (Ordering::AcqRel, number as i32, index));
-            check(false, HeapType::Concrete(index));
-            check(false, HeapType::Exact(index));
-        }
-    }
-
-    #[test]
-    fn types_said_to_be_short_are_short() {
-        for number in [ValType::I32, ValType::I64, ValType::F32, ValType::F64] {
-            check(true, number);
-        }
-        check(true, ValType::V128);
-        for index in numbers().map(|it| it as u32) {
-            let heap_type = HeapType::Exact(index);
-            #[rustfmt::skip]
-            check(false, ValType::Ref(RefType { nullable: true, heap_type }));
-        }
-        for ty in [AbstractHeapType::Func, AbstractHeapType::NoExn] {
-            for shared in [true, false] {
-                check(true, HeapType::Abstract { shared, ty });
-                check(false, ValType::Ref(RefType::new_abstract(ty, true, shared)));
-                check(
-                    false,
-                    ValType::Ref(RefType::new_abstract(ty, false, shared)),
-                );
-            }
-        }
-    }
-
-    #[test]
-    fn memory_arguments_are_short_up_to_the_border() {
-        let orderings = [None, Some(MemArgOrdering::Rmw(Ordering::SeqCst))];
-        let targets = [0, 1, u32::MAX].map(MemArgTarget::Memory);
-        for target in targets.into_iter().chain([MemArgTarget::Array(0)]) {
-            for (offset, align) in numbers().flat_map(|it| [(it, 0x7F), (it, 0x80), (0x7F, it)]) {
-                for ordering in orderings {
-                    let (offset, align) = (offset as u64, align as u32);
-                    #[rustfmt::skip]
-                    let memarg = MemArg { offset, align, target, ordering };
-                    check(true, &memarg);
-                    check(true, (&memarg, 0xFF_u8));
-                }
-            }
-        }
-    }
-
-    /// Numbers of all lengths, to each spare capacity, have the bytes of the proved `encode`.
-    #[test]
-    fn numbers_are_appended_to_any_spare_capacity() {
-        for (number, spare) in numbers().flat_map(|it| (0..2 * BLOCK).map(move |spare| (it, spare)))
-        {
-            let mut list = Vec::with_capacity(spare);
-            put_number(number, &mut list);
-            put_number(number as u32, &mut list);
-            assert_eq!(list, [encoding(number), encoding(number as u32)].concat());
-        }
-    }
-
-    #[test]
-    fn a_full_sink_returns_nothing() {
-        assert!(Exact::of([], &[0; SPACE], SPACE).is_some());
-        assert!(Exact::of([0; SPACE], &0_u8, SPACE + 1).is_none());
-        assert!(Exact::of([], &[0; SPACE + 1], SPACE + 1).is_none());
-        assert!(Exact::of([], &[0; SPACE + 1], SPACE).is_none());
-        assert!(Exact::of([0; SPACE], &0_u8, SPACE).is_none());
-    }
 }

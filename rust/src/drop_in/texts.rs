@@ -773,7 +773,7 @@ assert_eq!(instances.as_custom().data, [1, 0, 0, 1, 42, 1, 17].as_slice());
     (CoreDumpSection) => {
         r##"The custom section `core` of a core dump: the name of the process.
 
-The tool conventions define it in [Coredump](https://github.com/WebAssembly/tool-conventions/blob/main/Coredump.md). It is built by the proved [`fallible::CoreDumpSection`](crate::fallible::CoreDumpSection).
+The tool conventions define it in [Coredump](https://github.com/WebAssembly/tool-conventions/blob/main/Coredump.md). It is built by the proved [`fallible::CoreDumpSection`](crate::fallible::CoreDumpSection). By `default()` the process has no name.
 
 ```
 use dolzhytik::{CoreDumpSection, Encode};
@@ -787,7 +787,7 @@ assert_eq!(bytes, *b"\x0B\x04core\0\x04test");
     (CoreDumpStackSection) => {
         r##"The custom section `corestack` of a core dump: the name and the stack frames of a thread.
 
-The tool conventions define it in [Coredump](https://github.com/WebAssembly/tool-conventions/blob/main/Coredump.md). It is built by the calls of the proved [`fallible::CoreDumpStackSection`](crate::fallible::CoreDumpStackSection).
+The tool conventions define it in [Coredump](https://github.com/WebAssembly/tool-conventions/blob/main/Coredump.md). It is built by the calls of the proved [`fallible::CoreDumpStackSection`](crate::fallible::CoreDumpStackSection). By `default()` the thread has no name.
 
 ```
 use dolzhytik::{CoreDumpStackSection, CoreDumpValue};

@@ -1,10 +1,9 @@
 //! The type section, and the types that a module defines.
-use super::{CompositeInnerType, NONE, StructType};
+use super::NONE;
 use crate::base::Entries;
 use crate::ending::Root;
 use crate::types;
 use crate::types::type_section::{CoreTypeEncoderIn, TypeSectionIn};
-use core::fmt;
 use core::hash::{Hash, Hasher};
 
 #[doc = text!(FuncType)]
@@ -29,27 +28,6 @@ impl Hash for FuncType {
     }
 }
 
-// Conversions to the types that the proved calls take. Nothing is copied.
-
-impl From<StructType> for types::StructType {
-    fn from(ty: StructType) -> Self {
-        types::StructType {
-            fields: ty.fields.into_vec().into(),
-        }
-    }
-}
-
-impl From<CompositeInnerType> for types::CompositeInnerType {
-    fn from(ty: CompositeInnerType) -> Self {
-        match ty {
-            CompositeInnerType::Func(ty) => types::CompositeInnerType::Func(ty.0),
-            CompositeInnerType::Array(ty) => types::CompositeInnerType::Array(ty),
-            CompositeInnerType::Struct(ty) => types::CompositeInnerType::Struct(ty.into()),
-            CompositeInnerType::Cont(ty) => types::CompositeInnerType::Cont(ty),
-        }
-    }
-}
-
 builders! {
     types, (const fn) = TypeSectionIn { entries: NONE };
     TypeSection { Clone } { Default } { Section Type } { Debug bytes num_added }
@@ -57,13 +35,3 @@ builders! {
 
 #[doc = text!(CoreTypeEncoder)]
 pub struct CoreTypeEncoder<'a>(pub(super) CoreTypeEncoderIn<'a, Entries<Root>>);
-
-/// The flag is for types in components, which have a prefix.
-impl fmt::Debug for CoreTypeEncoder<'_> {
-    fn fmt(&self, f: &mut fmt::Formatter<'_>) -> fmt::Result {
-        f.debug_struct("CoreTypeEncoder")
-            .field("push_prefix_if_component_core_type", &false)
-            .field("bytes", &self.0.section.entries.bytes)
-            .finish()
-    }
-}

@@ -3,27 +3,45 @@ use crate::base::{AbstractHeapType, HeapType, RefType, ValType};
 use crate::immediates::{Ieee32, Ieee64};
 use crate::types::StorageType;
 use core::cmp::Ordering;
+use core::fmt;
 
-/// Implements the conversions between floats and their bits, and those of types to what has them.
-macro_rules! conversions {
-    ($($from:ty => $to:ty: |$value:ident| $converted:expr;)*) => {
+/// Implements the conversions between floats and their bits, and `Debug` as a tuple of the bits.
+macro_rules! floats {
+    ($($float:ident $bits:ident)*) => {
         $(
-            impl From<$from> for $to {
-                fn from($value: $from) -> Self {
-                    $converted
+            impl From<$float> for $bits {
+                fn from(value: $float) -> Self {
+                    $bits::new(value.to_bits())
+                }
+            }
+
+            impl From<$bits> for $float {
+                fn from(value: $bits) -> Self {
+                    $float::from_bits(value.bits())
+                }
+            }
+
+            impl fmt::Debug for $bits {
+                fn fmt(&self, f: &mut fmt::Formatter<'_>) -> fmt::Result {
+                    f.debug_tuple(stringify!($bits)).field(&self.bits()).finish()
                 }
             }
         )*
     };
 }
 
-conversions! {
-    f32 => Ieee32: |value| Ieee32::new(value.to_bits());
-    Ieee32 => f32: |value| f32::from_bits(value.bits());
-    f64 => Ieee64: |value| Ieee64::new(value.to_bits());
-    Ieee64 => f64: |value| f64::from_bits(value.bits());
-    RefType => ValType: |ty| ValType::Ref(ty);
-    ValType => StorageType: |ty| StorageType::Val(ty);
+floats! { f32 Ieee32 f64 Ieee64 }
+
+impl From<RefType> for ValType {
+    fn from(ty: RefType) -> Self {
+        ValType::Ref(ty)
+    }
+}
+
+impl From<ValType> for StorageType {
+    fn from(ty: ValType) -> Self {
+        StorageType::Val(ty)
+    }
 }
 
 impl RefType {

@@ -5,7 +5,7 @@ use crate::vec::{Sink, Vec};
 use crate::alloc::{Allocator, Global};
 use crate::base::{DecodeError, Encode, Grammar, Readable, Result, Shorten, read_whole};
 use crate::code::Body;
-use crate::custom::{BranchHint, CoreFrame, DylinkItem, FeaturePrefix, LinkItem, NameItem, Relocation, append_build_id, append_debug_file, append_dylink, append_features, append_hints, append_instances, append_links, append_modules, append_names, append_process, append_producers, append_relocations, append_source_map, append_stack, read_build_id, read_debug_file, read_dylink, read_features, read_hints, read_instances, read_links, read_modules, read_names, read_process, read_producers, read_relocations, read_source_map, read_stack};
+use crate::custom::{BranchHint, CallTarget, CodeHint, CompilationOrder, CoreFrame, DylinkItem, FeaturePrefix, InstructionFrequency, LinkItem, NameItem, Relocation, append_build_id, append_call_targets, append_debug_file, append_dylink, append_features, append_frequencies, append_hints, append_instances, append_links, append_modules, append_names, append_orders, append_process, append_producers, append_relocations, append_source_map, append_stack, read_build_id, read_call_targets, read_debug_file, read_dylink, read_features, read_frequencies, read_hints, read_instances, read_links, read_modules, read_names, read_orders, read_process, read_producers, read_relocations, read_source_map, read_stack};
 use crate::sections::{ElementItem, Export, GlobalItem, Imports, MemoryType, Segment, TableItem, TagType, append_imports, read_imports, read_segments};
 use crate::types::{TypeEntry, append_types, read_types};
 
@@ -87,6 +87,12 @@ pub enum SectionKind {
     Dylink,
     /// A relocation section, whose name begins with `reloc.`.
     Relocations,
+    /// The section of instruction frequencies.
+    InstructionFrequencies,
+    /// The section of compilation orders.
+    CompilationOrders,
+    /// The section of call targets.
+    CallTargets,
 }
 
 impl SectionKind {
@@ -131,6 +137,9 @@ impl SectionKind {
             26 => Some(SectionKind::BuildId),
             27 => Some(SectionKind::Dylink),
             28 => Some(SectionKind::Relocations),
+            29 => Some(SectionKind::InstructionFrequencies),
+            30 => Some(SectionKind::CompilationOrders),
+            31 => Some(SectionKind::CallTargets),
             _ => None,
         }
     }
@@ -240,6 +249,12 @@ pub enum Items<'a, A: Allocator = Global> {
         /// The relocations.
         relocations: Vec<Relocation, A>,
     },
+    /// For each function its index, and the frequencies of its instructions.
+    InstructionFrequencies(Vec<(u32, Vec<CodeHint<InstructionFrequency>, A>), A>),
+    /// For each function its index, and its compilation orders.
+    CompilationOrders(Vec<(u32, Vec<CodeHint<CompilationOrder>, A>), A>),
+    /// For each function its index, and the targets of its calls.
+    CallTargets(Vec<(u32, Vec<CodeHint<Vec<CallTarget, A>>, A>), A>),
 }
 
 impl<'a, A: Allocator> Items<'a, A> {
@@ -283,6 +298,9 @@ impl<'a, A: Allocator> Items<'a, A> {
             Items::BuildId(_) => SectionKind::BuildId,
             Items::Dylink(_) => SectionKind::Dylink,
             Items::Relocations { .. } => SectionKind::Relocations,
+            Items::InstructionFrequencies(_) => SectionKind::InstructionFrequencies,
+            Items::CompilationOrders(_) => SectionKind::CompilationOrders,
+            Items::CallTargets(_) => SectionKind::CallTargets,
         }
     }
 }
@@ -323,6 +341,9 @@ fn kind_of_whole_name(name: &str) -> SectionKind {
         "external_debug_info" => SectionKind::ExternalDebugInfo,
         "build_id" => SectionKind::BuildId,
         "dylink.0" => SectionKind::Dylink,
+        "metadata.code.instr_freq" => SectionKind::InstructionFrequencies,
+        "metadata.code.compilation_order" => SectionKind::CompilationOrders,
+        "metadata.code.call_targets" => SectionKind::CallTargets,
         _ => SectionKind::Custom,
     }
 }
@@ -409,6 +430,16 @@ pub(crate) fn read_content<'a, A: Allocator + Copy + 'a, G: Grammar>(
                 relocations,
             })
         }
+        SectionKind::InstructionFrequencies => Ok(Items::InstructionFrequencies(read_frequencies::<
+            A,
+            G,
+        >(bytes, alloc)?)),
+        SectionKind::CompilationOrders => Ok(Items::CompilationOrders(read_orders::<A, G>(
+            bytes, alloc,
+        )?)),
+        SectionKind::CallTargets => Ok(Items::CallTargets(read_call_targets::<A, G>(
+            bytes, alloc,
+        )?)),
     }
 }
 
@@ -518,5 +549,8 @@ pub fn encode_items<A: Allocator, B: Sink>(
             section,
             relocations,
         } => append_relocations(name, *section, relocations, sink),
+        Items::InstructionFrequencies(items) => append_frequencies(items, sink),
+        Items::CompilationOrders(items) => append_orders(items, sink),
+        Items::CallTargets(items) => append_call_targets(items, sink),
     }
 }

@@ -6,7 +6,7 @@ use crate::reader::kinds::SectionKind;
 use crate::alloc::Allocator;
 use crate::base::{DecodeError, Discard, Effect, Grammar, RawBytes, ReadFault, Walk, skip_many, walk_whole};
 use crate::code::Body;
-use crate::custom::{walk_build_id, walk_debug_file, walk_dylink, walk_features, walk_hints, walk_instances, walk_links, walk_modules, walk_names, walk_process, walk_producers, walk_relocations, walk_source_map, walk_stack};
+use crate::custom::{walk_build_id, walk_call_targets, walk_debug_file, walk_dylink, walk_features, walk_frequencies, walk_hints, walk_instances, walk_links, walk_modules, walk_names, walk_orders, walk_process, walk_producers, walk_relocations, walk_source_map, walk_stack};
 use crate::sections::{ElementItem, Export, GlobalItem, Imports, MemoryType, Segment, TableItem, TagType};
 use crate::types::TypeEntry;
 
@@ -68,6 +68,9 @@ pub(crate) fn walk_content<A: Allocator + Copy, G: Grammar, E: Effect>(
         SectionKind::BuildId => walk_build_id::<A, G, _>(bytes, alloc, effect),
         SectionKind::Dylink => walk_dylink::<A, G, _>(bytes, alloc, effect),
         SectionKind::Relocations => walk_relocations::<A, G, _>(bytes, alloc, effect),
+        SectionKind::InstructionFrequencies => walk_frequencies::<A, G, _>(bytes, alloc, effect),
+        SectionKind::CompilationOrders => walk_orders::<A, G, _>(bytes, alloc, effect),
+        SectionKind::CallTargets => walk_call_targets::<A, G, _>(bytes, alloc, effect),
     }
 }
 

@@ -5,7 +5,7 @@ use crate::vec::Vec;
 use crate::remap::indexed::{Indexed, Remap, RemapError, mapped, mapped_number, remap_each, remap_firsts, remap_numbers};
 use crate::remap::spaces::IndexSpace;
 use crate::alloc::Allocator;
-use crate::custom::{BranchHint, Comdat, ComdatSymbol, LinkItem, NameItem, PlainRelocation, Relocation, Symbol};
+use crate::custom::{BranchHint, CallTarget, CodeHint, Comdat, ComdatSymbol, CompilationOrder, InstructionFrequency, LinkItem, NameItem, PlainRelocation, Relocation, Symbol};
 
 /// Returns the index space of a name map, or of the outer indices of an indirect one, by its id.
 fn space_of_names(id: u8) -> Option<IndexSpace> {
@@ -23,7 +23,7 @@ fn space_of_names(id: u8) -> Option<IndexSpace> {
 }
 
 /// Returns the index space of the indices of a subsection, or of the outer ones.
-fn space_of_subsection<A: Allocator>(item: &NameItem<'_, A>) -> Option<IndexSpace> {
+pub(crate) fn space_of_subsection<A: Allocator>(item: &NameItem<'_, A>) -> Option<IndexSpace> {
     match item {
         NameItem::Module(_) => None,
         NameItem::Map { id, .. } | NameItem::Indirect { id, .. } | NameItem::Other { id, .. } => {
@@ -83,6 +83,85 @@ impl<A: Allocator + Copy> Indexed<A> for (u32, Vec<BranchHint, A>) {
     fn remap<M: Remap>(&mut self, _alloc: A, indices: &M) -> Result<(), RemapError<M::Error>> {
         self.0 = mapped(indices, IndexSpace::Functions, self.0)?;
         Ok(())
+    }
+}
+
+/// # Defined
+///
+/// ```text
+/// Value = { Frequencies }
+/// view = { frequencies_view }
+/// remapped = { remapped_hints_in }
+/// ```
+///
+/// Definitions: [`Frequencies`](crate::definitions::custom::code_metadata::Frequencies), [`frequencies_view`](crate::definitions::custom::code_metadata::frequencies_view), [`remapped_hints_in`](crate::definitions::remap::customs::remapped_hints_in). [How to read clauses](crate::definitions).
+impl<A: Allocator + Copy> Indexed<A> for (u32, Vec<CodeHint<InstructionFrequency>, A>) {
+    fn remap<M: Remap>(&mut self, _alloc: A, indices: &M) -> Result<(), RemapError<M::Error>> {
+        self.0 = mapped(indices, IndexSpace::Functions, self.0)?;
+        Ok(())
+    }
+}
+
+/// # Defined
+///
+/// ```text
+/// Value = { Orders }
+/// view = { orders_view }
+/// remapped = { remapped_hints_in }
+/// ```
+///
+/// Definitions: [`Orders`](crate::definitions::custom::code_metadata::Orders), [`orders_view`](crate::definitions::custom::code_metadata::orders_view), [`remapped_hints_in`](crate::definitions::remap::customs::remapped_hints_in). [How to read clauses](crate::definitions).
+impl<A: Allocator + Copy> Indexed<A> for (u32, Vec<CodeHint<CompilationOrder>, A>) {
+    fn remap<M: Remap>(&mut self, _alloc: A, indices: &M) -> Result<(), RemapError<M::Error>> {
+        self.0 = mapped(indices, IndexSpace::Functions, self.0)?;
+        Ok(())
+    }
+}
+
+/// # Defined
+///
+/// ```text
+/// Value = { TargetItem }
+/// view = { target_view }
+/// remapped = { remapped_target }
+/// ```
+///
+/// Definitions: [`TargetItem`](crate::definitions::custom::code_metadata::TargetItem), [`target_view`](crate::definitions::custom::code_metadata::target_view), [`remapped_target`](crate::definitions::remap::customs::remapped_target). [How to read clauses](crate::definitions).
+impl<A: Allocator + Copy> Indexed<A> for CallTarget {
+    fn remap<M: Remap>(&mut self, _alloc: A, indices: &M) -> Result<(), RemapError<M::Error>> {
+        self.function_index = mapped(indices, IndexSpace::Functions, self.function_index)?;
+        Ok(())
+    }
+}
+
+/// # Defined
+///
+/// ```text
+/// Value = { ℕ × List TargetItem }
+/// view = { hint_as targets_view }
+/// remapped = { remapped_target_hint }
+/// ```
+///
+/// Definitions: [`TargetItem`](crate::definitions::custom::code_metadata::TargetItem), [`hint_as`](crate::definitions::custom::code_metadata::hint_as), [`targets_view`](crate::definitions::custom::code_metadata::targets_view), [`remapped_target_hint`](crate::definitions::remap::customs::remapped_target_hint). [How to read clauses](crate::definitions).
+impl<A: Allocator + Copy> Indexed<A> for CodeHint<Vec<CallTarget, A>> {
+    fn remap<M: Remap>(&mut self, alloc: A, indices: &M) -> Result<(), RemapError<M::Error>> {
+        remap_each(&mut self.value, alloc, indices)
+    }
+}
+
+/// # Defined
+///
+/// ```text
+/// Value = { HintedTargets }
+/// view = { call_targets_view }
+/// remapped = { remapped_targets }
+/// ```
+///
+/// Definitions: [`HintedTargets`](crate::definitions::custom::code_metadata::HintedTargets), [`call_targets_view`](crate::definitions::custom::code_metadata::call_targets_view), [`remapped_targets`](crate::definitions::remap::customs::remapped_targets). [How to read clauses](crate::definitions).
+impl<A: Allocator + Copy> Indexed<A> for (u32, Vec<CodeHint<Vec<CallTarget, A>>, A>) {
+    fn remap<M: Remap>(&mut self, alloc: A, indices: &M) -> Result<(), RemapError<M::Error>> {
+        self.0 = mapped(indices, IndexSpace::Functions, self.0)?;
+        remap_each(&mut self.1, alloc, indices)
     }
 }
 

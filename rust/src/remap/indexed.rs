@@ -34,6 +34,8 @@ pub trait Remap {
     ///
     /// ```text
     /// ensures ok { IfOk result (λ n. n ≡ mapped self.now space index) }
+    /// ensures accepted { IfOk result
+    ///     (λ _. (e : Self.Error) → rejects self.now space index e → ⊥) }
     /// ensures err { IfErr result (λ e. rejects self.now space index e) }
     /// ```
     ///
@@ -145,11 +147,12 @@ pub(crate) trait Indexed<A: Allocator + Copy> {
     ///
     /// ```text
     /// ensures ok { OnOk result
-    ///     (view self.new ≡ remapped (M.mapped indices.now) (view self.old)) }
+    ///     ((m : Mapping) → Follows (M.mapped indices.now) (M.rejects indices.now) m
+    ///         → view self.new ≡ remapped m (view self.old)) }
     /// ensures err { IfErr result (λ e. ComesFrom (M.rejects indices.now) e) }
     /// ```
     ///
-    /// Definitions: [`ComesFrom`](crate::definitions::remap::mapping::ComesFrom). [How to read clauses](crate::definitions).
+    /// Definitions: [`Mapping`](crate::definitions::remap::mapping::Mapping), [`Follows`](crate::definitions::remap::mapping::Follows), [`ComesFrom`](crate::definitions::remap::mapping::ComesFrom). [How to read clauses](crate::definitions).
     fn remap<M: Remap>(&mut self, alloc: A, indices: &M) -> Result<(), RemapError<M::Error>>;
 }
 

@@ -10,23 +10,7 @@ use crate::base::{Refused, Standard};
 use crate::reader::{Items, Section, SectionKind, encode_items, encode_items_in};
 
 /// Maps each index of the items of a section. After an error, some of them are mapped.
-///
-/// # Errors
-///
-/// Returns the error of the map if it rejects an index, and `Memory` if an allocation fails.
-///
-/// # Proved
-///
-/// After an error, `err`: The map rejected an index with this error, or there was no memory.
-///
-/// ```text
-/// ensures ok { OnOk result
-///     (contents_of items.new ≡ remapped (M.mapped indices.now) (contents_of items.old)) }
-/// ensures err { IfErr result (λ e. ComesFrom (M.rejects indices.now) e) }
-/// ```
-///
-/// Definitions: [`contents_of`](crate::definitions::reader::kinds::contents_of), [`remapped`](crate::definitions::remap::sections::remapped), [`ComesFrom`](crate::definitions::remap::mapping::ComesFrom). [How to read clauses](crate::definitions).
-pub fn remap_items<A: Allocator + Copy, M: Remap>(
+fn remap_content<A: Allocator + Copy, M: Remap>(
     items: &mut Items<'_, A>,
     alloc: A,
     indices: &M,
@@ -48,6 +32,9 @@ pub fn remap_items<A: Allocator + Copy, M: Remap>(
         Items::Names(items) => remap_each(items, alloc, indices),
         Items::Linking(items) => remap_each(items, alloc, indices),
         Items::Hints(items) => remap_each(items, alloc, indices),
+        Items::InstructionFrequencies(items) => remap_each(items, alloc, indices),
+        Items::CompilationOrders(items) => remap_each(items, alloc, indices),
+        Items::CallTargets(items) => remap_each(items, alloc, indices),
         Items::CoreInstances(items) => remap_each(items, alloc, indices),
         Items::Types(items) => remap_each(items, alloc, indices),
         Items::Relocations { relocations, .. } => remap_each(relocations, alloc, indices),
@@ -67,6 +54,37 @@ pub fn remap_items<A: Allocator + Copy, M: Remap>(
     }
 }
 
+/// Maps each index of the items of a section. After an error, some of them are mapped.
+///
+/// The items depend on the new indices of accepted ones alone: no index that the map rejects is among
+/// those of the old items.
+///
+/// # Errors
+///
+/// Returns the error of the map if it rejects an index, and `Memory` if an allocation fails.
+///
+/// # Proved
+///
+/// After an error, `err`: The map rejected an index with this error, or there was no memory.
+///
+/// ```text
+/// ensures ok { OnOk result
+///     (contents_of items.new ≡ remapped (M.mapped indices.now) (contents_of items.old)) }
+/// ensures every { OnOk result
+///     ((m : Mapping) → Follows (M.mapped indices.now) (M.rejects indices.now) m
+///         → contents_of items.new ≡ remapped m (contents_of items.old)) }
+/// ensures err { IfErr result (λ e. ComesFrom (M.rejects indices.now) e) }
+/// ```
+///
+/// Definitions: [`contents_of`](crate::definitions::reader::kinds::contents_of), [`remapped`](crate::definitions::remap::sections::remapped), [`Mapping`](crate::definitions::remap::mapping::Mapping), [`Follows`](crate::definitions::remap::mapping::Follows), [`ComesFrom`](crate::definitions::remap::mapping::ComesFrom). [How to read clauses](crate::definitions).
+pub fn remap_items<A: Allocator + Copy, M: Remap>(
+    items: &mut Items<'_, A>,
+    alloc: A,
+    indices: &M,
+) -> Result<(), RemapError<M::Error>> {
+    remap_content(items, alloc, indices)
+}
+
 /// Returns `true` if the encoding that builders write of items of this kind is minimal in the
 /// standard's grammar too.
 fn is_minimal_when_built(kind: SectionKind) -> bool {
@@ -84,7 +102,7 @@ fn is_minimal_when_built(kind: SectionKind) -> bool {
 
 /// Appends the minimal encoding of the items in the standard's grammar. On an error, the sink is
 /// unchanged.
-fn append_items<A: Allocator + Copy, B: Sink>(
+pub(crate) fn append_items<A: Allocator + Copy, B: Sink>(
     items: &Items<'_, A>,
     alloc: A,
     sink: &mut B,
@@ -123,10 +141,13 @@ fn append_items<A: Allocator + Copy, B: Sink>(
 /// ensures ok { OnOk result
 ///     (RemapsSection (M.mapped indices.now) section.now.section sink.old.items
 ///         sink.new.items) }
+/// ensures every { OnOk result
+///     ((m : Mapping) → Follows (M.mapped indices.now) (M.rejects indices.now) m
+///         → RemapsSection m section.now.section sink.old.items sink.new.items) }
 /// ensures err { OnErr result (sink.new.items ≡ sink.old.items) }
 /// ```
 ///
-/// Definitions: [`RemapsSection`](crate::definitions::remap::sections::RemapsSection). [How to read clauses](crate::definitions).
+/// Definitions: [`RemapsSection`](crate::definitions::remap::sections::RemapsSection), [`Mapping`](crate::definitions::remap::mapping::Mapping), [`Follows`](crate::definitions::remap::mapping::Follows). [How to read clauses](crate::definitions).
 pub fn remap_section<A: Allocator + Copy, M: Remap, B: Sink>(
     section: &Section<'_, A>,
     alloc: A,
@@ -137,7 +158,7 @@ pub fn remap_section<A: Allocator + Copy, M: Remap, B: Sink>(
         return remap_bodies(section, alloc, indices, sink);
     }
     let mut items = section.items()?;
-    remap_items(&mut items, alloc, indices)?;
+    remap_content(&mut items, alloc, indices)?;
     append_items(&items, alloc, sink)?;
     Ok(())
 }

@@ -1,5 +1,5 @@
 // Written by tools/to-rust from crates/wasm_remap/src/modules.rt: change that.
-// Modules whose indices are mapped.
+// Modules whose sections are changed one after another, and those whose indices are mapped.
 
 use crate::vec::Vec;
 use crate::remap::indexed::{Remap, RemapError};
@@ -8,21 +8,103 @@ use crate::alloc::Allocator;
 use crate::base::{Module, RawSection};
 use crate::reader::{Offsets, Section, Sections};
 
-/// Appends a section with each index mapped to a module.
-fn append_remapped<A: Allocator + Copy, M: Remap>(
+/// A change of each section of a module.
+///
+/// # Defined
+///
+/// ```text
+/// changes: { Self → SectionModel → List ℕ → Type 0 }
+/// ```
+///
+/// Definitions: [`SectionModel`](crate::definitions::reader::outlines::Section). [How to read clauses](crate::definitions).
+pub(crate) trait Change {
+    /// The reason for which an index is rejected.
+    type Error;
+
+    // The bytes are the payload of the new section for this one.
+
+    /// Returns the payload of the new section.
+    ///
+    /// # Proved
+    ///
+    /// ```text
+    /// ensures { IfOk result (λ new. changes self.now section.now.section new.items) }
+    /// ```
+    ///
+    /// [How to read clauses](crate::definitions).
+    fn payload<A: Allocator + Copy>(
+        &self,
+        section: &Section<'_, A>,
+        alloc: A,
+    ) -> Result<Vec<u8, A>, RemapError<Self::Error>>;
+}
+
+/// Appends the changed section to a module.
+fn append_changed<A: Allocator + Copy, C: Change>(
     section: &Section<'_, A>,
     alloc: A,
-    indices: &M,
+    change: &C,
     module: &mut Module<A>,
-) -> Result<(), RemapError<M::Error>> {
-    let mut payload = Vec::new(alloc);
-    remap_section(section, alloc, indices, &mut payload)?;
-    let remapped = RawSection {
+) -> Result<(), RemapError<C::Error>> {
+    let payload = change.payload(section, alloc)?;
+    let changed = RawSection {
         id: section.id(),
         bytes: &payload,
     };
-    module.section(&remapped)?;
+    module.section(&changed)?;
     Ok(())
+}
+
+/// Returns a module whose sections are changed. Those that hold offsets are left out, or an error.
+pub(crate) fn change_module<A: Allocator + Copy, C: Change>(
+    bytes: &[u8],
+    alloc: A,
+    change: &C,
+    offsets: Offsets,
+) -> Result<Vec<u8, A>, RemapError<C::Error>> {
+    let mut sections = Sections::new(alloc, bytes)?;
+    let mut module = Module::new(alloc)?;
+    loop {
+        let section = match sections.next() {
+            None => return Ok(module.finish()),
+            Some(section) => section?,
+        };
+        if section.has_offsets() {
+            match offsets {
+                Offsets::Refuse => return Err(RemapError::Offsets(section.offset())),
+                Offsets::LeaveOut => {}
+            }
+        } else {
+            append_changed(&section, alloc, change, &mut module)?;
+        }
+    }
+}
+
+/// The change that maps each index.
+#[derive(Clone, Copy)]
+struct Remapped<'m, M>(&'m M);
+
+/// # Defined
+///
+/// ```text
+/// changes = { λ by s payload. (m : Mapping)
+///     → Follows (M.mapped by.0.now) (M.rejects by.0.now) m
+///     → RemapsSection m s [] payload }
+/// ```
+///
+/// Definitions: [`Mapping`](crate::definitions::remap::mapping::Mapping), [`Follows`](crate::definitions::remap::mapping::Follows), [`RemapsSection`](crate::definitions::remap::sections::RemapsSection). [How to read clauses](crate::definitions).
+impl<M: Remap> Change for Remapped<'_, M> {
+    type Error = M::Error;
+
+    fn payload<A: Allocator + Copy>(
+        &self,
+        section: &Section<'_, A>,
+        alloc: A,
+    ) -> Result<Vec<u8, A>, RemapError<M::Error>> {
+        let mut payload = Vec::new(alloc);
+        remap_section(section, alloc, self.0, &mut payload)?;
+        Ok(payload)
+    }
 }
 
 /// Returns a module with each index mapped.
@@ -43,34 +125,22 @@ fn append_remapped<A: Allocator + Copy, M: Remap>(
 ///
 /// # Proved
 ///
-/// After `Ok`: The bytes are a module, and the new bytes are a module of its sections with each index mapped. With `Refuse`, no section holds offsets.
+/// After `Ok`, `ok`: The bytes are a module, and the new bytes are a module of its sections with each index mapped. With `Refuse`, no section holds offsets.
 ///
 /// ```text
-/// ensures { IfOk result (λ new. RemapsModule
-///         (M.mapped indices.now) offsets bytes.now new.items) }
+/// ensures ok { IfOk result
+///     (λ new. RemapsModule (M.mapped indices.now) offsets bytes.now new.items) }
+/// ensures every { IfOk result
+///     (λ new. (m : Mapping) → Follows (M.mapped indices.now) (M.rejects indices.now) m
+///         → RemapsModule m offsets bytes.now new.items) }
 /// ```
 ///
-/// Definitions: [`RemapsModule`](crate::definitions::remap::sections::RemapsModule). [How to read clauses](crate::definitions).
+/// Definitions: [`RemapsModule`](crate::definitions::remap::sections::RemapsModule), [`Mapping`](crate::definitions::remap::mapping::Mapping), [`Follows`](crate::definitions::remap::mapping::Follows). [How to read clauses](crate::definitions).
 pub fn remap_module<A: Allocator + Copy, M: Remap>(
     bytes: &[u8],
     alloc: A,
     indices: &M,
     offsets: Offsets,
 ) -> Result<Vec<u8, A>, RemapError<M::Error>> {
-    let mut sections = Sections::new(alloc, bytes)?;
-    let mut module = Module::new(alloc)?;
-    loop {
-        let section = match sections.next() {
-            None => return Ok(module.finish()),
-            Some(section) => section?,
-        };
-        if section.has_offsets() {
-            match offsets {
-                Offsets::Refuse => return Err(RemapError::Offsets(section.offset())),
-                Offsets::LeaveOut => {}
-            }
-        } else {
-            append_remapped(&section, alloc, indices, &mut module)?;
-        }
-    }
+    change_module(bytes, alloc, &Remapped(indices), offsets)
 }

@@ -66,16 +66,19 @@ impl<A: Allocator + Copy> Indexed<A> for TagType {
 impl<A: Allocator + Copy> Indexed<A> for EntityType {
     fn remap<M: Remap>(&mut self, alloc: A, indices: &M) -> Result<(), RemapError<M::Error>> {
         match self {
-            EntityType::Function(index) => *index = mapped(indices, IndexSpace::Types, *index)?,
+            EntityType::Function(index) => {
+                *index = mapped(indices, IndexSpace::Types, *index)?;
+                Ok(())
+            }
             EntityType::FunctionExact(index) => {
                 *index = mapped(indices, IndexSpace::Types, *index)?;
+                Ok(())
             }
-            EntityType::Table(ty) => ty.remap(alloc, indices)?,
-            EntityType::Memory(_) => {}
-            EntityType::Global(ty) => ty.remap(alloc, indices)?,
-            EntityType::Tag(ty) => ty.remap(alloc, indices)?,
+            EntityType::Table(ty) => ty.remap(alloc, indices),
+            EntityType::Memory(_) => Ok(()),
+            EntityType::Global(ty) => ty.remap(alloc, indices),
+            EntityType::Tag(ty) => ty.remap(alloc, indices),
         }
-        Ok(())
     }
 }
 

@@ -86,17 +86,16 @@ pub(crate) trait Streamed<A: Allocator + Copy> {
     ///
     /// # Proved
     ///
-    /// - After `Ok`, `found`: A value decodes from the front of the bytes, and `rest` follows it. The buffer gains `f` of the value.
-    /// - `front`: The new bytes begin with the old ones.
+    /// `front`: The new bytes begin with the old ones.
     ///
     /// ```text
     /// ensures found { IfOk result
-    ///     (λ rest. Remaps (image (M.mapped indices.now)) format bytes.now rest.now
-    ///         sink.old.items sink.new.items) }
+    ///     (λ rest. (m : Mapping) → Follows (M.mapped indices.now) (M.rejects indices.now) m
+    ///         → Remaps (image m) format bytes.now rest.now sink.old.items sink.new.items) }
     /// ensures front { IsFrontOf sink.old.items sink.new.items }
     /// ```
     ///
-    /// Definitions: [`Remaps`](crate::definitions::remap::streamed::Remaps), [`IsFrontOf`](crate::definitions::base::minimal::IsFrontOf). [How to read clauses](crate::definitions).
+    /// Definitions: [`Mapping`](crate::definitions::remap::mapping::Mapping), [`Follows`](crate::definitions::remap::mapping::Follows), [`Remaps`](crate::definitions::remap::streamed::Remaps), [`IsFrontOf`](crate::definitions::base::minimal::IsFrontOf). [How to read clauses](crate::definitions).
     fn append_remapped<'a, M: Remap, B: Sink>(
         bytes: &'a [u8],
         alloc: A,

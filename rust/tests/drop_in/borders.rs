@@ -1,8 +1,11 @@
 //! Instructions of each shape, with immediates at the borders of the lengths of their encodings, and
 //! with each spare capacity. As named calls and as values they have the bytes of an encoder here.
+//! Numbers, types and memory arguments alone have those of the proved `encode`.
+use dolzhytik::fallible;
 use dolzhytik::{
-    BlockType, Encode, HeapType, Ieee32, Ieee64, Instruction, InstructionSink, MemArg,
-    MemArgTarget, Ordering, RefType, ValType,
+    AbstractHeapType, BlockType, DataCountSection, Encode, HeapType, Ieee32, Ieee64, Instruction,
+    InstructionSink, MemArg, MemArgOrdering, MemArgTarget, Ordering, RefType, StartSection,
+    ValType,
 };
 
 /// Numbers around those from which on an unsigned number has one more byte, and a signed one.
@@ -244,4 +247,103 @@ fn of_types() {
     let call = |sink: &mut InstructionSink| _ = sink.ref_null(HeapType::FUNC);
     let value = Instruction::RefNull(HeapType::FUNC);
     check(&[0xD0], vec![0x70], call, value);
+}
+
+/// Checks that a call appends the proved encoding, after these bytes, to each spare capacity.
+fn check_proved(
+    front: &[u8],
+    value: &impl fallible::Encode,
+    call: impl Fn(&mut Vec<u8>),
+) -> fallible::Result<()> {
+    let mut expected = front.to_vec();
+    value.encode(&mut expected)?;
+    for spare in 0..SPARE {
+        let mut bytes = Vec::with_capacity(spare);
+        call(&mut bytes);
+        assert_eq!(bytes, expected, "spare {spare}");
+        call(&mut bytes);
+        assert_eq!(bytes, [&expected[..]; 2].concat(), "spare {spare}");
+    }
+    Ok(())
+}
+
+/// Numbers of all lengths: around each power of two, and their complements.
+fn numbers() -> impl Iterator<Item = i64> {
+    let powers = (0..64).flat_map(|bits| [1_u64 << bits, (1 << bits) - 1]);
+    powers.flat_map(|it| [it, !it]).map(u64::cast_signed)
+}
+
+#[test]
+fn numbers_alone() -> fallible::Result<()> {
+    for number in numbers() {
+        let (short, index) = (number as i32, number as u32);
+        check_proved(&[], &number, |bytes| number.encode(bytes))?;
+        check_proved(&[], &short, |bytes| short.encode(bytes))?;
+        check_proved(&[], &index, |bytes| index.encode(bytes))?;
+        let function_index = index;
+        let section = StartSection { function_index };
+        check_proved(&[], &section, |bytes| section.encode(bytes))?;
+        let section = DataCountSection { count: index };
+        check_proved(&[], &section, |bytes| section.encode(bytes))?;
+    }
+    Ok(())
+}
+
+/// Checks a heap type, and references to it.
+fn check_heap_type(heap_type: HeapType) -> fallible::Result<()> {
+    check_proved(&[0xD0], &heap_type, |bytes| {
+        InstructionSink::new(bytes).ref_null(heap_type);
+    })?;
+    [false, true].into_iter().try_for_each(|nullable| {
+        let reference = RefType {
+            nullable,
+            heap_type,
+        };
+        check_val_type(ValType::Ref(reference))
+    })
+}
+
+fn check_val_type(ty: ValType) -> fallible::Result<()> {
+    check_proved(&[0x1C, 1], &ty, |bytes| {
+        InstructionSink::new(bytes).typed_select(ty);
+    })
+}
+
+#[test]
+fn types_alone() -> fallible::Result<()> {
+    for ty in [ValType::I32, ValType::I64, ValType::F32, ValType::F64] {
+        check_val_type(ty)?;
+    }
+    check_val_type(ValType::V128)?;
+    for index in numbers().map(|it| it as u32) {
+        check_heap_type(HeapType::Concrete(index))?;
+        check_heap_type(HeapType::Exact(index))?;
+    }
+    for ty in [AbstractHeapType::Func, AbstractHeapType::NoExn] {
+        check_heap_type(HeapType::Abstract { shared: true, ty })?;
+        check_heap_type(HeapType::Abstract { shared: false, ty })?;
+    }
+    Ok(())
+}
+
+#[test]
+fn memory_arguments_alone() -> fallible::Result<()> {
+    let orderings = [None, Some(MemArgOrdering::Rmw(Ordering::SeqCst))];
+    let targets = [0, 1, u32::MAX].map(MemArgTarget::Memory);
+    for target in targets.into_iter().chain([MemArgTarget::Array(0)]) {
+        for (offset, align) in numbers().flat_map(|it| [(it, 0x7F), (it, 0x80), (0x7F, it)]) {
+            for ordering in orderings {
+                let memarg = MemArg {
+                    offset: offset as u64,
+                    align: align as u32,
+                    target,
+                    ordering,
+                };
+                check_proved(&[0x28], &memarg, |bytes| {
+                    InstructionSink::new(bytes).i32_load(memarg);
+                })?;
+            }
+        }
+    }
+    Ok(())
 }

@@ -177,3 +177,9 @@ fn sections_come_of_proved_ones() -> Result<()> {
 fn vec_of(indices: &[u32]) -> fallible::CowSlice<'_, u32> {
     fallible::CowSlice::Borrowed(indices)
 }
+
+/// That is the size of a vector, if pointers have 64 bits.
+#[test]
+fn an_expression_has_24_bytes() {
+    assert!(size_of::<ConstExpr>() <= 24);
+}

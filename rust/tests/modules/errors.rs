@@ -1,7 +1,9 @@
 //! Errors as `std` programs pass them on: each implements `Error`, and its text says what is wrong
 //! and where.
 use dolzhytik::fallible::{AllocError, AllocFailed, Global, Refused, hex};
-use dolzhytik::reader::remap::{IndexSpace, IndexTooLarge, RemapError, Shift, remap_module};
+use dolzhytik::reader::remap::{
+    IndexSpace, IndexTooLarge, RemapError, RemoveError, Shift, remap_module,
+};
 use dolzhytik::reader::{
     DecodeError, Instructions, ModuleFault, Offsets, Padded, ReadError, ReadFault, Readable,
     Sections,
@@ -11,7 +13,7 @@ use std::error::Error;
 /// Asks for the trait.
 fn is_error<T: Error + Send + Sync + 'static>() {}
 
-const _: [fn(); 10] = [
+const _: [fn(); 11] = [
     is_error::<AllocError>,
     is_error::<AllocFailed<()>>,
     is_error::<Refused>,
@@ -22,6 +24,7 @@ const _: [fn(); 10] = [
     is_error::<ModuleFault>,
     is_error::<RemapError<ReadError>>,
     is_error::<IndexTooLarge>,
+    is_error::<RemoveError>,
 ];
 
 /// Returns the number of instructions of a body without locals.
@@ -103,6 +106,11 @@ fn errors_of_maps_are_passed_on() {
     let text = next(b"\0\x08\x07linking");
     let offsets = "section at offset 0x8: its offsets would become wrong";
     assert_eq!(text, offsets);
+    assert_eq!(RemoveError::InUse(7).to_string(), "function 7 is in use");
+    let text = RemapError::Index(RemoveError::Imported(0)).to_string();
+    assert_eq!(text, "function 0 is imported");
+    let text = RemoveError::Unlisted(9).to_string();
+    assert_eq!(text, "function 9 is past the end of the list");
     let refused = RemapError::<IndexTooLarge>::from(Refused::Memory);
     assert_eq!(refused.to_string(), Refused::Memory.to_string());
 }

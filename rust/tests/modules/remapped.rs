@@ -198,6 +198,20 @@ fn sections_that_hold_offsets() {
         )
     };
     check_section(&hints("05"), &hints("15"));
+    // The function of compilation hints, and the functions of call targets, but not their shares.
+    for (name, values) in [("instr_freq", "20"), ("compilation_order", "05 06")] {
+        let size = values.len().div_ceil(3);
+        let hints = |index| {
+            let data = format!("01 {index} 01 07 {size:02} {values}");
+            custom(&format!("metadata.code.{name}"), &data)
+        };
+        check_section(&hints("05"), &hints("15"));
+    }
+    let targets = |index, target| {
+        let data = format!("01 {index} 01 07 04 {target} 05 {index} 06");
+        custom("metadata.code.call_targets", &data)
+    };
+    check_section(&targets("05", "06"), &targets("15", "16"));
     // The index of a symbol, and that of a type.
     let relocations = |index| custom("reloc.CODE", &format!("03 02 00 04 01  06 09 {index}"));
     check_section(&relocations("01"), &relocations("21"));

@@ -592,6 +592,22 @@ fn producers_and_hints() {
 }
 
 #[test]
+fn compilation_hints() {
+    let lines = "         function 3 offset 0x5 frequency 32\n         function 3 offset 0x80 frequency 0\n";
+    let data = "01 03 02 05 01 20 8001 01 00";
+    check_custom("metadata.code.instr_freq", data, lines);
+    let lines = "         function 3 offset 0x0 order 1\n         function 4 offset 0x0 order 2 hotness 300\n";
+    let data = "02 03 01 00 01 01 04 01 00 03 02 ac02";
+    check_custom("metadata.code.compilation_order", data, lines);
+    let lines = "         function 3 offset 0x5 calls function 9 90%\n         function 3 offset 0x5 calls function 8 10%\n";
+    check_custom(
+        "metadata.code.call_targets",
+        "01 03 01 05 04 09 5a 08 0a",
+        lines,
+    );
+}
+
+#[test]
 fn target_features() {
     let lines = r#"         feature "atomics" used
          feature "simd128" disallowed

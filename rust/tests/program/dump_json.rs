@@ -65,6 +65,12 @@ fn modules() -> Vec<Vec<u8>> {
         custom("linking", &linking),
         custom("producers", "01 08 6c616e6775616765 01 0143 023131"),
         custom("metadata.code.branch_hint", "01 03 02 05 01 01 8001 01 00"),
+        custom("metadata.code.instr_freq", "01 03 01 05 01 20"),
+        custom(
+            "metadata.code.compilation_order",
+            "01 03 02 00 01 01 00 02 01 05",
+        ),
+        custom("metadata.code.call_targets", "01 03 01 05 02 09 5a"),
         custom("target_features", "01 2b 03 6d7670"),
         custom(
             "dylink.0",

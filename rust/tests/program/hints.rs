@@ -1,4 +1,4 @@
-//! `dolzhytik shorten` of modules with branch hints, whose offsets follow their instructions.
+//! `dolzhytik shorten` of modules with hints, whose offsets follow their instructions.
 use crate::program::{Answer, Folder};
 use crate::samples::{UNREAD, custom, module};
 use crate::shortened::check_shortened;
@@ -64,6 +64,37 @@ fn check_fault(sections: &[&str], why: &str) {
 /// The sections with hints of these bytes before the code.
 fn with<'a>(hints: &'a str, code: &'a str) -> Vec<&'a str> {
     [&FRONT[..], &[hints, code]].concat()
+}
+
+#[test]
+fn compilation_hints_follow_their_instructions() {
+    let (padded, short) = (padded_code(), short_code());
+    for (name, before, after) in [
+        (
+            "metadata.code.instr_freq",
+            "01 01 02 07 01 20 0b 01 00",
+            "01 01 02 05 01 20 09 01 00",
+        ),
+        // A hint at offset 0 is of the whole function.
+        (
+            "metadata.code.compilation_order",
+            "01 01 02 00 01 01 07 02 01 05",
+            "01 01 02 00 01 01 05 02 01 05",
+        ),
+        (
+            "metadata.code.call_targets",
+            "01 01 01 0b 02 02 5a",
+            "01 01 01 09 02 02 5a",
+        ),
+    ] {
+        let (before, after) = (custom(name, before), custom(name, after));
+        check(&with(&before, &padded), &with(&after, &short));
+    }
+    // No instruction is at offset 8.
+    let hints = custom("metadata.code.call_targets", "01 01 02 07 00 08 02 02 5a");
+    let why = "section 4 (custom \"metadata.code.call_targets\") at offset 0x3e: \
+               function 1 has no instruction at offset 0x8 of its body";
+    check_fault(&with(&hints, &padded), why);
 }
 
 #[test]

@@ -4,6 +4,7 @@
 //! sections of a module one by one.
 
 use dolzhytik::fallible::{Sink, Vec};
+pub mod compilation_hints;
 pub mod custom;
 pub mod debug_files;
 pub mod declared;
@@ -18,6 +19,7 @@ pub mod once;
 pub mod padded;
 pub mod relocations;
 pub mod remapped;
+pub mod removed;
 pub mod sections;
 pub mod stored;
 

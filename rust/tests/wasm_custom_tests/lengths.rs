@@ -5,7 +5,7 @@ use crate::checks::check_text;
 use core::cell::Cell;
 use crate::host::Abort;
 use dolzhytik::fallible::{Refused, Result};
-use dolzhytik::fallible::{BranchHint, BranchHints, CoreDumpInstancesSection, CoreDumpStackSection, CoreDumpValue};
+use dolzhytik::fallible::{BranchHint, BranchHints, CodeHint, CompilationOrder, CompilationOrders, CoreDumpInstancesSection, CoreDumpStackSection, CoreDumpValue};
 
 /// One more than a vector can count.
 const TOO_MANY: usize = 4294967296;
@@ -64,6 +64,27 @@ fn hints() {
         rt.alloc(),
         &section,
         b"\x1B\x19metadata.code.branch_hint\x00",
+    )
+}
+
+const ORDER: CompilationOrder = CompilationOrder {
+    order: 1,
+    hotness: None,
+};
+
+#[test]
+fn orders() {
+    let rt = crate::host::HostRuntime;
+    let asked = Cell::new(0);
+    let mut section = CompilationOrders::new(rt.alloc());
+    let hints = copies_of(ORDER, TOO_MANY, &asked);
+    let hints = hints.map(|value| CodeHint { offset: 0, value });
+    check_too_long(&rt, section.function_hints(0, hints), &asked);
+    check_text(
+        &rt,
+        rt.alloc(),
+        &section,
+        b"\x21\x1Fmetadata.code.compilation_order\x00",
     )
 }
 

@@ -4,7 +4,7 @@
 use dolzhytik::fallible::Global;
 use crate::host::Abort;
 use dolzhytik::reader::{DecodeError, Grammar, Padded, ReadFault, Standard};
-use dolzhytik::fallible::{read_build_id, read_debug_file, read_dylink, read_features, read_hints, read_instances, read_links, read_modules, read_names, read_process, read_producers, read_relocations, read_source_map, read_stack};
+use dolzhytik::fallible::{read_build_id, read_call_targets, read_debug_file, read_dylink, read_features, read_frequencies, read_hints, read_instances, read_links, read_modules, read_names, read_orders, read_process, read_producers, read_relocations, read_source_map, read_stack};
 
 /// Returns the cause and the place of an error.
 fn place<T>(read: Result<T, DecodeError>) -> (Option<ReadFault>, u32) {
@@ -142,6 +142,44 @@ fn others<G: Grammar>(rt: &impl Abort, alloc: Global) {
             alloc
         )),
         (Some(ReadFault::UnknownTag), 5)
+    );
+    // A frequency of two bytes, and of none
+    assert_eq!(rt;
+        place(read_frequencies::<Global, G>(
+            b"\x18metadata.code.instr_freq\x01\0\x02\x03\x02\x20\x21\x05\x01\x20",
+            alloc
+        )),
+        (Some(ReadFault::SizeMismatch), 4)
+    );
+    assert_eq!(rt;
+        place(read_frequencies::<Global, G>(
+            b"\x18metadata.code.instr_freq\x01\0\x02\x03\0\x05\x01\x20",
+            alloc
+        )),
+        (Some(ReadFault::Ended), 3)
+    );
+    // A third number, and none
+    assert_eq!(rt;
+        place(read_orders::<Global, G>(
+            b"\x1Fmetadata.code.compilation_order\x01\0\x01\0\x03\x01\x02\x03",
+            alloc
+        )),
+        (Some(ReadFault::SizeMismatch), 1)
+    );
+    assert_eq!(rt;
+        place(read_orders::<Global, G>(
+            b"\x1Fmetadata.code.compilation_order\x01\0\x01\0\0",
+            alloc
+        )),
+        (Some(ReadFault::Ended), 0)
+    );
+    // A second target without its share
+    assert_eq!(rt;
+        place(read_call_targets::<Global, G>(
+            b"\x1Ametadata.code.call_targets\x01\0\x02\x03\x03\x07\x5A\x09\x05\0",
+            alloc
+        )),
+        (Some(ReadFault::Ended), 2)
     );
     assert_eq!(rt;
         place(read_features::<Global, G>(b"\x0Ftarget_features\x02+\x01a!\x01b", alloc)),

@@ -9,7 +9,7 @@ use dolzhytik::fallible::Global;
 use crate::host::Abort;
 use crate::test_support::{Heap, MOST, Refusing};
 use dolzhytik::fallible::{Encode, Pieces, Result, Section};
-use dolzhytik::fallible::{BranchHint, CountedList, CustomEntries, CustomKind, DataSymbolDefinition, DylinkExports, DylinkImports, DylinkItems, DylinkMemory, DylinkNeeded, DylinkPath, ExportFlagMembers, FeatureItems, FeaturePrefix, HintItems, ImportFlagMembers, IndirectMembers, IndirectNameMap, InstanceItems, LinkingItems, ListKind, ModuleItems, NameItems, NameMap, NameMembers, NeededMembers, PathMembers, ProducerItems, ProducersField, SymbolKind, SymbolMembers, SymbolTable, ValueMembers};
+use dolzhytik::fallible::{BranchHint, CallTarget, CodeHint, CompilationOrder, CountedList, CustomEntries, CustomKind, DataSymbolDefinition, DylinkExports, DylinkImports, DylinkItems, DylinkMemory, DylinkNeeded, DylinkPath, ExportFlagMembers, FeatureItems, FeaturePrefix, HintItems, HintsOf, ImportFlagMembers, IndirectMembers, IndirectNameMap, InstanceItems, InstructionFrequency, LinkingItems, ListKind, ModuleItems, NameItems, NameMap, NameMembers, NeededMembers, PathMembers, ProducerItems, ProducersField, SymbolKind, SymbolMembers, SymbolTable, ValueMembers};
 
 /// A section with an allocator that fails requests.
 pub(crate) type LentEntries<'h, K> = CustomEntries<K, Pieces<&'h Refusing<Global>>>;
@@ -658,6 +658,78 @@ fn hints() {
     let rt = crate::host::HostRuntime;
     let heap = Refusing::new(rt.alloc());
     check_sections::<HintItems>(&rt, &heap, &())
+}
+
+impl SectionCalls for HintsOf<InstructionFrequency> {
+    type Given = ();
+
+    const EMPTY: &'static [u8] = b"\x1A\x18metadata.code.instr_freq\x00";
+
+    const SECTIONS: &'static [&'static [u8]] = &[
+        b"\x1F\x18metadata.code.instr_freq\x01\x07\x01\x03\x01\x20",
+    ];
+
+    fn add(section: &mut LentEntries<'_, Self>, _: &(), _: usize) -> Result<()> {
+        let value = InstructionFrequency(32);
+        section.function_hints(7, [CodeHint { offset: 3, value }])
+    }
+}
+
+impl SectionCalls for HintsOf<CompilationOrder> {
+    type Given = [Option<u32>; 2];
+
+    const EMPTY: &'static [u8] = b"\x21\x1Fmetadata.code.compilation_order\x00";
+
+    const SECTIONS: &'static [&'static [u8]] = &[
+        b"\x26\x1Fmetadata.code.compilation_order\x01\x07\x01\x00\x01\x01",
+        b"\x28\x1Fmetadata.code.compilation_order\x01\x07\x01\x00\x03\x01\xAC\x02",
+    ];
+
+    fn add(section: &mut LentEntries<'_, Self>, hotness: &Self::Given, place: usize) -> Result<()> {
+        let value = CompilationOrder {
+            order: 1,
+            hotness: hotness[place],
+        };
+        section.function_hints(7, [CodeHint { offset: 0, value }])
+    }
+}
+
+const TARGETS: [CallTarget; 2] = [
+    CallTarget {
+        function_index: 9,
+        percent: 90,
+    },
+    CallTarget {
+        function_index: 300,
+        percent: 10,
+    },
+];
+
+/// The values are in memory of their own.
+impl SectionCalls for HintsOf<Vec<CallTarget>> {
+    type Given = Global;
+
+    const EMPTY: &'static [u8] = b"\x1C\x1Ametadata.code.call_targets\x00";
+
+    const SECTIONS: &'static [&'static [u8]] = &[
+        b"\x20\x1Ametadata.code.call_targets\x01\x07\x01\x03\x00",
+        b"\x22\x1Ametadata.code.call_targets\x01\x07\x01\x03\x02\x09\x5A",
+        b"\x25\x1Ametadata.code.call_targets\x01\x07\x01\x03\x05\x09\x5A\xAC\x02\x0A",
+    ];
+
+    fn add(section: &mut LentEntries<'_, Self>, alloc: &Global, place: usize) -> Result<()> {
+        let value = Vec::from_slice(*alloc, &TARGETS[..place])?;
+        section.function_hints(7, [CodeHint { offset: 3, value }])
+    }
+}
+
+#[test]
+fn code_metadata() {
+    let rt = crate::host::HostRuntime;
+    let heap = Refusing::new(rt.alloc());
+    check_sections::<HintsOf<InstructionFrequency>>(&rt, &heap, &());
+    check_sections::<HintsOf<CompilationOrder>>(&rt, &heap, &[None, Some(300)]);
+    check_sections::<HintsOf<Vec<CallTarget>>>(&rt, &heap, &rt.alloc())
 }
 
 impl SectionCalls for ModuleItems {

@@ -9,7 +9,7 @@ use crate::test_support::{MOST, Refusing};
 use dolzhytik::reader::{Padded, ReadFault, Shorten, SizePrefixed, Standard, append_all};
 use dolzhytik::fallible::{Refused, Result};
 use dolzhytik::reader::shorten_body;
-use dolzhytik::fallible::{append_build_id, append_debug_file, append_dylink, append_features, append_hints, append_instances, append_links, append_modules, append_names, append_process, append_producers, append_relocations, append_source_map, append_stack, read_dylink, read_features, read_hints, read_instances, read_links, read_modules, read_names, read_process, read_producers, read_relocations, read_stack};
+use dolzhytik::fallible::{append_build_id, append_call_targets, append_debug_file, append_dylink, append_features, append_frequencies, append_hints, append_instances, append_links, append_modules, append_names, append_orders, append_process, append_producers, append_relocations, append_source_map, append_stack, read_call_targets, read_dylink, read_features, read_frequencies, read_hints, read_instances, read_links, read_modules, read_names, read_orders, read_process, read_producers, read_relocations, read_stack};
 use dolzhytik::reader::{Items, SectionKind, encode_items_in, read_section};
 use dolzhytik::fallible::{append_imports, read_imports};
 use dolzhytik::fallible::{append_types, read_types};
@@ -162,6 +162,27 @@ fn hints() {
     let items = read_hints::<&Refusing<Global>, Padded>(bytes, &heap).expect("read");
     check(&rt, &heap, bytes, |sink: &mut Vec<u8, _>| {
         append_hints(&items, sink)
+    });
+}
+
+#[test]
+fn code_metadata() {
+    let rt = crate::host::HostRuntime;
+    let heap = Refusing::new(rt.alloc());
+    let bytes = b"\x18metadata.code.instr_freq\x01\x05\x02\x03\x01\x20\x09\x01\0";
+    let items = read_frequencies::<&Refusing<Global>, Padded>(bytes, &heap).expect("read");
+    check(&rt, &heap, bytes, |sink: &mut Vec<u8, _>| {
+        append_frequencies(&items, sink)
+    });
+    let bytes = b"\x1Fmetadata.code.compilation_order\x02\x05\x01\0\x01\x03\x06\x01\0\x02\x04\x01";
+    let items = read_orders::<&Refusing<Global>, Padded>(bytes, &heap).expect("read");
+    check(&rt, &heap, bytes, |sink: &mut Vec<u8, _>| {
+        append_orders(&items, sink)
+    });
+    let bytes = b"\x1Ametadata.code.call_targets\x01\x05\x02\x03\x04\x07\x5A\x08\x0A\x09\0";
+    let items = read_call_targets::<&Refusing<Global>, Padded>(bytes, &heap).expect("read");
+    check(&rt, &heap, bytes, |sink: &mut Vec<u8, _>| {
+        append_call_targets(&items, sink)
     });
 }
 

@@ -11,7 +11,7 @@ use dolzhytik::reader::SectionKind;
 pub(crate) type Row = (SectionKind, &'static [u8], Told<'static>);
 
 /// Sections of minimal numbers.
-pub(crate) static ROWS: [Row; 40] = [
+pub(crate) static ROWS: [Row; 44] = [
     (
         SectionKind::Names,
         b"\x09\x04name\x00\x02\x01m",
@@ -128,6 +128,26 @@ pub(crate) static ROWS: [Row; 40] = [
         SectionKind::CoreStack,
         b"\x11\x09corestack\x00\x04main\x00",
         Told::Process("main"),
+    ),
+    (
+        SectionKind::InstructionFrequencies,
+        b"\x1F\x18metadata.code.instr_freq\x01\x07\x01\x03\x01\x20",
+        Told::Frequency(7, 3, 32),
+    ),
+    (
+        SectionKind::CompilationOrders,
+        b"\x26\x1Fmetadata.code.compilation_order\x01\x07\x01\x00\x01\x01",
+        Told::Order(7, 0, 1, None),
+    ),
+    (
+        SectionKind::CompilationOrders,
+        b"\x28\x1Fmetadata.code.compilation_order\x01\x07\x01\x00\x03\x01\xAC\x02",
+        Told::Order(7, 0, 1, Some(300)),
+    ),
+    (
+        SectionKind::CallTargets,
+        b"\x22\x1Ametadata.code.call_targets\x01\x07\x01\x03\x02\x09\x5A",
+        Told::Target(7, 3, 9, 90),
     ),
     (
         SectionKind::Hints,

@@ -2,7 +2,7 @@
 // Items of custom sections as plain data.
 
 use dolzhytik::fallible::Global;
-use dolzhytik::fallible::{CoreDumpValue, DataSymbolDefinition, FeaturePrefix, Relocation};
+use dolzhytik::fallible::{CompilationOrder, CoreDumpValue, DataSymbolDefinition, FeaturePrefix, Relocation};
 use dolzhytik::reader::{CoreFrame, DylinkItem, LinkItem, NameItem, Symbol};
 use dolzhytik::reader::{Items, SectionKind, read_section};
 
@@ -40,6 +40,11 @@ pub(crate) enum Told<'a> {
     Field(&'a str, (&'a str, &'a str), (&'a str, &'a str)),
     /// Function, offset and value.
     Hint(u32, u32, u32),
+    Frequency(u32, u32, u8),
+    /// Function, offset, order and hotness.
+    Order(u32, u32, u32, Option<u32>),
+    /// Function, offset, function index and share.
+    Target(u32, u32, u32, u32),
     Process(&'a str),
     Modules(&'a str, &'a str),
     /// Module, memory and global.
@@ -222,6 +227,36 @@ fn dump_told<'a>(items: &Items<'a>) -> Told<'a> {
             [] => Told::Nothing,
             [(function, hints)] => match hints.as_slice() {
                 [hint] => Told::Hint(*function, hint.branch_func_offset, hint.branch_hint_value),
+                _ => Told::Others,
+            },
+            _ => Told::Others,
+        },
+        Items::InstructionFrequencies(functions) => match functions.as_slice() {
+            [(function, hints)] => match hints.as_slice() {
+                [hint] => Told::Frequency(*function, hint.offset, hint.value.0),
+                _ => Told::Others,
+            },
+            _ => Told::Others,
+        },
+        Items::CompilationOrders(functions) => match functions.as_slice() {
+            [(function, hints)] => match hints.as_slice() {
+                [hint] => {
+                    let CompilationOrder { order, hotness } = hint.value;
+                    Told::Order(*function, hint.offset, order, hotness)
+                }
+                _ => Told::Others,
+            },
+            _ => Told::Others,
+        },
+        Items::CallTargets(functions) => match functions.as_slice() {
+            [(function, hints)] => match hints.as_slice() {
+                [hint] => match hint.value.as_slice() {
+                    [target] => {
+                        let index = target.function_index;
+                        Told::Target(*function, hint.offset, index, target.percent)
+                    }
+                    _ => Told::Others,
+                },
                 _ => Told::Others,
             },
             _ => Told::Others,

@@ -18,7 +18,7 @@ fn check(rt: &impl Abort, alloc: Global, kind: SectionKind, bytes: &[u8], expect
 /// A kind, bytes that are not a section of it, and the error.
 pub(crate) type Row = (SectionKind, &'static [u8], ReadFault);
 
-pub(crate) static ROWS: [Row; 55] = [
+pub(crate) static ROWS: [Row; 58] = [
     (
         SectionKind::Types,
         &[5, 1, 0x4F, 0, 0x5F, 0],
@@ -158,6 +158,21 @@ pub(crate) static ROWS: [Row; 55] = [
         SectionKind::Hints,
         b"\x20\x19metadata.code.branch_hint\x01\x00\x01\x03\x02\x01",
         ReadFault::UnknownTag,
+    ),
+    (
+        SectionKind::InstructionFrequencies,
+        b"\x20\x18metadata.code.instr_freq\x01\x07\x01\x03\x02\x20\x20",
+        ReadFault::SizeMismatch,
+    ),
+    (
+        SectionKind::CompilationOrders,
+        b"\x25\x1Fmetadata.code.compilation_order\x01\x07\x01\x00\x00",
+        ReadFault::Ended,
+    ),
+    (
+        SectionKind::CallTargets,
+        b"\x21\x1Ametadata.code.call_targets\x01\x07\x01\x03\x01\x09",
+        ReadFault::Ended,
     ),
     (
         SectionKind::Core,

@@ -168,8 +168,14 @@ fn code() {
 fn places() {
     let rt = crate::host::HostRuntime;
     let types = RawSection { id: 1, bytes: &[0] };
-    let custom = RawSection { id: 0, bytes: &[1, b'c'] };
-    let tags = RawSection { id: 13, bytes: &[0] };
+    let custom = RawSection {
+        id: 0,
+        bytes: &[1, b'c'],
+    };
+    let tags = RawSection {
+        id: 13,
+        bytes: &[0],
+    };
     let insert = |bytes: &[u8], section: &RawSection<'_>| {
         insert_section(bytes, rt.alloc(), section, Position::First).expect("a section")
     };
@@ -197,7 +203,9 @@ fn sections_of_one_id() {
         bytes: &[1, 7],
     };
     // Two type sections, the first with a padded size.
-    let two = [0, b'a', b's', b'm', 1, 0, 0, 0, 1, 0x82, 0, 1, 8, 1, 2, 1, 9];
+    let two = [
+        0, b'a', b's', b'm', 1, 0, 0, 0, 1, 0x82, 0, 1, 8, 1, 2, 1, 9,
+    ];
     let last = insert(&two, &members, Position::Last);
     check_bytes(&rt, &last[8..], &[1, 3, 2, 8, 7, 1, 2, 1, 9]);
     let instead = insert(&two, &members, Position::Instead);
@@ -242,7 +250,9 @@ fn errors() {
         _ => assert!(rt; false, "another error"),
     }
     // The sum of both counts is 2^32.
-    let full = [0, b'a', b's', b'm', 1, 0, 0, 0, 6, 5, 0xFF, 0xFF, 0xFF, 0xFF, 0x0F];
+    let full = [
+        0, b'a', b's', b'm', 1, 0, 0, 0, 6, 5, 0xFF, 0xFF, 0xFF, 0xFF, 0x0F,
+    ];
     let error = with_counter(&full, rt.alloc()).err();
     assert_eq!(rt; error, Some(RemapError::Refused(Refused::TooLong)));
 }

@@ -66,6 +66,8 @@ mod refusals;
 #[cfg(test)]
 #[rustfmt::skip]
 mod remapped;
+#[rustfmt::skip]
+mod removed;
 #[cfg(test)]
 #[rustfmt::skip]
 mod rows;

@@ -19,7 +19,7 @@ const BEFORE: u8 = 0xAA;
 /// A section with padded numbers, and its minimal encoding.
 type Row = (SectionKind, &'static [u8], &'static [u8]);
 
-static PADDED: [Row; 44] = [
+static PADDED: [Row; 47] = [
     (
         SectionKind::Producers,
         &[
@@ -199,6 +199,21 @@ static PADDED: [Row; 44] = [
         SectionKind::Hints,
         b"\x22\x19metadata.code.branch_hint\x81\x00\x00\x01\x83\x00\x01\x01",
         b"\x20\x19metadata.code.branch_hint\x01\x00\x01\x03\x01\x01",
+    ),
+    (
+        SectionKind::InstructionFrequencies,
+        b"\x21\x18metadata.code.instr_freq\x01\x87\x00\x01\x03\x81\x00\x20",
+        b"\x1F\x18metadata.code.instr_freq\x01\x07\x01\x03\x01\x20",
+    ),
+    (
+        SectionKind::CompilationOrders,
+        b"\x29\x1Fmetadata.code.compilation_order\x01\x07\x01\x00\x04\x81\x00\x85\x00",
+        b"\x27\x1Fmetadata.code.compilation_order\x01\x07\x01\x00\x02\x01\x05",
+    ),
+    (
+        SectionKind::CallTargets,
+        b"\x25\x1Ametadata.code.call_targets\x01\x07\x01\x83\x00\x04\x89\x00\xDA\x00",
+        b"\x22\x1Ametadata.code.call_targets\x01\x07\x01\x03\x02\x09\x5A",
     ),
     (
         SectionKind::CoreStack,

@@ -46,6 +46,15 @@ fn numbered() {
     assert_eq!(rt; SectionKind::numbered(26), Some(SectionKind::BuildId));
     assert_eq!(rt; SectionKind::numbered(27), Some(SectionKind::Dylink));
     assert_eq!(rt; SectionKind::numbered(28), Some(SectionKind::Relocations));
-    assert_eq!(rt; SectionKind::numbered(29), None);
+    assert_eq!(rt;
+        SectionKind::numbered(29),
+        Some(SectionKind::InstructionFrequencies)
+    );
+    assert_eq!(rt;
+        SectionKind::numbered(30),
+        Some(SectionKind::CompilationOrders)
+    );
+    assert_eq!(rt; SectionKind::numbered(31), Some(SectionKind::CallTargets));
+    assert_eq!(rt; SectionKind::numbered(32), None);
     assert_eq!(rt; SectionKind::numbered(u32::MAX), None)
 }

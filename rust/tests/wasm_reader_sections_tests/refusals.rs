@@ -57,7 +57,7 @@ fn check(
 /// A call, the bytes, and the number of requests.
 type Row = (Question, &'static [u8], u64);
 
-static ROWS: [Row; 41] = [
+static ROWS: [Row; 44] = [
     (Question::Section(SectionKind::Functions), &[2, 1, 5], 1),
     (
         Question::Section(SectionKind::Bodies),
@@ -136,6 +136,21 @@ static ROWS: [Row; 41] = [
         Question::Section(SectionKind::Hints),
         b"\x20\x19metadata.code.branch_hint\x01\x00\x01\x03\x01\x01",
         2,
+    ),
+    (
+        Question::Section(SectionKind::InstructionFrequencies),
+        b"\x1F\x18metadata.code.instr_freq\x01\x07\x01\x03\x01\x20",
+        2,
+    ),
+    (
+        Question::Section(SectionKind::CompilationOrders),
+        b"\x26\x1Fmetadata.code.compilation_order\x01\x07\x01\x00\x01\x01",
+        2,
+    ),
+    (
+        Question::Section(SectionKind::CallTargets),
+        b"\x22\x1Ametadata.code.call_targets\x01\x07\x01\x03\x02\x09\x5A",
+        3,
     ),
     (
         Question::Section(SectionKind::Core),

@@ -4,6 +4,7 @@
 
 use dolzhytik::fallible::Vec;
 use crate::checks::check_bytes;
+use crate::read_back::compilation_hints::{read_call_targets, read_frequencies, read_orders};
 use crate::read_back::custom::{read_custom, read_features, read_hints, read_linking, read_more_names, read_producers, rewritten_linking};
 use crate::read_back::debug_files::{read_build_id, read_debug_file, read_source_map};
 use crate::read_back::declared::{read_exports, read_imports, read_memories, read_tables, read_tags, read_types};
@@ -408,6 +409,31 @@ fn hints() {
         let is_kind = matches!(read_hints(&mut text, 7, &mut sink)?, Items::Hints(_));
         Ok((is_kind, sink))
     })
+}
+
+#[test]
+fn compilation_hints() {
+    let rt = crate::host::HostRuntime;
+    let heap = Refusing::new(rt.alloc());
+    let expected = b"\x1F\x18metadata.code.instr_freq\x01\x07\x01\x03\x01\x20";
+    check_read(&rt, &heap, expected, |heap| {
+        let (mut text, mut sink) = (Vec::new(heap), Vec::new(heap));
+        let items = read_frequencies(&mut text, 7, &mut sink)?;
+        let is_kind = matches!(items, Items::InstructionFrequencies(_));
+        Ok((is_kind, sink))
+    });
+    let expected = b"\x27\x1Fmetadata.code.compilation_order\x01\x07\x01\x00\x02\x01\x05";
+    check_read(&rt, &heap, expected, |heap| {
+        let (mut text, mut sink) = (Vec::new(heap), Vec::new(heap));
+        let items = read_orders(&mut text, 7, &mut sink)?;
+        let is_kind = matches!(items, Items::CompilationOrders(_));
+        Ok((is_kind, sink))
+    });
+    let expected = b"\x22\x1Ametadata.code.call_targets\x01\x00\x01\x05\x02\x07\x5A";
+    let (mut text, mut sink) = (Vec::new(rt.alloc()), Vec::new(rt.alloc()));
+    let items = read_call_targets(&mut text, 7, &mut sink).expect("accepted");
+    assert_eq!(rt; matches!(items, Items::CallTargets(_)), true);
+    check_bytes(&rt, &sink, expected)
 }
 
 #[test]

@@ -5,9 +5,10 @@
 use crate::texts::Text;
 use core::fmt::{self, Display, Formatter, Write};
 use dolzhytik::fallible::{
-    BlockType, BranchHint, Catch, CompositeInnerType, EntityType, Export, ExportKind, Global,
-    GlobalType, Handle, Import, Imports, MemArg, MemArgOrdering, MemArgTarget, MemoryType, Op,
-    Ordering, SubItem, TableType, TagType, ValType, Vec,
+    BlockType, BranchHint, CallTarget, Catch, CodeHint, CompilationOrder, CompositeInnerType,
+    EntityType, Export, ExportKind, Global, GlobalType, Handle, Import, Imports,
+    InstructionFrequency, MemArg, MemArgOrdering, MemArgTarget, MemoryType, Op, Ordering, SubItem,
+    TableType, TagType, ValType, Vec,
 };
 use dolzhytik::reader::{
     Arg, ElementItem, ElementItemMode, ElementList, GlobalItem, LinkItem, Segment, Symbol,
@@ -306,6 +307,50 @@ impl Fields for (u32, Vec<BranchHint>) {
         list(f, self.1.iter(), |f, hint| {
             let (at, value) = (hint.branch_func_offset, hint.branch_hint_value);
             write!(f, "{{\"offset\":{at},\"value\":{value}}}")
+        })?;
+        f.write_char('}')
+    }
+}
+
+/// The value of a hint.
+trait HintFields {
+    /// Writes its members.
+    fn members(&self, f: &mut Formatter<'_>) -> fmt::Result;
+}
+
+impl HintFields for InstructionFrequency {
+    fn members(&self, f: &mut Formatter<'_>) -> fmt::Result {
+        write!(f, "\"frequency\":{}", self.0)
+    }
+}
+
+impl HintFields for CompilationOrder {
+    fn members(&self, f: &mut Formatter<'_>) -> fmt::Result {
+        write!(f, "\"order\":{},\"hotness\":", self.order)?;
+        match self.hotness {
+            Some(hotness) => write!(f, "{hotness}"),
+            None => f.write_str("null"),
+        }
+    }
+}
+
+impl HintFields for Vec<CallTarget> {
+    fn members(&self, f: &mut Formatter<'_>) -> fmt::Result {
+        f.write_str("\"targets\":")?;
+        list(f, self.iter(), |f, target| {
+            let (function, percent) = (target.function_index, target.percent);
+            write!(f, "{{\"function\":{function},\"percent\":{percent}}}")
+        })
+    }
+}
+
+impl<T: HintFields> Fields for (u32, Vec<CodeHint<T>>) {
+    fn fields(&self, f: &mut Formatter<'_>) -> fmt::Result {
+        write!(f, "{{\"function\":{},\"hints\":", self.0)?;
+        list(f, self.1.iter(), |f, hint| {
+            write!(f, "{{\"offset\":{},", hint.offset)?;
+            hint.value.members(f)?;
+            f.write_char('}')
         })?;
         f.write_char('}')
     }

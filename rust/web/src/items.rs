@@ -10,7 +10,8 @@ use crate::sections::sections_from;
 use crate::texts::{Count, Show, Text};
 use core::fmt::Display;
 use dolzhytik::fallible::{
-    AllocError, BranchHint, Export, Global, Imports, MemoryType, Relocation, TagType, Vec,
+    AllocError, BranchHint, CallTarget, CodeHint, CompilationOrder, Export, Global, Imports,
+    InstructionFrequency, MemoryType, Relocation, TagType, Vec,
 };
 use dolzhytik::reader::{
     ElementItem, GlobalItem, Instructions, LinkItem, ReadFault, Readable, Section, Segment,
@@ -273,6 +274,11 @@ fn custom(part: Part<'_>, list: &mut List) -> Result<(), ReadFault> {
         "name" => to_end(rest, |rest| subsection(rest, list)),
         "producers" => all::<(&str, Vec<(&str, &str)>)>(rest, list),
         "metadata.code.branch_hint" => all::<(u32, Vec<BranchHint>)>(rest, list),
+        "metadata.code.instr_freq" => all::<(u32, Vec<CodeHint<InstructionFrequency>>)>(rest, list),
+        "metadata.code.compilation_order" => {
+            all::<(u32, Vec<CodeHint<CompilationOrder>>)>(rest, list)
+        }
+        "metadata.code.call_targets" => all::<(u32, Vec<CodeHint<Vec<CallTarget>>>)>(rest, list),
         "linking" => {
             // The version, which is 2.
             let (2, rest) = rest.read::<u32>()? else {

@@ -3,7 +3,7 @@
 
 use core::fmt::{self, Display, Formatter};
 use dolzhytik::fallible::{
-    AbstractHeapType, BranchHint, CompositeInnerType, CompositeType, EntityType, Export,
+    AbstractHeapType, BranchHint, CodeHint, CompositeInnerType, CompositeType, EntityType, Export,
     ExportKind, FieldType, GlobalType, HeapType, Import, ImportCompact, Imports, MemoryType, Op,
     RefType, StorageType, SubItem, TableType, TagType, ValType, Vec,
 };
@@ -532,6 +532,15 @@ impl Show for (&str, Vec<(&str, &str)>) {
 
 /// The branch hints of a function.
 impl Show for (u32, Vec<BranchHint>) {
+    fn show(&self, f: &mut Formatter<'_>) -> fmt::Result {
+        let (function, hints) = self;
+        let hints = Count(hints.len() as u64, "hint");
+        write!(f, "function {function}: {hints}")
+    }
+}
+
+/// The compilation hints of a function.
+impl<T> Show for (u32, Vec<CodeHint<T>>) {
     fn show(&self, f: &mut Formatter<'_>) -> fmt::Result {
         let (function, hints) = self;
         let hints = Count(hints.len() as u64, "hint");

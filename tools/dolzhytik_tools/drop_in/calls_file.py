@@ -63,7 +63,7 @@ def body(case: Case, proved: dict[str, str]) -> str:
     op = "[%s]" % ", ".join("0x%02X" % byte for byte in case.op_bytes())
     here = "_here" if case.call in HOT else ""
     if not parts:
-        return "self.op%s(%s)" % (here, op)
+        return "self.put%s(%s, [])" % (here, op)
     if case.shape == "k":
         return "self.value(&insn::Instruction::%s)" % case.of(parts)
     if case.shape == "bt":

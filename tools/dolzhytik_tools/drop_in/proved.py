@@ -76,11 +76,11 @@ def group_end(text: str) -> int:
 
 
 def owner_of(ty: str, generics: str) -> Owner:
-    """Returns the owner that a type is: the kind is a first argument that is a name."""
+    """Returns the owner that a type is: the kind is the name of the first argument."""
     name, _, rest = ty.partition("<")
     given = [it for it in split(rest[:-1]) if not it.startswith("'")] if rest else []
-    is_kind = bool(given) and re.fullmatch(r"\w+", given[0]) and not re.search(rf"\b{given[0]}\b", generics)
-    return Owner(name.strip(), given[0] if is_kind else "")
+    kind = re.match(r"\w*", given[0])[0] if given else ""
+    return Owner(name.strip(), "" if re.search(rf"\b{kind}\b", generics) else kind)
 
 
 def whole(lines: list[str], first: int, end: str | tuple[str, ...]) -> str:

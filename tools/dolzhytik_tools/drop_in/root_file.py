@@ -20,6 +20,7 @@ COLUMNS = 100
 ERRORS = (
     (r"Returns \[`TooLong`\]\(crate::fallible::Refused::TooLong\) (if .*), and \[`Memory`\]\(\S+\) if an allocation fails\..*", r"Panics \1."),
     (r"Returns `Memory` if an allocation fails\. If (.*), the call returns `TooLong`, and (.*)", r"If \1, the call panics, and \2"),
+    (r"Returns \[`Refused`\]\(\S+\), and leaves the \w+ unchanged, if the (\w+) is too long or .*", r"Panics if a count or length in the \1 would pass 4294967295."),
     (r"Returns \[`Memory`\]\(\S+\) if .*\ballocation .*fails\..*", ""),
 )
 ENDS = "A failed allocation ends the program."

@@ -217,7 +217,7 @@ def regions(kinds: list[Kind]) -> dict[str, list[Region]]:
         ],
         "crates/wasm_remap/proofs/MappedSections.antt": [
             Region(("use Rattle.wasm_base.specs.Numbers.{",), constructors("Rattle.wasm_reader.specs.Kinds", kinds)),
-            Region(("  content_maps : (kind",), "".join(map(kept_encodable, kinds))),
+            Region(("  pub content_maps : (kind",), "".join(map(kept_encodable, kinds))),
         ],
         "crates/wasm_remap/specs/Sections.antt": [Region(("abbrev pub remapped :",), "".join(f"remapped m ({it.case} {it.mapped_from}) = {it.case} {term_of(it.mapped)}\n" for it in kinds))],
     }

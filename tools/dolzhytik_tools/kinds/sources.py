@@ -23,6 +23,8 @@ ENCODED_BY_HAND = {
             Ok(())
         }""",
 }
+# The kinds from which `remove_functions` removes items.
+TRIMMED = ("Functions", "Bodies", "Names")
 # The first names in the definition `known_names`, which are on one line there.
 FIRST_NAMES = ("Names", "Linking", "Producers", "TargetFeatures")
 
@@ -51,11 +53,16 @@ def with_ids(kinds: list[Kind]) -> list[tuple[int, Kind]]:
 
 def called(head: str, call: str, given: str, end: str) -> str:
     """Returns an arm that ends with a call, whose arguments are on a line of their own if the arm is
-    too long."""
+    too long, or each of its types if the call is."""
     line = f"        {head} => {call}({given}){end},\n"
     if len(line) <= WIDTH + 1:
         return line
-    return f"        {head} => {call}(\n            {given},\n        ){end},\n"
+    first = f"        {head} => {call}("
+    if len(first) <= WIDTH:
+        return f"{first}\n            {given},\n        ){end},\n"
+    name, _, types = call.rpartition("::<")
+    listed = "".join(f"            {it},\n" for it in types[:-1].split(", "))
+    return f"        {head} => {name}::<\n{listed}        >({given}){end},\n"
 
 
 def by_hand(kind: Kind, head: str, texts: dict[str, str]) -> str | None:
@@ -117,7 +124,7 @@ def of_customs(kinds: list[Kind], verbs: Iterable[str], words: str = "") -> str:
     names = [*sorted(types), *(f"{verb}_{stem}" for verb in verbs for stem in sorted(it.stem for it in kinds if it.is_custom))]
     lines = [""]
     for name in names:
-        if len(f"    {lines[-1]} {name},") > WIDTH:
+        if len(f"    {lines[-1]} {name},") >= WIDTH:
             lines.append("")
         lines[-1] += f"{' ' if lines[-1] else ''}{name},"
     return "use wasm_custom::{\n" + "".join(f"    {it}\n" for it in lines) + "};\n"
@@ -146,8 +153,11 @@ def regions(kinds: list[Kind]) -> dict[str, list[Region]]:
                 "".join(f"        SectionKind::{it.case} => count_members::<{it.member}, A, G>(bytes, alloc),\n" for it in kinds if it.is_vector),
             ),
         ],
+        "crates/wasm_remap/src/remove.rt": [
+            Region(("fn trim<", "        Items::Names("), f"        {one_of([any_of(it) for it in kinds if it.case not in TRIMMED], ' ' * 8)} => {{}}\n"),
+        ],
         "crates/wasm_remap/src/items.rt": [
-            Region(("pub fn remap_items<", "        Items::Relocations {"), f"        {one_of(kept, ' ' * 8)} => Ok(()),\n"),
+            Region(("fn remap_content<", "        Items::Relocations {"), f"        {one_of(kept, ' ' * 8)} => Ok(()),\n"),
             Region(("fn is_minimal_when_built(", "{"), f"    !matches!(\n        kind,\n        {one_of(built, ' ' * 12)}\n    )\n"),
         ],
         "tests/wasm_reader_sections_tests/src/numbers.rtt": [

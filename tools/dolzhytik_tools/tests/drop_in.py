@@ -261,13 +261,25 @@ pub struct Parts<'a, A: Allocator = Global> {
     pub kind: Kind,
     /// The bytes.
     pub bytes: CowSlice<'a, u8, A>,
-    pub name: CowStr<'a, A>,
     pub fields: Vec<FieldType, A>,
 }
 
 pub enum Kind {
     #[doc(alias = "word")]
     Types = 0,
+}
+
+pub struct Named<'a, A: Allocator = Global> {
+    pub name: CowStr<'a, A>,
+}
+
+pub enum Cases {
+    Func(FuncType<A>),
+    Of {
+        kind: Kind,
+        number: u32,
+    },
+    None,
 }
 """
 OWN = """#[doc = text!(Parts)]
@@ -277,19 +289,25 @@ pub struct Parts<'a> {
     pub kind: Kind,
     /// The bytes.
     pub data: Cow<'a, [u8]>,
-    pub name: Cow<'a, str>,
     pub fields: Box<[FieldType]>,
 }
 
-impl<'a> From<Parts<'a>> for base::Parts<'a> {
+impl<'a> From<Parts<'a>> for base::Parts<'a, Root> {
     #[inline]
     fn from(value: Parts<'a>) -> Self {
         Self {
             kind: value.kind.into(),
-            bytes: value.data,
-            name: value.name,
-            fields: value.fields,
+            bytes: match value.data { Cow::Borrowed(it) => CowSlice::Borrowed(it), Cow::Owned(it) => CowSlice::Owned(Vec::from(it).into_ending()) },
+            fields: value.fields.into_vec().into(),
         }
+    }
+}
+
+/// Encodes a copy that is converted.
+impl crate::Encode for Parts<'_> {
+    #[inline]
+    fn encode(&self, sink: &mut alloc_crate::vec::Vec<u8>) {
+        append(&base::Parts::from(self.clone()), sink)
     }
 }
 
@@ -308,19 +326,57 @@ impl From<base::Kind> for Kind {
         }
     }
 }
+
+#[doc = text!(Named)]
+#[derive(Clone)]
+pub struct Named<'a> {
+    pub name: Cow<'a, str>,
+}
+
+impl<'a> From<base::Named<'a>> for Named<'a> {
+    #[inline]
+    fn from(value: base::Named<'a>) -> Self {
+        Self {
+            name: match value.name { CowStr::Borrowed(it) => Cow::Borrowed(it), CowStr::Owned(it) => Cow::Owned(it.as_str().into()) },
+        }
+    }
+}
+
+#[doc = text!(Cases)]
+#[derive(Clone)]
+pub enum Cases {
+    Func(FuncType),
+    Of {
+        kind: Kind,
+        number: u32,
+    },
+    None,
+}
+
+impl From<Cases> for base::Cases {
+    #[inline]
+    fn from(value: Cases) -> Self {
+        match value {
+            Cases::Func(it) => Self::Func(it.0),
+            Cases::Of { kind, number } => Self::Of { kind: kind.into(), number },
+            Cases::None => Self::None,
+        }
+    }
+}
 """
 
 
 def own_types_trouble() -> str | None:
     """A type of the root has the members of the proved one, without its allocator. A row that fits
     no proved type stops the tool, with the line."""
-    table = own_types.HEAD + "\nParts\tbase\tClone\tbytes=data\tto\nKind\tbase\tCopy\tTypes=Type\tfrom\n"
+    table = own_types.HEAD + "\nParts\tbase\tClone\tbytes=data\tto Root, encode\nKind\tbase\tCopy\tTypes=Type\tfrom\nNamed\tbase\tClone\t\tfrom\nCases\tbase\tClone\t\tto\n"
     written = lambda table: own_types_file(own_types.read(table), {"base": [OWNED]}, frozenset({"FieldType", "Kind"}))
     text = written(table)
-    heads = "use super::FieldType;\nuse crate::base;\nuse alloc_crate::boxed::Box;\nuse alloc_crate::borrow::Cow;\n\n"
+    heads = "use super::FieldType;\nuse super::bytes::append;\nuse crate::base;\nuse crate::base::{CowSlice, CowStr};\nuse crate::ending::Root;\n"
+    heads += "use crate::vec::Vec;\nuse alloc_crate::borrow::Cow;\nuse alloc_crate::boxed::Box;\n\n"
     if not text.endswith(heads + OWN):
         return f"another file: {text}"
-    for old, new, message in (("Kind", "Kinds", "0 definitions"), ("Types=Type", "Type=Types", "no member Type becomes"), ("from", "into", "unknown"), ("\tCopy", "", "no names"), ("type\t", "", "columns")):
+    for old, new, message in (("Kind", "Kinds", "0 definitions"), ("Types=Type", "Type=Types", "no member Type becomes"), ("from", "into", "unknown"), ("\t\tfrom", "\t\tto", "no conversion of CowStr"), ("\tCopy", "", "no names"), ("type\t", "", "columns")):
         try:
             written(table.replace(old, new))
         except Stop as stop:

@@ -46,7 +46,7 @@ BAD = [
     ("a content that is not mapped", "\tmap (remapped_tag m) xs", "\tmap (remapped_tag m)"),
 ]
 # A new kind, and the files in which it lacks a row by hand.
-NEW = "Order\tmetadata.code.compilation_order\tList Order\torder_payload\tmap order_view v.items\torder_section.whole\tVec<(u32, u32), A>\torder\t-\tboth\txs\tcode\n"
+NEW = "Traces\tmetadata.code.trace_inst\tList Trace\ttraces_payload\tmap traces_view v.items\ttraces_section.whole\tVec<(u32, u32), A>\ttraces\t-\tboth\txs\tcode\n"
 LACKS = {KINDS, *(it.path for it in PLACES if it.of not in (built, holds_offsets))}
 
 

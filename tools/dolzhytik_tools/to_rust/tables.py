@@ -233,6 +233,8 @@ PLACES = [
     Place('wasm_base/src/leb128.rt', '#[inline(never)]', '#[inline]', 'fn append_long_signed<'),
     Place('wasm_base/src/leb128.rt', '#[inline]', '#[inline(always)]', f'{ENCODE} append_unsigned(sink, u64::from(*self))'),
     Place('wasm_base/src/leb128.rt', '#[inline]', '#[inline(always)]', f'{ENCODE} append_unsigned(sink, *self)'),
+    Place('wasm_base/src/leb128.rt', '#[inline]', '#[inline(always)]', f'{ENCODE} append_signed(sink, i64::from(*self))'),
+    Place('wasm_base/src/leb128.rt', '#[inline]', '#[inline(always)]', f'{ENCODE} append_signed(sink, *self)'),
     Place('wasm_immediates/src/memory.rt', '#[inline]', '#[inline(always)]', f'{ENCODE} match (self.target, self.ordering)'),
     Place('wasm_immediates/src/memory.rt', '#[inline]', '#[inline(always)]', 'fn encode_plain<'),
     Place('wasm_sections/src/start.rt', '', '#[inline(always)]\n', 'fn encode_number'),

@@ -35,7 +35,7 @@ LEFT_OUT = {
     ],
     ('drop_in/refusals', PROCESS): ['fn more_than_there_is', 'fn memory_that_is_refused'],
     ('test_support/mod', STREAMS): ['mod streams', 'use streams'],
-    ('wasm_custom_tests/lengths', LONG): ['const TOO_MANY', 'fn hints', 'fn memories', 'fn globals', 'fn locals', 'fn stack'],
+    ('wasm_custom_tests/lengths', LONG): ['const TOO_MANY', 'fn hints', 'fn orders', 'fn memories', 'fn globals', 'fn locals', 'fn stack'],
     ('wasm_insn_tests/base', LONG): ['fn lengths_past_32_bits'],
     ('wasm_insn_tests/lengths', LONG): ['fn long_vector', 'fn long_br_table'],
     ('wasm_sections_tests/lengths', LONG): ['fn runs_of_locals'],

@@ -5,10 +5,11 @@ use wasm_base::{
     minimize_whole, skip_value, walk_many,
 };
 use wasm_custom::{
-    check_dylink, check_features, check_hints, check_instances, check_links, check_modules,
-    check_names, check_producers, check_relocations, check_stack, minimize_dylink,
-    minimize_features, minimize_hints, minimize_instances, minimize_links, minimize_modules,
-    minimize_names, minimize_producers, minimize_relocations, minimize_stack,
+    check_call_targets, check_dylink, check_features, check_frequencies, check_hints,
+    check_instances, check_links, check_modules, check_names, check_orders, check_producers,
+    check_relocations, check_stack, minimize_call_targets, minimize_dylink, minimize_features,
+    minimize_frequencies, minimize_hints, minimize_instances, minimize_links, minimize_modules,
+    minimize_names, minimize_orders, minimize_producers, minimize_relocations, minimize_stack,
 };
 use wasm_insn::Plain;
 
@@ -37,6 +38,9 @@ pub fn checked_payloads<A: Allocator + Copy>(bytes: &[u8], alloc: A) -> Result<(
     check_producers::<A, Standard>(bytes, alloc)?;
     check_features::<A, Standard>(bytes, alloc)?;
     check_hints::<A, Standard>(bytes, alloc)?;
+    check_frequencies::<A, Standard>(bytes, alloc)?;
+    check_orders::<A, Standard>(bytes, alloc)?;
+    check_call_targets::<A, Standard>(bytes, alloc)?;
     check_relocations::<A, Standard>(bytes, alloc)?;
     check_modules::<A, Standard>(bytes, alloc)?;
     check_instances::<A, Standard>(bytes, alloc)?;
@@ -54,6 +58,9 @@ pub fn minimized_payloads<A: Allocator + Copy>(
     minimize_producers::<A, Standard, _>(bytes, alloc, sink)?;
     minimize_features::<A, Standard, _>(bytes, alloc, sink)?;
     minimize_hints::<A, Standard, _>(bytes, alloc, sink)?;
+    minimize_frequencies::<A, Standard, _>(bytes, alloc, sink)?;
+    minimize_orders::<A, Standard, _>(bytes, alloc, sink)?;
+    minimize_call_targets::<A, Standard, _>(bytes, alloc, sink)?;
     minimize_relocations::<A, Standard, _>(bytes, alloc, sink)?;
     minimize_modules::<A, Standard, _>(bytes, alloc, sink)?;
     minimize_instances::<A, Standard, _>(bytes, alloc, sink)?;

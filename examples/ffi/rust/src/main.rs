@@ -415,7 +415,7 @@ fn main() {
     shorten(NAMES, b"\x0C\x84\x00name\x00\x83\x00\x82\x00m");
     shorten(NAMES, b"\x0C\x84\x00name\x00\x83\x00\x81\x00m");
     shorten(TAGS, b"\x03\x01\x01\x00");
-    shorten(29, b"");
+    shorten(32, b"");
     outline(OUTLINED);
     outline(&OUTLINED[..9]);
     shorten_module(OUTLINED, 0);

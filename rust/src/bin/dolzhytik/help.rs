@@ -126,8 +126,8 @@ removed one leaves an empty section .objcopy.removed, as with LLVM's strip.",
         ],
         says: "\
 writes the module with each section in its minimal encoding. A section that does not decode is \
-copied, and named on standard error. Branch hints follow their instructions. It fails if offsets in \
-another custom section would become wrong.",
+copied, and named on standard error. Branch hints and compilation hints follow their instructions. \
+It fails if offsets in another custom section would become wrong.",
         options: &[
             Flag::Output,
             Flag::DryRun,

@@ -1,9 +1,10 @@
 // Written by tools/to-rust from crates/calls/src/once/custom.rt: change that.
 //! Entries of custom sections.
 
-use dolzhytik::fallible::Allocator;
+use dolzhytik::fallible::Vec;
+use dolzhytik::fallible::{Allocator, Global};
 use dolzhytik::fallible::Result;
-use dolzhytik::fallible::{BranchHint, BranchHints, CoreDumpInstancesSection, CoreDumpStackSection, CoreDumpValue, DataSymbolDefinition, IndirectNameMap, LinkingSection, NameMap, NameSection, ProducersField, ProducersSection, SymbolTable};
+use dolzhytik::fallible::{BranchHint, BranchHints, CallTarget, CallTargets, CodeHint, CompilationOrder, CompilationOrders, CoreDumpInstancesSection, CoreDumpStackSection, CoreDumpValue, DataSymbolDefinition, IndirectNameMap, InstructionFrequencies, InstructionFrequency, LinkingSection, NameMap, NameSection, ProducersField, ProducersSection, SymbolTable};
 
 pub fn names<A: Allocator + Copy>(alloc: A) -> Result<()> {
     let mut map = NameMap::new(alloc);
@@ -54,6 +55,37 @@ pub fn hints<A: Allocator + Copy>(alloc: A) -> Result<()> {
     };
     let mut section = BranchHints::new(alloc);
     section.function_hints(0, [hint])?;
+    Ok(())
+}
+
+pub fn frequencies<A: Allocator + Copy>(alloc: A) -> Result<()> {
+    let hint = CodeHint {
+        offset: 3,
+        value: InstructionFrequency(32),
+    };
+    let mut section = InstructionFrequencies::new(alloc);
+    section.function_hints(0, [hint])?;
+    Ok(())
+}
+
+pub fn orders<A: Allocator + Copy>(alloc: A) -> Result<()> {
+    let value = CompilationOrder {
+        order: 1,
+        hotness: Some(2),
+    };
+    let mut section = CompilationOrders::new(alloc);
+    section.function_hints(0, [CodeHint { offset: 0, value }])?;
+    Ok(())
+}
+
+pub fn call_targets(alloc: Global) -> Result<()> {
+    let target = CallTarget {
+        function_index: 7,
+        percent: 90,
+    };
+    let value = Vec::from_slice(alloc, &[target])?;
+    let mut section = CallTargets::new(alloc);
+    section.function_hints(0, [CodeHint { offset: 5, value }])?;
     Ok(())
 }
 

@@ -49,4 +49,13 @@ returns-in_err-read_dylink-in-Dylink-clause-none g c = fault_stays c.from_residu
 pub returns-in_err-name-in-Relocations-clause-none : goal.returns-in_err-name-in-Relocations-clause-none
 returns-in_err-name-in-Relocations-clause-none g c = fault_stays c.from_residual-in_err-name-in-Relocations.result _ c.from_residual-in_err-name-in-Relocations.ensures.1 λ n. rejects c.args.kind kinds.Relocations _ c.args.bytes.now c.in-Relocations.is (c.in_err-name-in-Relocations.ensures.none n)
 
+pub returns-in_err-read_frequencies-in-InstructionFrequencies-clause-none : goal.returns-in_err-read_frequencies-in-InstructionFrequencies-clause-none
+returns-in_err-read_frequencies-in-InstructionFrequencies-clause-none g c = fault_stays c.from_residual-in_err-read_frequencies-in-InstructionFrequencies.result _ c.from_residual-in_err-read_frequencies-in-InstructionFrequencies.ensures.1 λ n. rejects c.args.kind kinds.InstructionFrequencies _ c.args.bytes.now c.in-InstructionFrequencies.is (c.in_err-read_frequencies-in-InstructionFrequencies.ensures.none n)
+
+pub returns-in_err-read_orders-in-CompilationOrders-clause-none : goal.returns-in_err-read_orders-in-CompilationOrders-clause-none
+returns-in_err-read_orders-in-CompilationOrders-clause-none g c = fault_stays c.from_residual-in_err-read_orders-in-CompilationOrders.result _ c.from_residual-in_err-read_orders-in-CompilationOrders.ensures.1 λ n. rejects c.args.kind kinds.CompilationOrders _ c.args.bytes.now c.in-CompilationOrders.is (c.in_err-read_orders-in-CompilationOrders.ensures.none n)
+
+pub returns-in_err-read_call_targets-in-CallTargets-clause-none : goal.returns-in_err-read_call_targets-in-CallTargets-clause-none
+returns-in_err-read_call_targets-in-CallTargets-clause-none g c = fault_stays c.from_residual-in_err-read_call_targets-in-CallTargets.result _ c.from_residual-in_err-read_call_targets-in-CallTargets.ensures.1 λ n. rejects c.args.kind kinds.CallTargets _ c.args.bytes.now c.in-CallTargets.is (c.in_err-read_call_targets-in-CallTargets.ensures.none n)
+
 -- end: written by tools/kinds

@@ -129,4 +129,22 @@ returns-in-Relocations-clause-found g c = kind_walks _ _ kinds.Relocations c.arg
 pub returns-in-Relocations-clause-none : goal.returns-in-Relocations-clause-none
 returns-in-Relocations-clause-none g c = kind_rejects kinds.Relocations c.args.kind _ c.args.bytes.now c.walk_relocations.result c.in-Relocations.is c.walk_relocations.ensures.none
 
+pub returns-in-InstructionFrequencies-clause-found : goal.returns-in-InstructionFrequencies-clause-found
+returns-in-InstructionFrequencies-clause-found g c = kind_walks _ _ kinds.InstructionFrequencies c.args.kind c.args.bytes.now _ _ c.walk_frequencies.result c.in-InstructionFrequencies.is c.walk_frequencies.ensures.found
+
+pub returns-in-InstructionFrequencies-clause-none : goal.returns-in-InstructionFrequencies-clause-none
+returns-in-InstructionFrequencies-clause-none g c = kind_rejects kinds.InstructionFrequencies c.args.kind _ c.args.bytes.now c.walk_frequencies.result c.in-InstructionFrequencies.is c.walk_frequencies.ensures.none
+
+pub returns-in-CompilationOrders-clause-found : goal.returns-in-CompilationOrders-clause-found
+returns-in-CompilationOrders-clause-found g c = kind_walks _ _ kinds.CompilationOrders c.args.kind c.args.bytes.now _ _ c.walk_orders.result c.in-CompilationOrders.is c.walk_orders.ensures.found
+
+pub returns-in-CompilationOrders-clause-none : goal.returns-in-CompilationOrders-clause-none
+returns-in-CompilationOrders-clause-none g c = kind_rejects kinds.CompilationOrders c.args.kind _ c.args.bytes.now c.walk_orders.result c.in-CompilationOrders.is c.walk_orders.ensures.none
+
+pub returns-in-CallTargets-clause-found : goal.returns-in-CallTargets-clause-found
+returns-in-CallTargets-clause-found g c = kind_walks _ _ kinds.CallTargets c.args.kind c.args.bytes.now _ _ c.walk_call_targets.result c.in-CallTargets.is c.walk_call_targets.ensures.found
+
+pub returns-in-CallTargets-clause-none : goal.returns-in-CallTargets-clause-none
+returns-in-CallTargets-clause-none g c = kind_rejects kinds.CallTargets c.args.kind _ c.args.bytes.now c.walk_call_targets.result c.in-CallTargets.is c.walk_call_targets.ensures.none
+
 -- end: written by tools/kinds

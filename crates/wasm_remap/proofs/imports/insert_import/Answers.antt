@@ -16,7 +16,7 @@ returns g c =
     let entries = c.import.new.self in
     let payload = unsigned_encoding (length entries) ++ joined entries in
     let is = c.in_ok-import.ensures.ok ∙ ap (λ z. z ++ import_encoding item ∷ []) c.new-imports.ensures in
-    let shifts = subst (λ s. RemapsModule (shifted (room_in s)) c.args.offsets bytes module_bytes) c.space_of.ensures c.in_ok-shifted.ensures in
+    let shifts = subst (λ s. RemapsModule (shifted (room_in s)) c.args.offsets bytes module_bytes) c.space_of.ensures c.in_ok-shifted.ensures.ok in
     if_ok {R = λ edited. InsertsImport c.args.import.now c.args.offsets bytes edited.items} c.insert_section.result c.insert_section.ensures.inserts c.insert_section.ensures.fits
     (λ edited inserts fits. record {
       shifted_bytes = module_bytes;

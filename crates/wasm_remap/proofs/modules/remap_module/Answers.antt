@@ -1,15 +1,11 @@
-use Rattle.wasm_base.proofs.Words.{sym, ◌∙◌}
-use Rattle.wasm_reader.proofs.IteratingLaws.{next_section}
-use Rattle.wasm_remap.proofs.ModuleLaws.{remapped_start, remapped_out, remapped_kept}
+use Rattle.wasm_base.proofs.Words.{refl}
+use Rattle.wasm_remap.specs.Sections.{RemapsModule}
+use Rattle.wasm_remap.proofs.FirstLaws.{if_ok_more}
+use Rattle.wasm_remap.proofs.ModuleLaws.{changes_each}
 use Rattle.wasm_remap.proofs.modules.remap_module.Goals as goal
 
-pub loop-module-init : goal.loop-module-init
-loop-module-init g c = remapped_start _ _ _ _ c.in_ok-module.ensures.read
+pub returns-clause-ok : goal.returns-clause-ok
+returns-clause-ok g c = if_ok_more c.change_module.result (λ new h. changes_each (λ s payload k. k (g.M.Remap.mapped c.args.indices.now) (λ _ _ _. refl)) h) c.change_module.ensures
 
-pub loop-module-preserved-in-LeaveOut : goal.loop-module-preserved-in-LeaveOut
-loop-module-preserved-in-LeaveOut g c = remapped_out c.loop-module.invariant (next_section c.in_ok-section-in-Some.was c.in-Some.ensures.steps) (sym c.has_offsets.ensures ∙ c.if-has_offsets.true) c.in-LeaveOut.is
-
-pub loop-module-preserved : goal.loop-module-preserved
-loop-module-preserved g c =
-    let a = c.in_ok-append_remapped.ensures.ok in
-    remapped_kept c.loop-module.invariant (next_section c.in_ok-section-in-Some.was c.in-Some.ensures.steps) (sym c.has_offsets.ensures ∙ c.if-has_offsets.false) a.1 a.2
+pub returns-clause-every : goal.returns-clause-every
+returns-clause-every g c = if_ok_more c.change_module.result (λ new h m follows. changes_each (λ s payload k. k m follows) h) c.change_module.ensures

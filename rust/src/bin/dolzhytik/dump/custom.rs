@@ -8,7 +8,8 @@ use crate::dump::text::OTHER;
 use crate::json::{Members, Value, members, object};
 use crate::name::Entry;
 use dolzhytik::fallible::{
-    self, BranchHint, Comdat, CoreDumpValue, FeaturePrefix, SegmentInfo, SymbolTable,
+    self, BranchHint, CallTarget, Comdat, CompilationOrder, CoreDumpValue, FeaturePrefix,
+    SegmentInfo, SymbolTable,
 };
 use dolzhytik::reader::{CoreFrame, DylinkItem, Items, LinkItem, NameItem, Symbol};
 use std::fmt::Display;
@@ -35,6 +36,24 @@ pub fn list_items<'c>(
         Items::Hints(functions) => functions.iter().try_for_each(|(function, hints)| {
             let mut hints = hints.iter();
             hints.try_for_each(|hint| lines.hint(*function, hint))
+        }),
+        Items::InstructionFrequencies(functions) => {
+            functions.iter().try_for_each(|(function, hints)| {
+                let mut hints = hints.iter();
+                hints.try_for_each(|it| lines.frequency(*function, it.offset, it.value.0))
+            })
+        }
+        Items::CompilationOrders(functions) => {
+            functions.iter().try_for_each(|(function, hints)| {
+                let mut hints = hints.iter();
+                hints.try_for_each(|it| lines.order(*function, it.offset, &it.value))
+            })
+        }
+        Items::CallTargets(functions) => functions.iter().try_for_each(|(function, hints)| {
+            hints.iter().try_for_each(|it| {
+                let mut targets = it.value.iter();
+                targets.try_for_each(|target| lines.call_target(*function, it.offset, target))
+            })
         }),
         Items::Dylink(items) => items.iter().try_for_each(|item| lines.dylink(item)),
         Items::Relocations {
@@ -305,6 +324,42 @@ impl<'c, W: Write> Lines<'_, 'c, W> {
         );
         let entry = self.context.entry(Space::Function, function);
         self.about("branch hint", entry, content)
+    }
+
+    fn frequency(&mut self, function: u32, offset: u32, frequency: u8) -> io::Result<()> {
+        let content = self.listing.content(
+            || format!("offset {offset:#x} frequency {frequency}"),
+            || members! { "body_offset": offset, "frequency": u32::from(frequency) },
+        );
+        let entry = self.context.entry(Space::Function, function);
+        self.about("instruction frequency", entry, content)
+    }
+
+    fn order(&mut self, function: u32, offset: u32, order: &CompilationOrder) -> io::Result<()> {
+        let CompilationOrder { order, hotness, .. } = *order;
+        let content = self.listing.content(
+            || {
+                let hotness = hotness.map(|it| format!(" hotness {it}"));
+                format!(
+                    "offset {offset:#x} order {order}{}",
+                    hotness.unwrap_or_default()
+                )
+            },
+            || members! { "body_offset": offset, "order": order, "hotness": hotness },
+        );
+        let entry = self.context.entry(Space::Function, function);
+        self.about("compilation order", entry, content)
+    }
+
+    fn call_target(&mut self, function: u32, offset: u32, target: &CallTarget) -> io::Result<()> {
+        let (percent, index) = (target.percent, target.function_index);
+        let called = self.context.entry(Space::Function, index);
+        let content = self.listing.content(
+            || format!("offset {offset:#x} calls function {called} {percent}%"),
+            || members! { "body_offset": offset, "target": called, "percent": percent },
+        );
+        let entry = self.context.entry(Space::Function, function);
+        self.about("call target", entry, content)
     }
 
     // ---- object files and dynamic libraries

@@ -3,7 +3,7 @@ use crate::failure::Failure;
 use crate::files::Input;
 use crate::references::{check_removal, has_unknown_subsection, section_indices};
 use crate::sections::{Section, sections_of};
-use crate::shorten::choice::{BUILD_ID, Choice, HINTS, Target};
+use crate::shorten::choice::{BUILD_ID, Choice, Target, is_of_hints};
 use crate::shorten::hints;
 use crate::shorten::refusal;
 use crate::shorten::rewrite::{Rewrite, Written};
@@ -112,12 +112,12 @@ fn target_of(section: &Section<'_>) -> Option<Target> {
     Target::of(section).or(is_unknown.then_some(Target::CodeAndData))
 }
 
-/// Fails if offsets in a section that is written become wrong. Branch hints are adjusted before.
+/// Fails if offsets in a section that is written become wrong. Hints are adjusted before.
 fn check_offsets(input: &Input, rewrites: &[Rewrite<'_>], choice: Choice) -> Result<(), Failure> {
     let changes = Changes::of(rewrites);
     let is_lost = |rewrite: &&Rewrite<'_>| {
         let is_right = match rewrite.section.name() {
-            Some(HINTS) => true,
+            name if is_of_hints(name) => true,
             Some(BUILD_ID) => choice.build_id.is_some(),
             _ => false,
         };

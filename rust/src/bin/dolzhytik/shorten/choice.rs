@@ -5,8 +5,18 @@ use dolzhytik::reader::Offsets;
 /// The name of the section that identifies a module.
 pub const BUILD_ID: &str = "build_id";
 
-/// The name of the section of branch hints.
-pub const HINTS: &str = "metadata.code.branch_hint";
+/// The names of the sections of hints.
+const HINTS: [&str; 4] = [
+    "metadata.code.branch_hint",
+    "metadata.code.instr_freq",
+    "metadata.code.compilation_order",
+    "metadata.code.call_targets",
+];
+
+/// Whether a section of this name has hints, whose offsets follow their instructions.
+pub fn is_of_hints(name: Option<&str>) -> bool {
+    name.is_some_and(|it| HINTS.contains(&it))
+}
 
 /// What becomes of a section `build_id`, if an option says it.
 #[derive(Clone, Copy, PartialEq, Eq, Debug)]
@@ -101,7 +111,7 @@ mod tests {
             ".apple_names",
             ".apple",
             "reloc..debug_info",
-            HINTS,
+            "metadata.code.branch_hint",
             "metadata.code.",
             "metadata.code",
             "name",

@@ -1,60 +1,100 @@
-//! Branch hints, whose offsets follow the instructions of code that changes.
+//! Branch hints and compilation hints, whose offsets follow the instructions of code that changes.
 use crate::context::{Space, each_import};
 use crate::cursor::Cursor;
 use crate::failure::{BadHint, Failure};
 use crate::files::Input;
 use crate::sections::Section;
-use crate::shorten::choice::HINTS;
+use crate::shorten::choice::is_of_hints;
 use crate::shorten::rewrite::Rewrite;
-use dolzhytik::fallible::{self, BranchHint, Global, Imports};
-use dolzhytik::reader::{CodeBody, DecodeError, Instructions, Items, ReadError, Standard};
+use dolzhytik::fallible::{
+    self, BranchHint, CallTarget, CodeHint, CompilationOrder, Global, Imports, InstructionFrequency,
+};
+use dolzhytik::reader::{
+    CodeBody, DecodeError, Instructions, Items, ReadError, Readable, Standard,
+};
 use std::collections::BTreeMap;
 use std::collections::btree_map::RangeMut;
+use std::convert::Infallible;
 use std::iter;
 
 /// For each function and offset of a hint, the offset of the same instruction in the new body, or
 /// `None` if no instruction of the old body is there.
 type Moved = BTreeMap<(u32, u32), Option<u32>>;
 
-/// The hints of the functions of a section.
-type Hints = fallible::Vec<(u32, fallible::Vec<BranchHint>)>;
+/// The numbers of a function in its section, and of a hint in the function.
+type Position = (usize, usize);
 
-/// Writes the branch hints with the offsets that their instructions have in the new code. Nothing
+/// Visits the function and the offset of each hint. The name of the section selects the kind.
+fn each<E>(
+    hints: &mut Items<'_>,
+    visit: impl FnMut(u32, &mut u32, Position) -> Result<(), E>,
+) -> Result<(), E> {
+    match hints {
+        Items::Hints(functions) => each_of(functions, |it| Some(&mut it.branch_func_offset), visit),
+        Items::InstructionFrequencies(functions) => each_of(functions, in_body, visit),
+        Items::CompilationOrders(functions) => each_of(functions, in_body, visit),
+        Items::CallTargets(functions) => each_of(functions, in_body, visit),
+        _ => Ok(()),
+    }
+}
+
+/// The offset of a compilation hint, unless the hint is of the whole function.
+fn in_body<T>(hint: &mut CodeHint<T>) -> Option<&mut u32> {
+    (hint.offset != 0).then_some(&mut hint.offset)
+}
+
+fn each_of<H, E>(
+    functions: &mut [(u32, fallible::Vec<H>)],
+    offset: fn(&mut H) -> Option<&mut u32>,
+    mut visit: impl FnMut(u32, &mut u32, Position) -> Result<(), E>,
+) -> Result<(), E> {
+    for (number, (function, hints)) in functions.iter_mut().enumerate() {
+        for (hint_number, hint) in hints.iter_mut().enumerate() {
+            if let Some(offset) = offset(hint) {
+                visit(*function, offset, (number, hint_number))?;
+            }
+        }
+    }
+    Ok(())
+}
+
+/// Writes the hints with the offsets that their instructions have in the new code. Nothing
 /// changes where no code does.
 pub fn adjust(input: &Input, rewrites: &mut [Rewrite<'_>]) -> Result<(), Failure> {
     let is_code_changed = |it: &Rewrite<'_>| it.section.id() == 10 && it.is_changed();
     if !rewrites.iter().any(is_code_changed) {
         return Ok(());
     }
-    let hinted = hinted(input, rewrites)?;
-    let moved = moved(input, rewrites, offsets_of(&hinted))?;
+    let mut hinted = hinted(input, rewrites)?;
+    let moved = moved(input, rewrites, offsets_of(&mut hinted))?;
     for (number, mut hints) in hinted {
         move_hints(input, &rewrites[number].section, &mut hints, &moved)?;
-        rewrites[number].set(input, &Items::Hints(hints))?;
+        rewrites[number].set(input, &hints)?;
     }
     Ok(())
 }
 
 /// Decodes the hints of each section that has hints, and returns them with its position.
-fn hinted(input: &Input, rewrites: &[Rewrite<'_>]) -> Result<Vec<(usize, Hints)>, Failure> {
+fn hinted<'a>(input: &Input, rewrites: &[Rewrite<'a>]) -> Result<Vec<(usize, Items<'a>)>, Failure> {
     let sections = rewrites.iter().map(|it| &it.section).enumerate();
-    let sections = sections.filter(|(_, section)| section.name() == Some(HINTS));
+    let sections = sections.filter(|(_, section)| is_of_hints(section.name()));
     let decoded = sections.map(|(number, section)| match section.items() {
-        Ok(Items::Hints(hints)) => Ok((number, hints)),
-        // The name selects the kind.
-        Ok(_) => Ok((number, fallible::Vec::new(Global))),
+        Ok(hints) => Ok((number, hints)),
         Err(error) => Err(section.failure(input, error)),
     });
     decoded.collect()
 }
 
 /// The functions and offsets of all hints, whose instructions are not found yet.
-fn offsets_of(hinted: &[(usize, Hints)]) -> Moved {
-    let functions = hinted.iter().flat_map(|(_, hints)| hints);
-    let hints = functions.flat_map(|(function, hints)| hints.iter().map(move |it| (*function, it)));
-    hints
-        .map(|(function, hint)| ((function, hint.branch_func_offset), None))
-        .collect()
+fn offsets_of(hinted: &mut [(usize, Items<'_>)]) -> Moved {
+    let mut moved = Moved::new();
+    for (_, hints) in hinted {
+        let Ok(()) = each(hints, |function, offset, _| {
+            moved.insert((function, *offset), None);
+            Ok::<_, Infallible>(())
+        });
+    }
+    moved
 }
 
 /// Finds the instructions of the hints in all bodies, before and after.
@@ -142,41 +182,34 @@ fn same_instruction(
 fn move_hints(
     input: &Input,
     section: &Section<'_>,
-    hints: &mut Hints,
+    hints: &mut Items<'_>,
     moved: &Moved,
 ) -> Result<(), Failure> {
-    for (number, (function, hints)) in hints.iter_mut().enumerate() {
-        move_in_function(*function, hints, moved).map_err(|(hint_number, at)| {
-            no_instruction(input, section, (number, hint_number), *function, at)
+    let place = match hints {
+        Items::InstructionFrequencies(_) => offset_of::<CodeHint<InstructionFrequency>>,
+        Items::CompilationOrders(_) => offset_of::<CodeHint<CompilationOrder>>,
+        Items::CallTargets(_) => offset_of::<CodeHint<fallible::Vec<CallTarget>>>,
+        _ => offset_of::<BranchHint>,
+    };
+    each(hints, |function, offset, position| {
+        let found = moved.get(&(function, *offset)).copied().flatten();
+        let at = *offset;
+        *offset = found.ok_or_else(|| {
+            no_instruction(input, section, place(section, position), function, at)
         })?;
-    }
-    Ok(())
+        Ok(())
+    })
 }
 
-/// Moves each hint of a function. An error has the number and the offset of a hint that is at no
-/// instruction.
-fn move_in_function(
-    function: u32,
-    hints: &mut [BranchHint],
-    moved: &Moved,
-) -> Result<(), (usize, u32)> {
-    for (number, hint) in hints.iter_mut().enumerate() {
-        let at = hint.branch_func_offset;
-        let found = moved.get(&(function, at)).copied().flatten();
-        hint.branch_func_offset = found.ok_or((number, at))?;
-    }
-    Ok(())
-}
-
-/// The error for the hint of this number, of the functions of this number in the section.
+/// The error for a hint at this offset in the file.
 fn no_instruction(
     input: &Input,
     section: &Section<'_>,
-    (function_number, hint_number): (usize, usize),
+    offset: Result<usize, ReadError>,
     function: u32,
     at: u32,
 ) -> Failure {
-    match offset_of(section, function_number, hint_number) {
+    match offset {
         Err(error) => section.failure(input, error),
         Ok(offset) => Failure::Hint(BadHint {
             input: input.clone(),
@@ -190,16 +223,19 @@ fn no_instruction(
 }
 
 /// Returns the offset of a hint in the file, which the decoded items do not have.
-fn offset_of(section: &Section<'_>, function: usize, hint: usize) -> Result<usize, ReadError> {
+fn offset_of<'a, H: Readable<'a, Global, Standard>>(
+    section: &Section<'a>,
+    (function, hint): Position,
+) -> Result<usize, ReadError> {
     let mut cursor = section.cursor();
     cursor.read::<&str>()?;
     cursor.read::<u32>()?;
     (0..function).try_for_each(|_| {
-        let of_function = cursor.read::<(u32, fallible::Vec<BranchHint>)>();
+        let of_function = cursor.read::<(u32, fallible::Vec<H>)>();
         of_function.map(drop)
     })?;
     // The index of the function, and the number of its hints.
     cursor.read::<(u32, u32)>()?;
-    (0..hint).try_for_each(|_| cursor.read::<BranchHint>().map(drop))?;
+    (0..hint).try_for_each(|_| cursor.read::<H>().map(drop))?;
     Ok(cursor.offset())
 }

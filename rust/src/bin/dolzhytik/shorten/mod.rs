@@ -11,7 +11,7 @@ use crate::json;
 use crate::progress::Progress;
 use crate::sections::{HEADER, Section, sections_of};
 use crate::words::Format;
-use choice::{BUILD_ID, HINTS, Target};
+use choice::{BUILD_ID, Target, is_of_hints};
 pub use choice::{BuildId, Choice};
 use dolzhytik::fallible::{self, Global};
 use dolzhytik::reader::{ModuleFault, Offsets, ReadError, ReadFault, Sections, shorten_module};
@@ -85,17 +85,17 @@ fn savings_of<'a>(input: &Input, before: &'a [u8], after: &[u8]) -> Result<Savin
     Ok(Savings(before.into_iter().map(saving).collect()))
 }
 
-/// Whether the module has branch hints, or a section of a dynamic library, which may have unknown
+/// Whether the module has hints, or a section of a dynamic library, which may have unknown
 /// subsections. A section that has no id or size ends the search: whoever writes the module reports
 /// it.
 fn is_by_section(module: &[u8]) -> bool {
     let sections = Sections::new(Global, module).into_iter().flatten();
     let mut names = sections.map_while(Result::ok).map(|section| section.name());
-    names.any(|name| matches!(name, Some(HINTS | "dylink.0")))
+    names.any(|name| name == Some("dylink.0") || is_of_hints(name))
 }
 
 /// Minimizes a module: by the library's call, which is proved, unless code stays, `build_id` has a
-/// choice of its own, there are branch hints to adjust, or the module is a dynamic library.
+/// choice of its own, there are hints to adjust, or the module is a dynamic library.
 fn shortened<'a>(input: &Input, bytes: &'a [u8], choice: Choice) -> Result<Shortened<'a>, Failure> {
     let is_plain = !choice.keeps_code && choice.build_id.is_none();
     if is_plain && (choice.offsets == Offsets::LeaveOut || !is_by_section(bytes)) {
