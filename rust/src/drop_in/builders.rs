@@ -64,6 +64,8 @@ macro_rules! implement {
     ($name:ident From $module:ident |$built:ident| $value:expr) => {
         #[doc = concat!("Converts a value built by the calls of [`fallible::", stringify!($name), "`](crate::fallible::", stringify!($name), ").")]
         impl From<$crate::$module::$name> for $name {
+            // Inline, so that it is compiled only where it is used.
+            #[inline]
             fn from($built: $crate::$module::$name) -> Self {
                 $name($value)
             }

@@ -3,6 +3,7 @@
 
 use super::Encode;
 use super::bytes::append;
+use super::code::cast;
 use super::short::{EMPTY_BLOCK, Short, put_short};
 use crate::base::{self, CowSlice, HeapType, Lent, RefType, ValType};
 use crate::alloc::{Allocator, Global};
@@ -10,6 +11,7 @@ use crate::insn::{self, BlockType, Catch, Handle, Ieee32, Ieee64, Lane, MemArg, 
 use crate::reader::{Arg, Decoded, Plain, ReadFault};
 use alloc_crate::borrow::Cow;
 use alloc_crate::vec::Vec;
+use core::fmt;
 
 /// An instruction as a value, with its immediates.
 ///
@@ -45,7 +47,7 @@ use alloc_crate::vec::Vec;
 /// ```
 ///
 /// [Instructions]: https://webassembly.github.io/spec/core/binary/instructions.html
-#[derive(Clone, Debug)]
+#[derive(Clone)]
 #[non_exhaustive]
 pub enum Instruction<'a> {
     /// `unreachable` (opcode 0x00), a control instruction that traps.
@@ -2893,6 +2895,905 @@ pub enum Instruction<'a> {
     RefI31Shared,
 }
 
+impl Instruction<'_> {
+    /// Returns the name of the case.
+    #[inline]
+    fn name(&self) -> &'static str {
+        match self {
+            Instruction::Unreachable => "Unreachable",
+            Instruction::Nop => "Nop",
+            Instruction::Block(..) => "Block",
+            Instruction::Loop(..) => "Loop",
+            Instruction::If(..) => "If",
+            Instruction::Else => "Else",
+            Instruction::Try(..) => "Try",
+            Instruction::Catch(..) => "Catch",
+            Instruction::Throw(..) => "Throw",
+            Instruction::Rethrow(..) => "Rethrow",
+            Instruction::ThrowRef => "ThrowRef",
+            Instruction::End => "End",
+            Instruction::Br(..) => "Br",
+            Instruction::BrIf(..) => "BrIf",
+            Instruction::BrTable(..) => "BrTable",
+            Instruction::Return => "Return",
+            Instruction::Call(..) => "Call",
+            Instruction::CallIndirect { .. } => "CallIndirect",
+            Instruction::ReturnCall(..) => "ReturnCall",
+            Instruction::ReturnCallIndirect { .. } => "ReturnCallIndirect",
+            Instruction::CallRef(..) => "CallRef",
+            Instruction::ReturnCallRef(..) => "ReturnCallRef",
+            Instruction::Delegate(..) => "Delegate",
+            Instruction::CatchAll => "CatchAll",
+            Instruction::Drop => "Drop",
+            Instruction::Select => "Select",
+            Instruction::TypedSelect(..) => "TypedSelect",
+            Instruction::TypedSelectMulti(..) => "TypedSelectMulti",
+            Instruction::TryTable(..) => "TryTable",
+            Instruction::LocalGet(..) => "LocalGet",
+            Instruction::LocalSet(..) => "LocalSet",
+            Instruction::LocalTee(..) => "LocalTee",
+            Instruction::GlobalGet(..) => "GlobalGet",
+            Instruction::GlobalSet(..) => "GlobalSet",
+            Instruction::TableGet(..) => "TableGet",
+            Instruction::TableSet(..) => "TableSet",
+            Instruction::I32Load(..) => "I32Load",
+            Instruction::I64Load(..) => "I64Load",
+            Instruction::F32Load(..) => "F32Load",
+            Instruction::F64Load(..) => "F64Load",
+            Instruction::I32Load8S(..) => "I32Load8S",
+            Instruction::I32Load8U(..) => "I32Load8U",
+            Instruction::I32Load16S(..) => "I32Load16S",
+            Instruction::I32Load16U(..) => "I32Load16U",
+            Instruction::I64Load8S(..) => "I64Load8S",
+            Instruction::I64Load8U(..) => "I64Load8U",
+            Instruction::I64Load16S(..) => "I64Load16S",
+            Instruction::I64Load16U(..) => "I64Load16U",
+            Instruction::I64Load32S(..) => "I64Load32S",
+            Instruction::I64Load32U(..) => "I64Load32U",
+            Instruction::I32Store(..) => "I32Store",
+            Instruction::I64Store(..) => "I64Store",
+            Instruction::F32Store(..) => "F32Store",
+            Instruction::F64Store(..) => "F64Store",
+            Instruction::I32Store8(..) => "I32Store8",
+            Instruction::I32Store16(..) => "I32Store16",
+            Instruction::I64Store8(..) => "I64Store8",
+            Instruction::I64Store16(..) => "I64Store16",
+            Instruction::I64Store32(..) => "I64Store32",
+            Instruction::MemorySize(..) => "MemorySize",
+            Instruction::MemoryGrow(..) => "MemoryGrow",
+            Instruction::I32Const(..) => "I32Const",
+            Instruction::I64Const(..) => "I64Const",
+            Instruction::F32Const(..) => "F32Const",
+            Instruction::F64Const(..) => "F64Const",
+            Instruction::I32Eqz => "I32Eqz",
+            Instruction::I32Eq => "I32Eq",
+            Instruction::I32Ne => "I32Ne",
+            Instruction::I32LtS => "I32LtS",
+            Instruction::I32LtU => "I32LtU",
+            Instruction::I32GtS => "I32GtS",
+            Instruction::I32GtU => "I32GtU",
+            Instruction::I32LeS => "I32LeS",
+            Instruction::I32LeU => "I32LeU",
+            Instruction::I32GeS => "I32GeS",
+            Instruction::I32GeU => "I32GeU",
+            Instruction::I64Eqz => "I64Eqz",
+            Instruction::I64Eq => "I64Eq",
+            Instruction::I64Ne => "I64Ne",
+            Instruction::I64LtS => "I64LtS",
+            Instruction::I64LtU => "I64LtU",
+            Instruction::I64GtS => "I64GtS",
+            Instruction::I64GtU => "I64GtU",
+            Instruction::I64LeS => "I64LeS",
+            Instruction::I64LeU => "I64LeU",
+            Instruction::I64GeS => "I64GeS",
+            Instruction::I64GeU => "I64GeU",
+            Instruction::F32Eq => "F32Eq",
+            Instruction::F32Ne => "F32Ne",
+            Instruction::F32Lt => "F32Lt",
+            Instruction::F32Gt => "F32Gt",
+            Instruction::F32Le => "F32Le",
+            Instruction::F32Ge => "F32Ge",
+            Instruction::F64Eq => "F64Eq",
+            Instruction::F64Ne => "F64Ne",
+            Instruction::F64Lt => "F64Lt",
+            Instruction::F64Gt => "F64Gt",
+            Instruction::F64Le => "F64Le",
+            Instruction::F64Ge => "F64Ge",
+            Instruction::I32Clz => "I32Clz",
+            Instruction::I32Ctz => "I32Ctz",
+            Instruction::I32Popcnt => "I32Popcnt",
+            Instruction::I32Add => "I32Add",
+            Instruction::I32Sub => "I32Sub",
+            Instruction::I32Mul => "I32Mul",
+            Instruction::I32DivS => "I32DivS",
+            Instruction::I32DivU => "I32DivU",
+            Instruction::I32RemS => "I32RemS",
+            Instruction::I32RemU => "I32RemU",
+            Instruction::I32And => "I32And",
+            Instruction::I32Or => "I32Or",
+            Instruction::I32Xor => "I32Xor",
+            Instruction::I32Shl => "I32Shl",
+            Instruction::I32ShrS => "I32ShrS",
+            Instruction::I32ShrU => "I32ShrU",
+            Instruction::I32Rotl => "I32Rotl",
+            Instruction::I32Rotr => "I32Rotr",
+            Instruction::I64Clz => "I64Clz",
+            Instruction::I64Ctz => "I64Ctz",
+            Instruction::I64Popcnt => "I64Popcnt",
+            Instruction::I64Add => "I64Add",
+            Instruction::I64Sub => "I64Sub",
+            Instruction::I64Mul => "I64Mul",
+            Instruction::I64DivS => "I64DivS",
+            Instruction::I64DivU => "I64DivU",
+            Instruction::I64RemS => "I64RemS",
+            Instruction::I64RemU => "I64RemU",
+            Instruction::I64And => "I64And",
+            Instruction::I64Or => "I64Or",
+            Instruction::I64Xor => "I64Xor",
+            Instruction::I64Shl => "I64Shl",
+            Instruction::I64ShrS => "I64ShrS",
+            Instruction::I64ShrU => "I64ShrU",
+            Instruction::I64Rotl => "I64Rotl",
+            Instruction::I64Rotr => "I64Rotr",
+            Instruction::F32Abs => "F32Abs",
+            Instruction::F32Neg => "F32Neg",
+            Instruction::F32Ceil => "F32Ceil",
+            Instruction::F32Floor => "F32Floor",
+            Instruction::F32Trunc => "F32Trunc",
+            Instruction::F32Nearest => "F32Nearest",
+            Instruction::F32Sqrt => "F32Sqrt",
+            Instruction::F32Add => "F32Add",
+            Instruction::F32Sub => "F32Sub",
+            Instruction::F32Mul => "F32Mul",
+            Instruction::F32Div => "F32Div",
+            Instruction::F32Min => "F32Min",
+            Instruction::F32Max => "F32Max",
+            Instruction::F32Copysign => "F32Copysign",
+            Instruction::F64Abs => "F64Abs",
+            Instruction::F64Neg => "F64Neg",
+            Instruction::F64Ceil => "F64Ceil",
+            Instruction::F64Floor => "F64Floor",
+            Instruction::F64Trunc => "F64Trunc",
+            Instruction::F64Nearest => "F64Nearest",
+            Instruction::F64Sqrt => "F64Sqrt",
+            Instruction::F64Add => "F64Add",
+            Instruction::F64Sub => "F64Sub",
+            Instruction::F64Mul => "F64Mul",
+            Instruction::F64Div => "F64Div",
+            Instruction::F64Min => "F64Min",
+            Instruction::F64Max => "F64Max",
+            Instruction::F64Copysign => "F64Copysign",
+            Instruction::I32WrapI64 => "I32WrapI64",
+            Instruction::I32TruncF32S => "I32TruncF32S",
+            Instruction::I32TruncF32U => "I32TruncF32U",
+            Instruction::I32TruncF64S => "I32TruncF64S",
+            Instruction::I32TruncF64U => "I32TruncF64U",
+            Instruction::I64ExtendI32S => "I64ExtendI32S",
+            Instruction::I64ExtendI32U => "I64ExtendI32U",
+            Instruction::I64TruncF32S => "I64TruncF32S",
+            Instruction::I64TruncF32U => "I64TruncF32U",
+            Instruction::I64TruncF64S => "I64TruncF64S",
+            Instruction::I64TruncF64U => "I64TruncF64U",
+            Instruction::F32ConvertI32S => "F32ConvertI32S",
+            Instruction::F32ConvertI32U => "F32ConvertI32U",
+            Instruction::F32ConvertI64S => "F32ConvertI64S",
+            Instruction::F32ConvertI64U => "F32ConvertI64U",
+            Instruction::F32DemoteF64 => "F32DemoteF64",
+            Instruction::F64ConvertI32S => "F64ConvertI32S",
+            Instruction::F64ConvertI32U => "F64ConvertI32U",
+            Instruction::F64ConvertI64S => "F64ConvertI64S",
+            Instruction::F64ConvertI64U => "F64ConvertI64U",
+            Instruction::F64PromoteF32 => "F64PromoteF32",
+            Instruction::I32ReinterpretF32 => "I32ReinterpretF32",
+            Instruction::I64ReinterpretF64 => "I64ReinterpretF64",
+            Instruction::F32ReinterpretI32 => "F32ReinterpretI32",
+            Instruction::F64ReinterpretI64 => "F64ReinterpretI64",
+            Instruction::I32Extend8S => "I32Extend8S",
+            Instruction::I32Extend16S => "I32Extend16S",
+            Instruction::I64Extend8S => "I64Extend8S",
+            Instruction::I64Extend16S => "I64Extend16S",
+            Instruction::I64Extend32S => "I64Extend32S",
+            Instruction::RefNull(..) => "RefNull",
+            Instruction::RefIsNull => "RefIsNull",
+            Instruction::RefFunc(..) => "RefFunc",
+            Instruction::RefEq => "RefEq",
+            Instruction::RefAsNonNull => "RefAsNonNull",
+            Instruction::BrOnNull(..) => "BrOnNull",
+            Instruction::BrOnNonNull(..) => "BrOnNonNull",
+            Instruction::ContNew(..) => "ContNew",
+            Instruction::ContBind { .. } => "ContBind",
+            Instruction::Suspend(..) => "Suspend",
+            Instruction::Resume { .. } => "Resume",
+            Instruction::ResumeThrow { .. } => "ResumeThrow",
+            Instruction::ResumeThrowRef { .. } => "ResumeThrowRef",
+            Instruction::Switch { .. } => "Switch",
+            Instruction::StructNew(..) => "StructNew",
+            Instruction::StructNewDefault(..) => "StructNewDefault",
+            Instruction::StructGet { .. } => "StructGet",
+            Instruction::StructGetS { .. } => "StructGetS",
+            Instruction::StructGetU { .. } => "StructGetU",
+            Instruction::StructSet { .. } => "StructSet",
+            Instruction::ArrayNew(..) => "ArrayNew",
+            Instruction::ArrayNewDefault(..) => "ArrayNewDefault",
+            Instruction::ArrayNewFixed { .. } => "ArrayNewFixed",
+            Instruction::ArrayNewData { .. } => "ArrayNewData",
+            Instruction::ArrayNewElem { .. } => "ArrayNewElem",
+            Instruction::ArrayGet(..) => "ArrayGet",
+            Instruction::ArrayGetS(..) => "ArrayGetS",
+            Instruction::ArrayGetU(..) => "ArrayGetU",
+            Instruction::ArraySet(..) => "ArraySet",
+            Instruction::ArrayLen => "ArrayLen",
+            Instruction::ArrayFill(..) => "ArrayFill",
+            Instruction::ArrayCopy { .. } => "ArrayCopy",
+            Instruction::ArrayInitData { .. } => "ArrayInitData",
+            Instruction::ArrayInitElem { .. } => "ArrayInitElem",
+            Instruction::RefTestNonNull(..) => "RefTestNonNull",
+            Instruction::RefTestNullable(..) => "RefTestNullable",
+            Instruction::RefCastNonNull(..) => "RefCastNonNull",
+            Instruction::RefCastNullable(..) => "RefCastNullable",
+            Instruction::BrOnCast { .. } => "BrOnCast",
+            Instruction::BrOnCastFail { .. } => "BrOnCastFail",
+            Instruction::AnyConvertExtern => "AnyConvertExtern",
+            Instruction::ExternConvertAny => "ExternConvertAny",
+            Instruction::RefI31 => "RefI31",
+            Instruction::I31GetS => "I31GetS",
+            Instruction::I31GetU => "I31GetU",
+            Instruction::StructNewDesc(..) => "StructNewDesc",
+            Instruction::StructNewDefaultDesc(..) => "StructNewDefaultDesc",
+            Instruction::RefGetDesc(..) => "RefGetDesc",
+            Instruction::RefCastDescEqNonNull(..) => "RefCastDescEqNonNull",
+            Instruction::RefCastDescEqNullable(..) => "RefCastDescEqNullable",
+            Instruction::BrOnCastDescEq { .. } => "BrOnCastDescEq",
+            Instruction::BrOnCastDescEqFail { .. } => "BrOnCastDescEqFail",
+            Instruction::I32TruncSatF32S => "I32TruncSatF32S",
+            Instruction::I32TruncSatF32U => "I32TruncSatF32U",
+            Instruction::I32TruncSatF64S => "I32TruncSatF64S",
+            Instruction::I32TruncSatF64U => "I32TruncSatF64U",
+            Instruction::I64TruncSatF32S => "I64TruncSatF32S",
+            Instruction::I64TruncSatF32U => "I64TruncSatF32U",
+            Instruction::I64TruncSatF64S => "I64TruncSatF64S",
+            Instruction::I64TruncSatF64U => "I64TruncSatF64U",
+            Instruction::MemoryInit { .. } => "MemoryInit",
+            Instruction::DataDrop(..) => "DataDrop",
+            Instruction::MemoryCopy { .. } => "MemoryCopy",
+            Instruction::MemoryFill(..) => "MemoryFill",
+            Instruction::TableInit { .. } => "TableInit",
+            Instruction::ElemDrop(..) => "ElemDrop",
+            Instruction::TableCopy { .. } => "TableCopy",
+            Instruction::TableGrow(..) => "TableGrow",
+            Instruction::TableSize(..) => "TableSize",
+            Instruction::TableFill(..) => "TableFill",
+            Instruction::MemoryDiscard(..) => "MemoryDiscard",
+            Instruction::I64Add128 => "I64Add128",
+            Instruction::I64Sub128 => "I64Sub128",
+            Instruction::I64MulWideS => "I64MulWideS",
+            Instruction::I64MulWideU => "I64MulWideU",
+            Instruction::V128Load(..) => "V128Load",
+            Instruction::V128Load8x8S(..) => "V128Load8x8S",
+            Instruction::V128Load8x8U(..) => "V128Load8x8U",
+            Instruction::V128Load16x4S(..) => "V128Load16x4S",
+            Instruction::V128Load16x4U(..) => "V128Load16x4U",
+            Instruction::V128Load32x2S(..) => "V128Load32x2S",
+            Instruction::V128Load32x2U(..) => "V128Load32x2U",
+            Instruction::V128Load8Splat(..) => "V128Load8Splat",
+            Instruction::V128Load16Splat(..) => "V128Load16Splat",
+            Instruction::V128Load32Splat(..) => "V128Load32Splat",
+            Instruction::V128Load64Splat(..) => "V128Load64Splat",
+            Instruction::V128Store(..) => "V128Store",
+            Instruction::V128Const(..) => "V128Const",
+            Instruction::I8x16Shuffle(..) => "I8x16Shuffle",
+            Instruction::I8x16Swizzle => "I8x16Swizzle",
+            Instruction::I8x16Splat => "I8x16Splat",
+            Instruction::I16x8Splat => "I16x8Splat",
+            Instruction::I32x4Splat => "I32x4Splat",
+            Instruction::I64x2Splat => "I64x2Splat",
+            Instruction::F32x4Splat => "F32x4Splat",
+            Instruction::F64x2Splat => "F64x2Splat",
+            Instruction::I8x16ExtractLaneS(..) => "I8x16ExtractLaneS",
+            Instruction::I8x16ExtractLaneU(..) => "I8x16ExtractLaneU",
+            Instruction::I8x16ReplaceLane(..) => "I8x16ReplaceLane",
+            Instruction::I16x8ExtractLaneS(..) => "I16x8ExtractLaneS",
+            Instruction::I16x8ExtractLaneU(..) => "I16x8ExtractLaneU",
+            Instruction::I16x8ReplaceLane(..) => "I16x8ReplaceLane",
+            Instruction::I32x4ExtractLane(..) => "I32x4ExtractLane",
+            Instruction::I32x4ReplaceLane(..) => "I32x4ReplaceLane",
+            Instruction::I64x2ExtractLane(..) => "I64x2ExtractLane",
+            Instruction::I64x2ReplaceLane(..) => "I64x2ReplaceLane",
+            Instruction::F32x4ExtractLane(..) => "F32x4ExtractLane",
+            Instruction::F32x4ReplaceLane(..) => "F32x4ReplaceLane",
+            Instruction::F64x2ExtractLane(..) => "F64x2ExtractLane",
+            Instruction::F64x2ReplaceLane(..) => "F64x2ReplaceLane",
+            Instruction::I8x16Eq => "I8x16Eq",
+            Instruction::I8x16Ne => "I8x16Ne",
+            Instruction::I8x16LtS => "I8x16LtS",
+            Instruction::I8x16LtU => "I8x16LtU",
+            Instruction::I8x16GtS => "I8x16GtS",
+            Instruction::I8x16GtU => "I8x16GtU",
+            Instruction::I8x16LeS => "I8x16LeS",
+            Instruction::I8x16LeU => "I8x16LeU",
+            Instruction::I8x16GeS => "I8x16GeS",
+            Instruction::I8x16GeU => "I8x16GeU",
+            Instruction::I16x8Eq => "I16x8Eq",
+            Instruction::I16x8Ne => "I16x8Ne",
+            Instruction::I16x8LtS => "I16x8LtS",
+            Instruction::I16x8LtU => "I16x8LtU",
+            Instruction::I16x8GtS => "I16x8GtS",
+            Instruction::I16x8GtU => "I16x8GtU",
+            Instruction::I16x8LeS => "I16x8LeS",
+            Instruction::I16x8LeU => "I16x8LeU",
+            Instruction::I16x8GeS => "I16x8GeS",
+            Instruction::I16x8GeU => "I16x8GeU",
+            Instruction::I32x4Eq => "I32x4Eq",
+            Instruction::I32x4Ne => "I32x4Ne",
+            Instruction::I32x4LtS => "I32x4LtS",
+            Instruction::I32x4LtU => "I32x4LtU",
+            Instruction::I32x4GtS => "I32x4GtS",
+            Instruction::I32x4GtU => "I32x4GtU",
+            Instruction::I32x4LeS => "I32x4LeS",
+            Instruction::I32x4LeU => "I32x4LeU",
+            Instruction::I32x4GeS => "I32x4GeS",
+            Instruction::I32x4GeU => "I32x4GeU",
+            Instruction::F32x4Eq => "F32x4Eq",
+            Instruction::F32x4Ne => "F32x4Ne",
+            Instruction::F32x4Lt => "F32x4Lt",
+            Instruction::F32x4Gt => "F32x4Gt",
+            Instruction::F32x4Le => "F32x4Le",
+            Instruction::F32x4Ge => "F32x4Ge",
+            Instruction::F64x2Eq => "F64x2Eq",
+            Instruction::F64x2Ne => "F64x2Ne",
+            Instruction::F64x2Lt => "F64x2Lt",
+            Instruction::F64x2Gt => "F64x2Gt",
+            Instruction::F64x2Le => "F64x2Le",
+            Instruction::F64x2Ge => "F64x2Ge",
+            Instruction::V128Not => "V128Not",
+            Instruction::V128And => "V128And",
+            Instruction::V128AndNot => "V128AndNot",
+            Instruction::V128Or => "V128Or",
+            Instruction::V128Xor => "V128Xor",
+            Instruction::V128Bitselect => "V128Bitselect",
+            Instruction::V128AnyTrue => "V128AnyTrue",
+            Instruction::V128Load8Lane { .. } => "V128Load8Lane",
+            Instruction::V128Load16Lane { .. } => "V128Load16Lane",
+            Instruction::V128Load32Lane { .. } => "V128Load32Lane",
+            Instruction::V128Load64Lane { .. } => "V128Load64Lane",
+            Instruction::V128Store8Lane { .. } => "V128Store8Lane",
+            Instruction::V128Store16Lane { .. } => "V128Store16Lane",
+            Instruction::V128Store32Lane { .. } => "V128Store32Lane",
+            Instruction::V128Store64Lane { .. } => "V128Store64Lane",
+            Instruction::V128Load32Zero(..) => "V128Load32Zero",
+            Instruction::V128Load64Zero(..) => "V128Load64Zero",
+            Instruction::F32x4DemoteF64x2Zero => "F32x4DemoteF64x2Zero",
+            Instruction::F64x2PromoteLowF32x4 => "F64x2PromoteLowF32x4",
+            Instruction::I8x16Abs => "I8x16Abs",
+            Instruction::I8x16Neg => "I8x16Neg",
+            Instruction::I8x16Popcnt => "I8x16Popcnt",
+            Instruction::I8x16AllTrue => "I8x16AllTrue",
+            Instruction::I8x16Bitmask => "I8x16Bitmask",
+            Instruction::I8x16NarrowI16x8S => "I8x16NarrowI16x8S",
+            Instruction::I8x16NarrowI16x8U => "I8x16NarrowI16x8U",
+            Instruction::F32x4Ceil => "F32x4Ceil",
+            Instruction::F32x4Floor => "F32x4Floor",
+            Instruction::F32x4Trunc => "F32x4Trunc",
+            Instruction::F32x4Nearest => "F32x4Nearest",
+            Instruction::I8x16Shl => "I8x16Shl",
+            Instruction::I8x16ShrS => "I8x16ShrS",
+            Instruction::I8x16ShrU => "I8x16ShrU",
+            Instruction::I8x16Add => "I8x16Add",
+            Instruction::I8x16AddSatS => "I8x16AddSatS",
+            Instruction::I8x16AddSatU => "I8x16AddSatU",
+            Instruction::I8x16Sub => "I8x16Sub",
+            Instruction::I8x16SubSatS => "I8x16SubSatS",
+            Instruction::I8x16SubSatU => "I8x16SubSatU",
+            Instruction::F64x2Ceil => "F64x2Ceil",
+            Instruction::F64x2Floor => "F64x2Floor",
+            Instruction::I8x16MinS => "I8x16MinS",
+            Instruction::I8x16MinU => "I8x16MinU",
+            Instruction::I8x16MaxS => "I8x16MaxS",
+            Instruction::I8x16MaxU => "I8x16MaxU",
+            Instruction::F64x2Trunc => "F64x2Trunc",
+            Instruction::I8x16AvgrU => "I8x16AvgrU",
+            Instruction::I16x8ExtAddPairwiseI8x16S => "I16x8ExtAddPairwiseI8x16S",
+            Instruction::I16x8ExtAddPairwiseI8x16U => "I16x8ExtAddPairwiseI8x16U",
+            Instruction::I32x4ExtAddPairwiseI16x8S => "I32x4ExtAddPairwiseI16x8S",
+            Instruction::I32x4ExtAddPairwiseI16x8U => "I32x4ExtAddPairwiseI16x8U",
+            Instruction::I16x8Abs => "I16x8Abs",
+            Instruction::I16x8Neg => "I16x8Neg",
+            Instruction::I16x8Q15MulrSatS => "I16x8Q15MulrSatS",
+            Instruction::I16x8AllTrue => "I16x8AllTrue",
+            Instruction::I16x8Bitmask => "I16x8Bitmask",
+            Instruction::I16x8NarrowI32x4S => "I16x8NarrowI32x4S",
+            Instruction::I16x8NarrowI32x4U => "I16x8NarrowI32x4U",
+            Instruction::I16x8ExtendLowI8x16S => "I16x8ExtendLowI8x16S",
+            Instruction::I16x8ExtendHighI8x16S => "I16x8ExtendHighI8x16S",
+            Instruction::I16x8ExtendLowI8x16U => "I16x8ExtendLowI8x16U",
+            Instruction::I16x8ExtendHighI8x16U => "I16x8ExtendHighI8x16U",
+            Instruction::I16x8Shl => "I16x8Shl",
+            Instruction::I16x8ShrS => "I16x8ShrS",
+            Instruction::I16x8ShrU => "I16x8ShrU",
+            Instruction::I16x8Add => "I16x8Add",
+            Instruction::I16x8AddSatS => "I16x8AddSatS",
+            Instruction::I16x8AddSatU => "I16x8AddSatU",
+            Instruction::I16x8Sub => "I16x8Sub",
+            Instruction::I16x8SubSatS => "I16x8SubSatS",
+            Instruction::I16x8SubSatU => "I16x8SubSatU",
+            Instruction::F64x2Nearest => "F64x2Nearest",
+            Instruction::I16x8Mul => "I16x8Mul",
+            Instruction::I16x8MinS => "I16x8MinS",
+            Instruction::I16x8MinU => "I16x8MinU",
+            Instruction::I16x8MaxS => "I16x8MaxS",
+            Instruction::I16x8MaxU => "I16x8MaxU",
+            Instruction::I16x8AvgrU => "I16x8AvgrU",
+            Instruction::I16x8ExtMulLowI8x16S => "I16x8ExtMulLowI8x16S",
+            Instruction::I16x8ExtMulHighI8x16S => "I16x8ExtMulHighI8x16S",
+            Instruction::I16x8ExtMulLowI8x16U => "I16x8ExtMulLowI8x16U",
+            Instruction::I16x8ExtMulHighI8x16U => "I16x8ExtMulHighI8x16U",
+            Instruction::I32x4Abs => "I32x4Abs",
+            Instruction::I32x4Neg => "I32x4Neg",
+            Instruction::I32x4AllTrue => "I32x4AllTrue",
+            Instruction::I32x4Bitmask => "I32x4Bitmask",
+            Instruction::I32x4ExtendLowI16x8S => "I32x4ExtendLowI16x8S",
+            Instruction::I32x4ExtendHighI16x8S => "I32x4ExtendHighI16x8S",
+            Instruction::I32x4ExtendLowI16x8U => "I32x4ExtendLowI16x8U",
+            Instruction::I32x4ExtendHighI16x8U => "I32x4ExtendHighI16x8U",
+            Instruction::I32x4Shl => "I32x4Shl",
+            Instruction::I32x4ShrS => "I32x4ShrS",
+            Instruction::I32x4ShrU => "I32x4ShrU",
+            Instruction::I32x4Add => "I32x4Add",
+            Instruction::I32x4Sub => "I32x4Sub",
+            Instruction::I32x4Mul => "I32x4Mul",
+            Instruction::I32x4MinS => "I32x4MinS",
+            Instruction::I32x4MinU => "I32x4MinU",
+            Instruction::I32x4MaxS => "I32x4MaxS",
+            Instruction::I32x4MaxU => "I32x4MaxU",
+            Instruction::I32x4DotI16x8S => "I32x4DotI16x8S",
+            Instruction::I32x4ExtMulLowI16x8S => "I32x4ExtMulLowI16x8S",
+            Instruction::I32x4ExtMulHighI16x8S => "I32x4ExtMulHighI16x8S",
+            Instruction::I32x4ExtMulLowI16x8U => "I32x4ExtMulLowI16x8U",
+            Instruction::I32x4ExtMulHighI16x8U => "I32x4ExtMulHighI16x8U",
+            Instruction::I64x2Abs => "I64x2Abs",
+            Instruction::I64x2Neg => "I64x2Neg",
+            Instruction::I64x2AllTrue => "I64x2AllTrue",
+            Instruction::I64x2Bitmask => "I64x2Bitmask",
+            Instruction::I64x2ExtendLowI32x4S => "I64x2ExtendLowI32x4S",
+            Instruction::I64x2ExtendHighI32x4S => "I64x2ExtendHighI32x4S",
+            Instruction::I64x2ExtendLowI32x4U => "I64x2ExtendLowI32x4U",
+            Instruction::I64x2ExtendHighI32x4U => "I64x2ExtendHighI32x4U",
+            Instruction::I64x2Shl => "I64x2Shl",
+            Instruction::I64x2ShrS => "I64x2ShrS",
+            Instruction::I64x2ShrU => "I64x2ShrU",
+            Instruction::I64x2Add => "I64x2Add",
+            Instruction::I64x2Sub => "I64x2Sub",
+            Instruction::I64x2Mul => "I64x2Mul",
+            Instruction::I64x2Eq => "I64x2Eq",
+            Instruction::I64x2Ne => "I64x2Ne",
+            Instruction::I64x2LtS => "I64x2LtS",
+            Instruction::I64x2GtS => "I64x2GtS",
+            Instruction::I64x2LeS => "I64x2LeS",
+            Instruction::I64x2GeS => "I64x2GeS",
+            Instruction::I64x2ExtMulLowI32x4S => "I64x2ExtMulLowI32x4S",
+            Instruction::I64x2ExtMulHighI32x4S => "I64x2ExtMulHighI32x4S",
+            Instruction::I64x2ExtMulLowI32x4U => "I64x2ExtMulLowI32x4U",
+            Instruction::I64x2ExtMulHighI32x4U => "I64x2ExtMulHighI32x4U",
+            Instruction::F32x4Abs => "F32x4Abs",
+            Instruction::F32x4Neg => "F32x4Neg",
+            Instruction::F32x4Sqrt => "F32x4Sqrt",
+            Instruction::F32x4Add => "F32x4Add",
+            Instruction::F32x4Sub => "F32x4Sub",
+            Instruction::F32x4Mul => "F32x4Mul",
+            Instruction::F32x4Div => "F32x4Div",
+            Instruction::F32x4Min => "F32x4Min",
+            Instruction::F32x4Max => "F32x4Max",
+            Instruction::F32x4PMin => "F32x4PMin",
+            Instruction::F32x4PMax => "F32x4PMax",
+            Instruction::F64x2Abs => "F64x2Abs",
+            Instruction::F64x2Neg => "F64x2Neg",
+            Instruction::F64x2Sqrt => "F64x2Sqrt",
+            Instruction::F64x2Add => "F64x2Add",
+            Instruction::F64x2Sub => "F64x2Sub",
+            Instruction::F64x2Mul => "F64x2Mul",
+            Instruction::F64x2Div => "F64x2Div",
+            Instruction::F64x2Min => "F64x2Min",
+            Instruction::F64x2Max => "F64x2Max",
+            Instruction::F64x2PMin => "F64x2PMin",
+            Instruction::F64x2PMax => "F64x2PMax",
+            Instruction::I32x4TruncSatF32x4S => "I32x4TruncSatF32x4S",
+            Instruction::I32x4TruncSatF32x4U => "I32x4TruncSatF32x4U",
+            Instruction::F32x4ConvertI32x4S => "F32x4ConvertI32x4S",
+            Instruction::F32x4ConvertI32x4U => "F32x4ConvertI32x4U",
+            Instruction::I32x4TruncSatF64x2SZero => "I32x4TruncSatF64x2SZero",
+            Instruction::I32x4TruncSatF64x2UZero => "I32x4TruncSatF64x2UZero",
+            Instruction::F64x2ConvertLowI32x4S => "F64x2ConvertLowI32x4S",
+            Instruction::F64x2ConvertLowI32x4U => "F64x2ConvertLowI32x4U",
+            Instruction::I8x16RelaxedSwizzle => "I8x16RelaxedSwizzle",
+            Instruction::I32x4RelaxedTruncF32x4S => "I32x4RelaxedTruncF32x4S",
+            Instruction::I32x4RelaxedTruncF32x4U => "I32x4RelaxedTruncF32x4U",
+            Instruction::I32x4RelaxedTruncF64x2SZero => "I32x4RelaxedTruncF64x2SZero",
+            Instruction::I32x4RelaxedTruncF64x2UZero => "I32x4RelaxedTruncF64x2UZero",
+            Instruction::F32x4RelaxedMadd => "F32x4RelaxedMadd",
+            Instruction::F32x4RelaxedNmadd => "F32x4RelaxedNmadd",
+            Instruction::F64x2RelaxedMadd => "F64x2RelaxedMadd",
+            Instruction::F64x2RelaxedNmadd => "F64x2RelaxedNmadd",
+            Instruction::I8x16RelaxedLaneselect => "I8x16RelaxedLaneselect",
+            Instruction::I16x8RelaxedLaneselect => "I16x8RelaxedLaneselect",
+            Instruction::I32x4RelaxedLaneselect => "I32x4RelaxedLaneselect",
+            Instruction::I64x2RelaxedLaneselect => "I64x2RelaxedLaneselect",
+            Instruction::F32x4RelaxedMin => "F32x4RelaxedMin",
+            Instruction::F32x4RelaxedMax => "F32x4RelaxedMax",
+            Instruction::F64x2RelaxedMin => "F64x2RelaxedMin",
+            Instruction::F64x2RelaxedMax => "F64x2RelaxedMax",
+            Instruction::I16x8RelaxedQ15mulrS => "I16x8RelaxedQ15mulrS",
+            Instruction::I16x8RelaxedDotI8x16I7x16S => "I16x8RelaxedDotI8x16I7x16S",
+            Instruction::I32x4RelaxedDotI8x16I7x16AddS => "I32x4RelaxedDotI8x16I7x16AddS",
+            Instruction::MemoryAtomicNotify(..) => "MemoryAtomicNotify",
+            Instruction::MemoryAtomicWait32(..) => "MemoryAtomicWait32",
+            Instruction::MemoryAtomicWait64(..) => "MemoryAtomicWait64",
+            Instruction::AtomicFence(..) => "AtomicFence",
+            Instruction::Pause => "Pause",
+            Instruction::I32AtomicLoad(..) => "I32AtomicLoad",
+            Instruction::I64AtomicLoad(..) => "I64AtomicLoad",
+            Instruction::I32AtomicLoad8U(..) => "I32AtomicLoad8U",
+            Instruction::I32AtomicLoad16U(..) => "I32AtomicLoad16U",
+            Instruction::I64AtomicLoad8U(..) => "I64AtomicLoad8U",
+            Instruction::I64AtomicLoad16U(..) => "I64AtomicLoad16U",
+            Instruction::I64AtomicLoad32U(..) => "I64AtomicLoad32U",
+            Instruction::I32AtomicStore(..) => "I32AtomicStore",
+            Instruction::I64AtomicStore(..) => "I64AtomicStore",
+            Instruction::I32AtomicStore8(..) => "I32AtomicStore8",
+            Instruction::I32AtomicStore16(..) => "I32AtomicStore16",
+            Instruction::I64AtomicStore8(..) => "I64AtomicStore8",
+            Instruction::I64AtomicStore16(..) => "I64AtomicStore16",
+            Instruction::I64AtomicStore32(..) => "I64AtomicStore32",
+            Instruction::I32AtomicRmwAdd(..) => "I32AtomicRmwAdd",
+            Instruction::I64AtomicRmwAdd(..) => "I64AtomicRmwAdd",
+            Instruction::I32AtomicRmw8AddU(..) => "I32AtomicRmw8AddU",
+            Instruction::I32AtomicRmw16AddU(..) => "I32AtomicRmw16AddU",
+            Instruction::I64AtomicRmw8AddU(..) => "I64AtomicRmw8AddU",
+            Instruction::I64AtomicRmw16AddU(..) => "I64AtomicRmw16AddU",
+            Instruction::I64AtomicRmw32AddU(..) => "I64AtomicRmw32AddU",
+            Instruction::I32AtomicRmwSub(..) => "I32AtomicRmwSub",
+            Instruction::I64AtomicRmwSub(..) => "I64AtomicRmwSub",
+            Instruction::I32AtomicRmw8SubU(..) => "I32AtomicRmw8SubU",
+            Instruction::I32AtomicRmw16SubU(..) => "I32AtomicRmw16SubU",
+            Instruction::I64AtomicRmw8SubU(..) => "I64AtomicRmw8SubU",
+            Instruction::I64AtomicRmw16SubU(..) => "I64AtomicRmw16SubU",
+            Instruction::I64AtomicRmw32SubU(..) => "I64AtomicRmw32SubU",
+            Instruction::I32AtomicRmwAnd(..) => "I32AtomicRmwAnd",
+            Instruction::I64AtomicRmwAnd(..) => "I64AtomicRmwAnd",
+            Instruction::I32AtomicRmw8AndU(..) => "I32AtomicRmw8AndU",
+            Instruction::I32AtomicRmw16AndU(..) => "I32AtomicRmw16AndU",
+            Instruction::I64AtomicRmw8AndU(..) => "I64AtomicRmw8AndU",
+            Instruction::I64AtomicRmw16AndU(..) => "I64AtomicRmw16AndU",
+            Instruction::I64AtomicRmw32AndU(..) => "I64AtomicRmw32AndU",
+            Instruction::I32AtomicRmwOr(..) => "I32AtomicRmwOr",
+            Instruction::I64AtomicRmwOr(..) => "I64AtomicRmwOr",
+            Instruction::I32AtomicRmw8OrU(..) => "I32AtomicRmw8OrU",
+            Instruction::I32AtomicRmw16OrU(..) => "I32AtomicRmw16OrU",
+            Instruction::I64AtomicRmw8OrU(..) => "I64AtomicRmw8OrU",
+            Instruction::I64AtomicRmw16OrU(..) => "I64AtomicRmw16OrU",
+            Instruction::I64AtomicRmw32OrU(..) => "I64AtomicRmw32OrU",
+            Instruction::I32AtomicRmwXor(..) => "I32AtomicRmwXor",
+            Instruction::I64AtomicRmwXor(..) => "I64AtomicRmwXor",
+            Instruction::I32AtomicRmw8XorU(..) => "I32AtomicRmw8XorU",
+            Instruction::I32AtomicRmw16XorU(..) => "I32AtomicRmw16XorU",
+            Instruction::I64AtomicRmw8XorU(..) => "I64AtomicRmw8XorU",
+            Instruction::I64AtomicRmw16XorU(..) => "I64AtomicRmw16XorU",
+            Instruction::I64AtomicRmw32XorU(..) => "I64AtomicRmw32XorU",
+            Instruction::I32AtomicRmwXchg(..) => "I32AtomicRmwXchg",
+            Instruction::I64AtomicRmwXchg(..) => "I64AtomicRmwXchg",
+            Instruction::I32AtomicRmw8XchgU(..) => "I32AtomicRmw8XchgU",
+            Instruction::I32AtomicRmw16XchgU(..) => "I32AtomicRmw16XchgU",
+            Instruction::I64AtomicRmw8XchgU(..) => "I64AtomicRmw8XchgU",
+            Instruction::I64AtomicRmw16XchgU(..) => "I64AtomicRmw16XchgU",
+            Instruction::I64AtomicRmw32XchgU(..) => "I64AtomicRmw32XchgU",
+            Instruction::I32AtomicRmwCmpxchg(..) => "I32AtomicRmwCmpxchg",
+            Instruction::I64AtomicRmwCmpxchg(..) => "I64AtomicRmwCmpxchg",
+            Instruction::I32AtomicRmw8CmpxchgU(..) => "I32AtomicRmw8CmpxchgU",
+            Instruction::I32AtomicRmw16CmpxchgU(..) => "I32AtomicRmw16CmpxchgU",
+            Instruction::I64AtomicRmw8CmpxchgU(..) => "I64AtomicRmw8CmpxchgU",
+            Instruction::I64AtomicRmw16CmpxchgU(..) => "I64AtomicRmw16CmpxchgU",
+            Instruction::I64AtomicRmw32CmpxchgU(..) => "I64AtomicRmw32CmpxchgU",
+            Instruction::GlobalAtomicGet { .. } => "GlobalAtomicGet",
+            Instruction::GlobalAtomicSet { .. } => "GlobalAtomicSet",
+            Instruction::GlobalAtomicRmwAdd { .. } => "GlobalAtomicRmwAdd",
+            Instruction::GlobalAtomicRmwSub { .. } => "GlobalAtomicRmwSub",
+            Instruction::GlobalAtomicRmwAnd { .. } => "GlobalAtomicRmwAnd",
+            Instruction::GlobalAtomicRmwOr { .. } => "GlobalAtomicRmwOr",
+            Instruction::GlobalAtomicRmwXor { .. } => "GlobalAtomicRmwXor",
+            Instruction::GlobalAtomicRmwXchg { .. } => "GlobalAtomicRmwXchg",
+            Instruction::GlobalAtomicRmwCmpxchg { .. } => "GlobalAtomicRmwCmpxchg",
+            Instruction::TableAtomicGet { .. } => "TableAtomicGet",
+            Instruction::TableAtomicSet { .. } => "TableAtomicSet",
+            Instruction::TableAtomicRmwXchg { .. } => "TableAtomicRmwXchg",
+            Instruction::TableAtomicRmwCmpxchg { .. } => "TableAtomicRmwCmpxchg",
+            Instruction::StructAtomicGet { .. } => "StructAtomicGet",
+            Instruction::StructAtomicGetS { .. } => "StructAtomicGetS",
+            Instruction::StructAtomicGetU { .. } => "StructAtomicGetU",
+            Instruction::StructAtomicSet { .. } => "StructAtomicSet",
+            Instruction::StructAtomicRmwAdd { .. } => "StructAtomicRmwAdd",
+            Instruction::StructAtomicRmwSub { .. } => "StructAtomicRmwSub",
+            Instruction::StructAtomicRmwAnd { .. } => "StructAtomicRmwAnd",
+            Instruction::StructAtomicRmwOr { .. } => "StructAtomicRmwOr",
+            Instruction::StructAtomicRmwXor { .. } => "StructAtomicRmwXor",
+            Instruction::StructAtomicRmwXchg { .. } => "StructAtomicRmwXchg",
+            Instruction::StructAtomicRmwCmpxchg { .. } => "StructAtomicRmwCmpxchg",
+            Instruction::ArrayAtomicGet { .. } => "ArrayAtomicGet",
+            Instruction::ArrayAtomicGetS { .. } => "ArrayAtomicGetS",
+            Instruction::ArrayAtomicGetU { .. } => "ArrayAtomicGetU",
+            Instruction::ArrayAtomicSet { .. } => "ArrayAtomicSet",
+            Instruction::ArrayAtomicRmwAdd { .. } => "ArrayAtomicRmwAdd",
+            Instruction::ArrayAtomicRmwSub { .. } => "ArrayAtomicRmwSub",
+            Instruction::ArrayAtomicRmwAnd { .. } => "ArrayAtomicRmwAnd",
+            Instruction::ArrayAtomicRmwOr { .. } => "ArrayAtomicRmwOr",
+            Instruction::ArrayAtomicRmwXor { .. } => "ArrayAtomicRmwXor",
+            Instruction::ArrayAtomicRmwXchg { .. } => "ArrayAtomicRmwXchg",
+            Instruction::ArrayAtomicRmwCmpxchg { .. } => "ArrayAtomicRmwCmpxchg",
+            Instruction::RefI31Shared => "RefI31Shared",
+        }
+    }
+}
+
+// As `derive` writes it. That has an arm for each case, and would be the function of the package
+// that takes longest to compile.
+impl fmt::Debug for Instruction<'_> {
+    #[inline]
+    fn fmt(&self, f: &mut fmt::Formatter<'_>) -> fmt::Result {
+        let name = self.name();
+        match self {
+            Instruction::Block(a)
+            | Instruction::Loop(a)
+            | Instruction::If(a)
+            | Instruction::Try(a) => f.debug_tuple(name).field(a).finish(),
+            Instruction::Catch(a)
+            | Instruction::Throw(a)
+            | Instruction::Rethrow(a)
+            | Instruction::Br(a)
+            | Instruction::BrIf(a)
+            | Instruction::Call(a)
+            | Instruction::ReturnCall(a)
+            | Instruction::CallRef(a)
+            | Instruction::ReturnCallRef(a)
+            | Instruction::Delegate(a)
+            | Instruction::LocalGet(a)
+            | Instruction::LocalSet(a)
+            | Instruction::LocalTee(a)
+            | Instruction::GlobalGet(a)
+            | Instruction::GlobalSet(a)
+            | Instruction::TableGet(a)
+            | Instruction::TableSet(a)
+            | Instruction::MemorySize(a)
+            | Instruction::MemoryGrow(a)
+            | Instruction::RefFunc(a)
+            | Instruction::BrOnNull(a)
+            | Instruction::BrOnNonNull(a)
+            | Instruction::ContNew(a)
+            | Instruction::Suspend(a)
+            | Instruction::StructNew(a)
+            | Instruction::StructNewDefault(a)
+            | Instruction::ArrayNew(a)
+            | Instruction::ArrayNewDefault(a)
+            | Instruction::ArrayGet(a)
+            | Instruction::ArrayGetS(a)
+            | Instruction::ArrayGetU(a)
+            | Instruction::ArraySet(a)
+            | Instruction::ArrayFill(a)
+            | Instruction::StructNewDesc(a)
+            | Instruction::StructNewDefaultDesc(a)
+            | Instruction::RefGetDesc(a)
+            | Instruction::DataDrop(a)
+            | Instruction::MemoryFill(a)
+            | Instruction::ElemDrop(a)
+            | Instruction::TableGrow(a)
+            | Instruction::TableSize(a)
+            | Instruction::TableFill(a)
+            | Instruction::MemoryDiscard(a) => f.debug_tuple(name).field(a).finish(),
+            Instruction::BrTable(a, b) => f.debug_tuple(name).field(a).field(b).finish(),
+            Instruction::CallIndirect { type_index: a, table_index: b }
+            | Instruction::ReturnCallIndirect { type_index: a, table_index: b } => f.debug_struct(name).field("type_index", a).field("table_index", b).finish(),
+            Instruction::TypedSelect(a) => f.debug_tuple(name).field(a).finish(),
+            Instruction::TypedSelectMulti(a) => f.debug_tuple(name).field(a).finish(),
+            Instruction::TryTable(a, b) => f.debug_tuple(name).field(a).field(b).finish(),
+            Instruction::I32Load(a)
+            | Instruction::I64Load(a)
+            | Instruction::F32Load(a)
+            | Instruction::F64Load(a)
+            | Instruction::I32Load8S(a)
+            | Instruction::I32Load8U(a)
+            | Instruction::I32Load16S(a)
+            | Instruction::I32Load16U(a)
+            | Instruction::I64Load8S(a)
+            | Instruction::I64Load8U(a)
+            | Instruction::I64Load16S(a)
+            | Instruction::I64Load16U(a)
+            | Instruction::I64Load32S(a)
+            | Instruction::I64Load32U(a)
+            | Instruction::I32Store(a)
+            | Instruction::I64Store(a)
+            | Instruction::F32Store(a)
+            | Instruction::F64Store(a)
+            | Instruction::I32Store8(a)
+            | Instruction::I32Store16(a)
+            | Instruction::I64Store8(a)
+            | Instruction::I64Store16(a)
+            | Instruction::I64Store32(a)
+            | Instruction::V128Load(a)
+            | Instruction::V128Load8x8S(a)
+            | Instruction::V128Load8x8U(a)
+            | Instruction::V128Load16x4S(a)
+            | Instruction::V128Load16x4U(a)
+            | Instruction::V128Load32x2S(a)
+            | Instruction::V128Load32x2U(a)
+            | Instruction::V128Load8Splat(a)
+            | Instruction::V128Load16Splat(a)
+            | Instruction::V128Load32Splat(a)
+            | Instruction::V128Load64Splat(a)
+            | Instruction::V128Store(a)
+            | Instruction::V128Load32Zero(a)
+            | Instruction::V128Load64Zero(a)
+            | Instruction::MemoryAtomicNotify(a)
+            | Instruction::MemoryAtomicWait32(a)
+            | Instruction::MemoryAtomicWait64(a)
+            | Instruction::I32AtomicLoad(a)
+            | Instruction::I64AtomicLoad(a)
+            | Instruction::I32AtomicLoad8U(a)
+            | Instruction::I32AtomicLoad16U(a)
+            | Instruction::I64AtomicLoad8U(a)
+            | Instruction::I64AtomicLoad16U(a)
+            | Instruction::I64AtomicLoad32U(a)
+            | Instruction::I32AtomicStore(a)
+            | Instruction::I64AtomicStore(a)
+            | Instruction::I32AtomicStore8(a)
+            | Instruction::I32AtomicStore16(a)
+            | Instruction::I64AtomicStore8(a)
+            | Instruction::I64AtomicStore16(a)
+            | Instruction::I64AtomicStore32(a)
+            | Instruction::I32AtomicRmwAdd(a)
+            | Instruction::I64AtomicRmwAdd(a)
+            | Instruction::I32AtomicRmw8AddU(a)
+            | Instruction::I32AtomicRmw16AddU(a)
+            | Instruction::I64AtomicRmw8AddU(a)
+            | Instruction::I64AtomicRmw16AddU(a)
+            | Instruction::I64AtomicRmw32AddU(a)
+            | Instruction::I32AtomicRmwSub(a)
+            | Instruction::I64AtomicRmwSub(a)
+            | Instruction::I32AtomicRmw8SubU(a)
+            | Instruction::I32AtomicRmw16SubU(a)
+            | Instruction::I64AtomicRmw8SubU(a)
+            | Instruction::I64AtomicRmw16SubU(a)
+            | Instruction::I64AtomicRmw32SubU(a)
+            | Instruction::I32AtomicRmwAnd(a)
+            | Instruction::I64AtomicRmwAnd(a)
+            | Instruction::I32AtomicRmw8AndU(a)
+            | Instruction::I32AtomicRmw16AndU(a)
+            | Instruction::I64AtomicRmw8AndU(a)
+            | Instruction::I64AtomicRmw16AndU(a)
+            | Instruction::I64AtomicRmw32AndU(a)
+            | Instruction::I32AtomicRmwOr(a)
+            | Instruction::I64AtomicRmwOr(a)
+            | Instruction::I32AtomicRmw8OrU(a)
+            | Instruction::I32AtomicRmw16OrU(a)
+            | Instruction::I64AtomicRmw8OrU(a)
+            | Instruction::I64AtomicRmw16OrU(a)
+            | Instruction::I64AtomicRmw32OrU(a)
+            | Instruction::I32AtomicRmwXor(a)
+            | Instruction::I64AtomicRmwXor(a)
+            | Instruction::I32AtomicRmw8XorU(a)
+            | Instruction::I32AtomicRmw16XorU(a)
+            | Instruction::I64AtomicRmw8XorU(a)
+            | Instruction::I64AtomicRmw16XorU(a)
+            | Instruction::I64AtomicRmw32XorU(a)
+            | Instruction::I32AtomicRmwXchg(a)
+            | Instruction::I64AtomicRmwXchg(a)
+            | Instruction::I32AtomicRmw8XchgU(a)
+            | Instruction::I32AtomicRmw16XchgU(a)
+            | Instruction::I64AtomicRmw8XchgU(a)
+            | Instruction::I64AtomicRmw16XchgU(a)
+            | Instruction::I64AtomicRmw32XchgU(a)
+            | Instruction::I32AtomicRmwCmpxchg(a)
+            | Instruction::I64AtomicRmwCmpxchg(a)
+            | Instruction::I32AtomicRmw8CmpxchgU(a)
+            | Instruction::I32AtomicRmw16CmpxchgU(a)
+            | Instruction::I64AtomicRmw8CmpxchgU(a)
+            | Instruction::I64AtomicRmw16CmpxchgU(a)
+            | Instruction::I64AtomicRmw32CmpxchgU(a) => f.debug_tuple(name).field(a).finish(),
+            Instruction::I32Const(a) => f.debug_tuple(name).field(a).finish(),
+            Instruction::I64Const(a) => f.debug_tuple(name).field(a).finish(),
+            Instruction::F32Const(a) => f.debug_tuple(name).field(a).finish(),
+            Instruction::F64Const(a) => f.debug_tuple(name).field(a).finish(),
+            Instruction::RefNull(a)
+            | Instruction::RefTestNonNull(a)
+            | Instruction::RefTestNullable(a)
+            | Instruction::RefCastNonNull(a)
+            | Instruction::RefCastNullable(a)
+            | Instruction::RefCastDescEqNonNull(a)
+            | Instruction::RefCastDescEqNullable(a) => f.debug_tuple(name).field(a).finish(),
+            Instruction::ContBind { argument_index: a, result_index: b } => f.debug_struct(name).field("argument_index", a).field("result_index", b).finish(),
+            Instruction::Resume { cont_type_index: a, resume_table: b }
+            | Instruction::ResumeThrowRef { cont_type_index: a, resume_table: b } => f.debug_struct(name).field("cont_type_index", a).field("resume_table", b).finish(),
+            Instruction::ResumeThrow { cont_type_index: a, tag_index: b, resume_table: c } => f.debug_struct(name).field("cont_type_index", a).field("tag_index", b).field("resume_table", c).finish(),
+            Instruction::Switch { cont_type_index: a, tag_index: b } => f.debug_struct(name).field("cont_type_index", a).field("tag_index", b).finish(),
+            Instruction::StructGet { struct_type_index: a, field_index: b }
+            | Instruction::StructGetS { struct_type_index: a, field_index: b }
+            | Instruction::StructGetU { struct_type_index: a, field_index: b }
+            | Instruction::StructSet { struct_type_index: a, field_index: b } => f.debug_struct(name).field("struct_type_index", a).field("field_index", b).finish(),
+            Instruction::ArrayNewFixed { array_type_index: a, array_size: b } => f.debug_struct(name).field("array_type_index", a).field("array_size", b).finish(),
+            Instruction::ArrayNewData { array_type_index: a, array_data_index: b }
+            | Instruction::ArrayInitData { array_type_index: a, array_data_index: b } => f.debug_struct(name).field("array_type_index", a).field("array_data_index", b).finish(),
+            Instruction::ArrayNewElem { array_type_index: a, array_elem_index: b }
+            | Instruction::ArrayInitElem { array_type_index: a, array_elem_index: b } => f.debug_struct(name).field("array_type_index", a).field("array_elem_index", b).finish(),
+            Instruction::ArrayCopy { array_type_index_dst: a, array_type_index_src: b } => f.debug_struct(name).field("array_type_index_dst", a).field("array_type_index_src", b).finish(),
+            Instruction::BrOnCast { relative_depth: a, from_ref_type: b, to_ref_type: c }
+            | Instruction::BrOnCastFail { relative_depth: a, from_ref_type: b, to_ref_type: c }
+            | Instruction::BrOnCastDescEq { relative_depth: a, from_ref_type: b, to_ref_type: c }
+            | Instruction::BrOnCastDescEqFail { relative_depth: a, from_ref_type: b, to_ref_type: c } => f.debug_struct(name).field("relative_depth", a).field("from_ref_type", b).field("to_ref_type", c).finish(),
+            Instruction::MemoryInit { data_index: a, mem: b } => f.debug_struct(name).field("mem", b).field("data_index", a).finish(),
+            Instruction::MemoryCopy { dst_mem: a, src_mem: b } => f.debug_struct(name).field("src_mem", b).field("dst_mem", a).finish(),
+            Instruction::TableInit { elem_index: a, table: b } => f.debug_struct(name).field("elem_index", a).field("table", b).finish(),
+            Instruction::TableCopy { dst_table: a, src_table: b } => f.debug_struct(name).field("src_table", b).field("dst_table", a).finish(),
+            Instruction::V128Const(a) => f.debug_tuple(name).field(a).finish(),
+            Instruction::I8x16Shuffle(a) => f.debug_tuple(name).field(a).finish(),
+            Instruction::I8x16ExtractLaneS(a)
+            | Instruction::I8x16ExtractLaneU(a)
+            | Instruction::I8x16ReplaceLane(a)
+            | Instruction::I16x8ExtractLaneS(a)
+            | Instruction::I16x8ExtractLaneU(a)
+            | Instruction::I16x8ReplaceLane(a)
+            | Instruction::I32x4ExtractLane(a)
+            | Instruction::I32x4ReplaceLane(a)
+            | Instruction::I64x2ExtractLane(a)
+            | Instruction::I64x2ReplaceLane(a)
+            | Instruction::F32x4ExtractLane(a)
+            | Instruction::F32x4ReplaceLane(a)
+            | Instruction::F64x2ExtractLane(a)
+            | Instruction::F64x2ReplaceLane(a) => f.debug_tuple(name).field(a).finish(),
+            Instruction::V128Load8Lane { memarg: a, lane: b }
+            | Instruction::V128Load16Lane { memarg: a, lane: b }
+            | Instruction::V128Load32Lane { memarg: a, lane: b }
+            | Instruction::V128Load64Lane { memarg: a, lane: b }
+            | Instruction::V128Store8Lane { memarg: a, lane: b }
+            | Instruction::V128Store16Lane { memarg: a, lane: b }
+            | Instruction::V128Store32Lane { memarg: a, lane: b }
+            | Instruction::V128Store64Lane { memarg: a, lane: b } => f.debug_struct(name).field("memarg", a).field("lane", b).finish(),
+            Instruction::AtomicFence(a) => f.debug_tuple(name).field(a).finish(),
+            Instruction::GlobalAtomicGet { ordering: a, global_index: b }
+            | Instruction::GlobalAtomicSet { ordering: a, global_index: b }
+            | Instruction::GlobalAtomicRmwAdd { ordering: a, global_index: b }
+            | Instruction::GlobalAtomicRmwSub { ordering: a, global_index: b }
+            | Instruction::GlobalAtomicRmwAnd { ordering: a, global_index: b }
+            | Instruction::GlobalAtomicRmwOr { ordering: a, global_index: b }
+            | Instruction::GlobalAtomicRmwXor { ordering: a, global_index: b }
+            | Instruction::GlobalAtomicRmwXchg { ordering: a, global_index: b }
+            | Instruction::GlobalAtomicRmwCmpxchg { ordering: a, global_index: b } => f.debug_struct(name).field("ordering", a).field("global_index", b).finish(),
+            Instruction::TableAtomicGet { ordering: a, table_index: b }
+            | Instruction::TableAtomicSet { ordering: a, table_index: b }
+            | Instruction::TableAtomicRmwXchg { ordering: a, table_index: b }
+            | Instruction::TableAtomicRmwCmpxchg { ordering: a, table_index: b } => f.debug_struct(name).field("ordering", a).field("table_index", b).finish(),
+            Instruction::StructAtomicGet { ordering: a, struct_type_index: b, field_index: c }
+            | Instruction::StructAtomicGetS { ordering: a, struct_type_index: b, field_index: c }
+            | Instruction::StructAtomicGetU { ordering: a, struct_type_index: b, field_index: c }
+            | Instruction::StructAtomicSet { ordering: a, struct_type_index: b, field_index: c }
+            | Instruction::StructAtomicRmwAdd { ordering: a, struct_type_index: b, field_index: c }
+            | Instruction::StructAtomicRmwSub { ordering: a, struct_type_index: b, field_index: c }
+            | Instruction::StructAtomicRmwAnd { ordering: a, struct_type_index: b, field_index: c }
+            | Instruction::StructAtomicRmwOr { ordering: a, struct_type_index: b, field_index: c }
+            | Instruction::StructAtomicRmwXor { ordering: a, struct_type_index: b, field_index: c }
+            | Instruction::StructAtomicRmwXchg { ordering: a, struct_type_index: b, field_index: c }
+            | Instruction::StructAtomicRmwCmpxchg { ordering: a, struct_type_index: b, field_index: c } => f.debug_struct(name).field("ordering", a).field("struct_type_index", b).field("field_index", c).finish(),
+            Instruction::ArrayAtomicGet { ordering: a, array_type_index: b }
+            | Instruction::ArrayAtomicGetS { ordering: a, array_type_index: b }
+            | Instruction::ArrayAtomicGetU { ordering: a, array_type_index: b }
+            | Instruction::ArrayAtomicSet { ordering: a, array_type_index: b }
+            | Instruction::ArrayAtomicRmwAdd { ordering: a, array_type_index: b }
+            | Instruction::ArrayAtomicRmwSub { ordering: a, array_type_index: b }
+            | Instruction::ArrayAtomicRmwAnd { ordering: a, array_type_index: b }
+            | Instruction::ArrayAtomicRmwOr { ordering: a, array_type_index: b }
+            | Instruction::ArrayAtomicRmwXor { ordering: a, array_type_index: b }
+            | Instruction::ArrayAtomicRmwXchg { ordering: a, array_type_index: b }
+            | Instruction::ArrayAtomicRmwCmpxchg { ordering: a, array_type_index: b } => f.debug_struct(name).field("ordering", a).field("array_type_index", b).finish(),
+            _ => f.write_str(name),
+        }
+    }
+}
+
 /// Converts an instruction to the one that the proved calls take. Its lists are borrowed.
 impl<'a> From<&'a Instruction<'_>> for insn::Instruction<'a> {
     // Inline, so that it is compiled only where it is used.
@@ -4249,6 +5150,8 @@ impl<'a, A: Allocator> TryFrom<(Op, &'a [Arg<A>])> for Instruction<'a> {
 impl TryFrom<Decoded<'_>> for Instruction<'static> {
     type Error = ReadFault;
 
+    // Inline, so that it is compiled only where it is used.
+    #[inline]
     fn try_from(decoded: Decoded<'_>) -> core::result::Result<Self, ReadFault> {
         let args = decoded.operands.to_args(Global)?;
         instruction_of::<Global, Owned>(decoded.op, &args)
@@ -4980,23 +5883,10 @@ fn write_block(op: u32, block_type: BlockType, sink: &mut Vec<u8>) {
     }
 }
 
-/// Appends an opcode and its immediates, of which one is a list.
+/// Appends an opcode and its immediates, of which one is a list, or those of a cast.
 #[inline(never)]
 fn write_list<T: base::Encode>(op: u32, parts: T, sink: &mut Vec<u8>) {
     append(&(op_of(op), parts), sink)
-}
-
-/// Appends the encoding of the proved value, where the fields are not the immediates one by one.
-#[inline(never)]
-fn write_proved(instruction: &Instruction<'_>, sink: &mut Vec<u8>) {
-    let proved: insn::Instruction = match instruction {
-        Instruction::BrOnCast { relative_depth: a, from_ref_type: b, to_ref_type: c } => insn::Instruction::BrOnCast { relative_depth: *a, from_ref_type: *b, to_ref_type: *c },
-        Instruction::BrOnCastFail { relative_depth: a, from_ref_type: b, to_ref_type: c } => insn::Instruction::BrOnCastFail { relative_depth: *a, from_ref_type: *b, to_ref_type: *c },
-        Instruction::BrOnCastDescEq { relative_depth: a, from_ref_type: b, to_ref_type: c } => insn::Instruction::BrOnCastDescEq { relative_depth: *a, from_ref_type: *b, to_ref_type: *c },
-        Instruction::BrOnCastDescEqFail { relative_depth: a, from_ref_type: b, to_ref_type: c } => insn::Instruction::BrOnCastDescEqFail { relative_depth: *a, from_ref_type: *b, to_ref_type: *c },
-        _ => unreachable!("its fields are its immediates"),
-    };
-    append(&proved, sink)
 }
 
 /// Encodes the opcode and the immediates.
@@ -5568,10 +6458,10 @@ impl Encode for Instruction<'_> {
             Instruction::Resume { cont_type_index: a, resume_table: b }
             | Instruction::ResumeThrowRef { cont_type_index: a, resume_table: b } => write_list(op, (*a, &**b), sink),
             Instruction::ResumeThrow { cont_type_index: a, tag_index: b, resume_table: c } => write_list(op, (*a, *b, &**c), sink),
-            Instruction::BrOnCast { .. }
-            | Instruction::BrOnCastFail { .. }
-            | Instruction::BrOnCastDescEq { .. }
-            | Instruction::BrOnCastDescEqFail { .. } => write_proved(self, sink),
+            Instruction::BrOnCast { relative_depth: a, from_ref_type: b, to_ref_type: c }
+            | Instruction::BrOnCastFail { relative_depth: a, from_ref_type: b, to_ref_type: c }
+            | Instruction::BrOnCastDescEq { relative_depth: a, from_ref_type: b, to_ref_type: c }
+            | Instruction::BrOnCastDescEqFail { relative_depth: a, from_ref_type: b, to_ref_type: c } => write_list(op, cast(*a, *b, *c), sink),
             Instruction::V128Const(a) => write(op, a.to_le_bytes(), sink),
             Instruction::I8x16Shuffle(a) => write(op, *a, sink),
             Instruction::I8x16ExtractLaneS(a)

@@ -1,6 +1,8 @@
 """The file of the enum: its cases, their conversion to proved values, and their encoding."""
 from __future__ import annotations
 
+from collections.abc import Iterable
+
 from ..errors import Stop
 from .cases import HEAD, Case, item_of
 from .standard import alias, field, said
@@ -82,10 +84,9 @@ def written_part(case: Case, it: str, ty: str) -> str:
 
 
 def written(case: Case) -> str:
-    """Returns the call that encodes a case: its opcode and its immediates, or the proved value if
-    the fields are not the immediates one by one."""
+    """Returns the call that encodes a case: its opcode and its immediates."""
     if case.shape == "k":
-        return "write_proved(self, sink)"
+        return "write_list(op, cast(*a, *b, *c), sink)"
     if case.shape == "b":
         return "write_block(op, *a, sink)"
     parts = [written_part(case, it, ty) for it, ty in zip(case.letters(), case.types)]
@@ -97,16 +98,39 @@ def written(case: Case) -> str:
 
 def encode_arms(cases: list[Case]) -> str:
     """Returns an arm for the cases with immediates of the same types that the same call encodes."""
-    arms: dict[tuple[tuple[str, ...], str], list[str]] = {}
-    for case in cases:
-        arms.setdefault((tuple(case.types), written(case)), []).append("Instruction::" + (case.pattern() if case.shape == "k" else case.of(case.letters())))
-    return "".join("            %s => %s,\n" % ("\n            | ".join(patterns), way) for (_, way), patterns in arms.items())
+    return arms((tuple(case.types), written(case), case) for case in cases)
+
+
+def name_arm(case: Case) -> str:
+    """Returns the arm of a case's name."""
+    return "            Instruction::%s => \"%s\",\n" % (case.pattern(), case.name)
+
+
+def shown(case: Case) -> str:
+    """Returns the call that shows the fields of a case, in the order of their declaration."""
+    letter = dict(zip(case.fields, case.letters()))
+    fields = ["\"%s\", %s" % (name, letter[name]) for name, _ in case.declared] or case.letters()
+    return "f.debug_%s(name)%s.finish()" % ("struct" if case.declared else "tuple", "".join(".field(%s)" % it for it in fields))
+
+
+def debug_arms(cases: list[Case]) -> str:
+    """Returns an arm for the cases with fields of the same names and types."""
+    return arms((tuple(case.types), shown(case), case) for case in cases if case.types)
+
+
+def arms(ways: Iterable[tuple[tuple[str, ...], str, Case]]) -> str:
+    """Returns an arm for the cases of the same types and the same expression."""
+    patterns: dict[tuple[tuple[str, ...], str], list[str]] = {}
+    for types, way, case in ways:
+        patterns.setdefault((types, way), []).append("Instruction::" + case.of(case.letters()))
+    return "".join("            %s => %s,\n" % ("\n            | ".join(of), way) for (_, way), of in patterns.items())
 
 
 TEMPLATE = """//! The instructions, as cases of one enum.
 
 use super::Encode;
 use super::bytes::append;
+use super::code::cast;
 use super::short::{EMPTY_BLOCK, Short, put_short};
 use crate::base::{self, CowSlice, HeapType, Lent, RefType, ValType};
 use crate::alloc::{Allocator, Global};
@@ -114,6 +138,7 @@ use crate::insn::{self, BlockType, Catch, Handle, Ieee32, Ieee64, Lane, MemArg, 
 use crate::reader::{Arg, Decoded, Plain, ReadFault};
 use alloc_crate::borrow::Cow;
 use alloc_crate::vec::Vec;
+use core::fmt;
 
 /// An instruction as a value, with its immediates.
 ///
@@ -149,10 +174,31 @@ use alloc_crate::vec::Vec;
 /// ```
 ///
 /// [Instructions]: https://webassembly.github.io/spec/core/binary/instructions.html
-#[derive(Clone, Debug)]
+#[derive(Clone)]
 #[non_exhaustive]
 pub enum Instruction<'a> {
 %s}
+
+impl Instruction<'_> {
+    /// Returns the name of the case.
+    #[inline]
+    fn name(&self) -> &'static str {
+        match self {
+%s        }
+    }
+}
+
+// As `derive` writes it. That has an arm for each case, and would be the function of the package
+// that takes longest to compile.
+impl fmt::Debug for Instruction<'_> {
+    #[inline]
+    fn fmt(&self, f: &mut fmt::Formatter<'_>) -> fmt::Result {
+        let name = self.name();
+        match self {
+%s            _ => f.write_str(name),
+        }
+    }
+}
 
 /// Converts an instruction to the one that the proved calls take. Its lists are borrowed.
 impl<'a> From<&'a Instruction<'_>> for insn::Instruction<'a> {
@@ -254,6 +300,8 @@ impl<'a, A: Allocator> TryFrom<(Op, &'a [Arg<A>])> for Instruction<'a> {
 impl TryFrom<Decoded<'_>> for Instruction<'static> {
     type Error = ReadFault;
 
+    // Inline, so that it is compiled only where it is used.
+    #[inline]
     fn try_from(decoded: Decoded<'_>) -> core::result::Result<Self, ReadFault> {
         let args = decoded.operands.to_args(Global)?;
         instruction_of::<Global, Owned>(decoded.op, &args)
@@ -357,19 +405,10 @@ fn write_block(op: u32, block_type: BlockType, sink: &mut Vec<u8>) {
     }
 }
 
-/// Appends an opcode and its immediates, of which one is a list.
+/// Appends an opcode and its immediates, of which one is a list, or those of a cast.
 #[inline(never)]
 fn write_list<T: base::Encode>(op: u32, parts: T, sink: &mut Vec<u8>) {
     append(&(op_of(op), parts), sink)
-}
-
-/// Appends the encoding of the proved value, where the fields are not the immediates one by one.
-#[inline(never)]
-fn write_proved(instruction: &Instruction<'_>, sink: &mut Vec<u8>) {
-    let proved: insn::Instruction = match instruction {
-%s        _ => unreachable!("its fields are its immediates"),
-    };
-    append(&proved, sink)
 }
 
 /// Encodes the opcode and the immediates.
@@ -387,9 +426,10 @@ def instruction_file(cases: list[Case]) -> str:
     """Returns the file."""
     return HEAD + TEMPLATE % (
         "".join(map(declaration, cases)),
+        "".join(map(name_arm, cases)),
+        debug_arms(cases),
         "".join(map(conversion, cases)),
         "".join(map(decoded_arm, cases)),
         "".join(map(op_arm, cases)),
-        "".join(conversion(case)[4:] for case in cases if case.shape == "k"),
         encode_arms(cases),
     )
