@@ -3,7 +3,7 @@
 use super::done;
 use crate::alloc::AllocError;
 use crate::base::{
-    AbstractHeapType, Encode, EncodeOnce, HeapType, Lent, Result, ValType, bytes_of,
+    AbstractHeapType, Encode, EncodeOnce, HeapType, Lent, Refused, Result, ValType, bytes_of,
 };
 use crate::ending::{Growing, grow};
 use crate::immediates::{Ieee32, Ieee64, Lane, MemArg, MemArgTarget, Ordering};
@@ -205,12 +205,12 @@ where
     fn encode_once<A: Sink>(self, sink: &mut A) -> Result<()> {
         let Few(front, bytes) = self;
         let bytes = bytes.into_iter();
-        let count = bytes.len();
         if size_of_val(&bytes) > BORROWED {
             return (front, bytes_of(bytes)?).encode_once(sink);
         }
+        let count = bytes.len();
         if count >= BLOCK - 1 - N || sink.capacity() - sink.len() < BLOCK {
-            return many(front, bytes, sink);
+            return many(front, count, bytes, sink);
         }
         let mut end = sink.len();
         sink.extend_from_slice(&[0; BLOCK]).ok();
@@ -233,13 +233,23 @@ where
 /// The size of the iterator of a borrowed slice. A larger one costs more to pass than [`Few`] saves.
 const BORROWED: usize = size_of::<core::slice::Iter<'_, u8>>();
 
-/// Appends bytes that are not few, or that have no block.
+/// Appends this many bytes, which are not few or have no block.
 #[inline(never)]
-fn many<F: Encode, I, A: Sink>(front: F, bytes: I, sink: &mut A) -> Result<()>
+fn many<const N: usize, I, A: Sink>(
+    front: [u8; N],
+    count: usize,
+    bytes: I,
+    sink: &mut A,
+) -> Result<()>
 where
-    I: ExactSizeIterator<Item = u8>,
+    I: Iterator<Item = u8>,
 {
-    (front, bytes_of(bytes)?).encode_once(sink)
+    let Ok(number) = u32::try_from(count) else {
+        return Err(Refused::TooLong);
+    };
+    sink.reserve(count.saturating_add(BLOCK))?;
+    (front, number).encode(sink)?;
+    Ok(sink.extend(bytes)?)
 }
 
 /// Implements [`Short`] for types: the sizes, which values are short, a value after that test, of
