@@ -53,6 +53,8 @@ macro_rules! implement {
     // The names of the fields: `bytes`, and the number of entries by another name.
     ($name:ident Debug $($field:ident)*) => {
         impl core::fmt::Debug for $name {
+            // Inline, so that it is compiled only where it is used.
+            #[inline]
             fn fmt(&self, f: &mut core::fmt::Formatter<'_>) -> core::fmt::Result {
                 f.debug_struct(stringify!($name))
                     $(.field(stringify!($field), field!(self $field)))*

@@ -17,6 +17,8 @@ macro_rules! fields {
     ($($name:ident $(<$of:lifetime>)? |$value:ident| { $($field:ident: $shown:expr),* })*) => {
         $(
             impl fmt::Debug for $name $(<$of>)? {
+                // Inline, so that it is compiled only where it is used.
+                #[inline]
                 fn fmt(&self, f: &mut fmt::Formatter<'_>) -> fmt::Result {
                     let $value = &self.0;
                     f.debug_struct(stringify!($name))
@@ -39,6 +41,7 @@ fields! {
 }
 
 impl fmt::Debug for ConstExpr {
+    #[inline]
     fn fmt(&self, f: &mut fmt::Formatter<'_>) -> fmt::Result {
         let bytes = self.clone().into_bytes();
         f.debug_struct("ConstExpr")

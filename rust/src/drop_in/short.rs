@@ -1,6 +1,6 @@
 //! Instructions of few bytes. Their proved encoders append to an array on the stack, where the
 //! compiler needs no test of a length and no path for an error, and the array is copied at once.
-use super::done;
+use super::{done, refuse};
 use crate::alloc::AllocError;
 use crate::base::{
     AbstractHeapType, Encode, EncodeOnce, HeapType, Lent, Refused, Result, ValType, bytes_of,
@@ -210,7 +210,8 @@ where
         }
         let count = bytes.len();
         if count >= BLOCK - 1 - N || sink.capacity() - sink.len() < BLOCK {
-            return many(front, count, bytes, sink);
+            many(front, count, bytes, sink);
+            return Ok(());
         }
         let mut end = sink.len();
         sink.extend_from_slice(&[0; BLOCK]).ok();
@@ -235,21 +236,16 @@ const BORROWED: usize = size_of::<core::slice::Iter<'_, u8>>();
 
 /// Appends this many bytes, which are not few or have no block.
 #[inline(never)]
-fn many<const N: usize, I, A: Sink>(
-    front: [u8; N],
-    count: usize,
-    bytes: I,
-    sink: &mut A,
-) -> Result<()>
+fn many<const N: usize, I, A: Sink>(front: [u8; N], count: usize, bytes: I, sink: &mut A)
 where
     I: Iterator<Item = u8>,
 {
     let Ok(number) = u32::try_from(count) else {
-        return Err(Refused::TooLong);
+        refuse(Refused::TooLong)
     };
-    sink.reserve(count.saturating_add(BLOCK))?;
-    (front, number).encode(sink)?;
-    Ok(sink.extend(bytes)?)
+    sink.reserve(count.saturating_add(BLOCK)).ok();
+    done(put_front(front, number, sink));
+    sink.extend(bytes).ok();
 }
 
 /// Implements [`Short`] for types: the sizes, which values are short, a value after that test, of
