@@ -5883,23 +5883,10 @@ fn write_block(op: u32, block_type: BlockType, sink: &mut Vec<u8>) {
     }
 }
 
-/// Appends an opcode and its immediates, of which one is a list.
+/// Appends an opcode and its immediates, of which one is a list, or those of a cast.
 #[inline(never)]
 fn write_list<T: base::Encode>(op: u32, parts: T, sink: &mut Vec<u8>) {
     append(&(op_of(op), parts), sink)
-}
-
-/// Appends the opcode and the immediates of a cast.
-#[inline(never)]
-fn write_cast(instruction: &Instruction<'_>, sink: &mut Vec<u8>) {
-    let (op, label, from, to) = match instruction {
-        Instruction::BrOnCast { relative_depth: a, from_ref_type: b, to_ref_type: c } => (0xFB000018, a, b, c),
-        Instruction::BrOnCastFail { relative_depth: a, from_ref_type: b, to_ref_type: c } => (0xFB000019, a, b, c),
-        Instruction::BrOnCastDescEq { relative_depth: a, from_ref_type: b, to_ref_type: c } => (0xFB000025, a, b, c),
-        Instruction::BrOnCastDescEqFail { relative_depth: a, from_ref_type: b, to_ref_type: c } => (0xFB000026, a, b, c),
-        _ => unreachable!("only casts are appended so"),
-    };
-    append(&(op_of(op), cast(*label, *from, *to)), sink)
 }
 
 /// Encodes the opcode and the immediates.
@@ -6471,10 +6458,10 @@ impl Encode for Instruction<'_> {
             Instruction::Resume { cont_type_index: a, resume_table: b }
             | Instruction::ResumeThrowRef { cont_type_index: a, resume_table: b } => write_list(op, (*a, &**b), sink),
             Instruction::ResumeThrow { cont_type_index: a, tag_index: b, resume_table: c } => write_list(op, (*a, *b, &**c), sink),
-            Instruction::BrOnCast { .. }
-            | Instruction::BrOnCastFail { .. }
-            | Instruction::BrOnCastDescEq { .. }
-            | Instruction::BrOnCastDescEqFail { .. } => write_cast(self, sink),
+            Instruction::BrOnCast { relative_depth: a, from_ref_type: b, to_ref_type: c }
+            | Instruction::BrOnCastFail { relative_depth: a, from_ref_type: b, to_ref_type: c }
+            | Instruction::BrOnCastDescEq { relative_depth: a, from_ref_type: b, to_ref_type: c }
+            | Instruction::BrOnCastDescEqFail { relative_depth: a, from_ref_type: b, to_ref_type: c } => write_list(op, cast(*a, *b, *c), sink),
             Instruction::V128Const(a) => write(op, a.to_le_bytes(), sink),
             Instruction::I8x16Shuffle(a) => write(op, *a, sink),
             Instruction::I8x16ExtractLaneS(a)

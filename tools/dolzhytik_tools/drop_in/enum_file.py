@@ -86,7 +86,7 @@ def written_part(case: Case, it: str, ty: str) -> str:
 def written(case: Case) -> str:
     """Returns the call that encodes a case: its opcode and its immediates."""
     if case.shape == "k":
-        return "write_cast(self, sink)"
+        return "write_list(op, cast(*a, *b, *c), sink)"
     if case.shape == "b":
         return "write_block(op, *a, sink)"
     parts = [written_part(case, it, ty) for it, ty in zip(case.letters(), case.types)]
@@ -122,8 +122,7 @@ def arms(ways: Iterable[tuple[tuple[str, ...], str, Case]]) -> str:
     """Returns an arm for the cases of the same types and the same expression."""
     patterns: dict[tuple[tuple[str, ...], str], list[str]] = {}
     for types, way, case in ways:
-        of = case.pattern() if "self" in way else case.of(case.letters())
-        patterns.setdefault((types, way), []).append("Instruction::" + of)
+        patterns.setdefault((types, way), []).append("Instruction::" + case.of(case.letters()))
     return "".join("            %s => %s,\n" % ("\n            | ".join(of), way) for (_, way), of in patterns.items())
 
 
@@ -406,19 +405,10 @@ fn write_block(op: u32, block_type: BlockType, sink: &mut Vec<u8>) {
     }
 }
 
-/// Appends an opcode and its immediates, of which one is a list.
+/// Appends an opcode and its immediates, of which one is a list, or those of a cast.
 #[inline(never)]
 fn write_list<T: base::Encode>(op: u32, parts: T, sink: &mut Vec<u8>) {
     append(&(op_of(op), parts), sink)
-}
-
-/// Appends the opcode and the immediates of a cast.
-#[inline(never)]
-fn write_cast(instruction: &Instruction<'_>, sink: &mut Vec<u8>) {
-    let (op, label, from, to) = match instruction {
-%s        _ => unreachable!("only casts are appended so"),
-    };
-    append(&(op_of(op), cast(*label, *from, *to)), sink)
 }
 
 /// Encodes the opcode and the immediates.
@@ -441,6 +431,5 @@ def instruction_file(cases: list[Case]) -> str:
         "".join(map(conversion, cases)),
         "".join(map(decoded_arm, cases)),
         "".join(map(op_arm, cases)),
-        "".join("        Instruction::%s => (%s, a, b, c),\n" % (case.of(case.letters()), case.op()) for case in cases if case.shape == "k"),
         encode_arms(cases),
     )
