@@ -3,13 +3,13 @@
 
 use super::InstructionSink;
 use crate::base::{HeapType, RefType, ValType};
-use crate::insn::{BlockType, Catch, Handle, Ieee32, Ieee64, Lane, MemArg, Ordering};
+use crate::insn::{self, BlockType, Catch, Handle, Ieee32, Ieee64, Lane, MemArg, Ordering};
 
 impl InstructionSink<'_> {
     /// Appends `unreachable` (opcode 0x00), a control instruction that traps.
     ///
     /// [`Instruction::Unreachable`](super::Instruction::Unreachable) is the same instruction as a value.
-    /// The proved [`unreachable`](crate::fallible::InstructionSink::unreachable) of `fallible` encodes the same.
+    /// The proved [`unreachable`](insn::InstructionSink::unreachable) of `fallible` encodes the same.
     pub fn unreachable(&mut self) -> &mut Self {
         self.put([0x00], [])
     }
@@ -17,7 +17,7 @@ impl InstructionSink<'_> {
     /// Appends `nop` (opcode 0x01), a control instruction that does nothing.
     ///
     /// [`Instruction::Nop`](super::Instruction::Nop) is the same instruction as a value.
-    /// The proved [`nop`](crate::fallible::InstructionSink::nop) of `fallible` encodes the same.
+    /// The proved [`nop`](insn::InstructionSink::nop) of `fallible` encodes the same.
     pub fn nop(&mut self) -> &mut Self {
         self.put([0x01], [])
     }
@@ -25,7 +25,7 @@ impl InstructionSink<'_> {
     /// Appends `block` (opcode 0x02), a control instruction that begins a block, with its label at the end.
     ///
     /// [`Instruction::Block`](super::Instruction::Block) is the same instruction as a value.
-    /// The proved [`block`](crate::fallible::InstructionSink::block) of `fallible` encodes the same.
+    /// The proved [`block`](insn::InstructionSink::block) of `fallible` encodes the same.
     pub fn block(&mut self, block_type: BlockType) -> &mut Self {
         self.block_type(0x02, block_type)
     }
@@ -33,7 +33,7 @@ impl InstructionSink<'_> {
     /// Appends `loop` (opcode 0x03), a control instruction that begins a block, with its label at the start.
     ///
     /// [`Instruction::Loop`](super::Instruction::Loop) is the same instruction as a value.
-    /// The proved [`loop_`](crate::fallible::InstructionSink::loop_) of `fallible` encodes the same.
+    /// The proved [`loop_`](insn::InstructionSink::loop_) of `fallible` encodes the same.
     pub fn loop_(&mut self, block_type: BlockType) -> &mut Self {
         self.block_type(0x03, block_type)
     }
@@ -41,7 +41,7 @@ impl InstructionSink<'_> {
     /// Appends `if` (opcode 0x04), a control instruction that begins a block that is executed if the operand is not zero.
     ///
     /// [`Instruction::If`](super::Instruction::If) is the same instruction as a value.
-    /// The proved [`if_`](crate::fallible::InstructionSink::if_) of `fallible` encodes the same.
+    /// The proved [`if_`](insn::InstructionSink::if_) of `fallible` encodes the same.
     pub fn if_(&mut self, block_type: BlockType) -> &mut Self {
         self.block_type(0x04, block_type)
     }
@@ -49,7 +49,7 @@ impl InstructionSink<'_> {
     /// Appends `else` (opcode 0x05), a delimiter of control instructions that begins the branch of an `if` for zero.
     ///
     /// [`Instruction::Else`](super::Instruction::Else) is the same instruction as a value.
-    /// The proved [`else_`](crate::fallible::InstructionSink::else_) of `fallible` encodes the same.
+    /// The proved [`else_`](insn::InstructionSink::else_) of `fallible` encodes the same.
     pub fn else_(&mut self) -> &mut Self {
         self.put([0x05], [])
     }
@@ -92,7 +92,7 @@ impl InstructionSink<'_> {
     /// Appends `end` (opcode 0x0B), a delimiter of control instructions and expressions that ends a block, a body or a constant expression.
     ///
     /// [`Instruction::End`](super::Instruction::End) is the same instruction as a value.
-    /// The proved [`end`](crate::fallible::InstructionSink::end) of `fallible` encodes the same.
+    /// The proved [`end`](insn::InstructionSink::end) of `fallible` encodes the same.
     pub fn end(&mut self) -> &mut Self {
         self.put_here([0x0B], [])
     }
@@ -100,7 +100,7 @@ impl InstructionSink<'_> {
     /// Appends `br` (opcode 0x0C), a control instruction that branches to a label.
     ///
     /// [`Instruction::Br`](super::Instruction::Br) is the same instruction as a value.
-    /// The proved [`br`](crate::fallible::InstructionSink::br) of `fallible` encodes the same.
+    /// The proved [`br`](insn::InstructionSink::br) of `fallible` encodes the same.
     pub fn br(&mut self, label: u32) -> &mut Self {
         self.put_here([0x0C], label)
     }
@@ -108,7 +108,7 @@ impl InstructionSink<'_> {
     /// Appends `br_if` (opcode 0x0D), a control instruction that branches to a label if the operand is not zero.
     ///
     /// [`Instruction::BrIf`](super::Instruction::BrIf) is the same instruction as a value.
-    /// The proved [`br_if`](crate::fallible::InstructionSink::br_if) of `fallible` encodes the same.
+    /// The proved [`br_if`](insn::InstructionSink::br_if) of `fallible` encodes the same.
     pub fn br_if(&mut self, label: u32) -> &mut Self {
         self.put_here([0x0D], label)
     }
@@ -139,7 +139,7 @@ impl InstructionSink<'_> {
     /// Appends `return` (opcode 0x0F), a control instruction that returns from the function.
     ///
     /// [`Instruction::Return`](super::Instruction::Return) is the same instruction as a value.
-    /// The proved [`return_`](crate::fallible::InstructionSink::return_) of `fallible` encodes the same.
+    /// The proved [`return_`](insn::InstructionSink::return_) of `fallible` encodes the same.
     pub fn return_(&mut self) -> &mut Self {
         self.put_here([0x0F], [])
     }
@@ -149,7 +149,7 @@ impl InstructionSink<'_> {
     /// Imported functions have the first indices: see [`ImportSection`](super::ImportSection).
     ///
     /// [`Instruction::Call`](super::Instruction::Call) is the same instruction as a value.
-    /// The proved [`call`](crate::fallible::InstructionSink::call) of `fallible` encodes the same.
+    /// The proved [`call`](insn::InstructionSink::call) of `fallible` encodes the same.
     pub fn call(&mut self, function_index: u32) -> &mut Self {
         self.put_here([0x10], function_index)
     }
@@ -157,7 +157,7 @@ impl InstructionSink<'_> {
     /// Appends `call_indirect` (opcode 0x11), a control instruction that calls a function of a table.
     ///
     /// [`Instruction::CallIndirect`](super::Instruction::CallIndirect) is the same instruction as a value.
-    /// The proved [`call_indirect`](crate::fallible::InstructionSink::call_indirect) of `fallible` encodes the same.
+    /// The proved [`call_indirect`](insn::InstructionSink::call_indirect) of `fallible` encodes the same.
     /// The encoding has `type_index` before `table_index`.
     ///
     /// ```
@@ -220,7 +220,7 @@ impl InstructionSink<'_> {
     /// Appends `drop` (opcode 0x1A), a parametric instruction that drops a value.
     ///
     /// [`Instruction::Drop`](super::Instruction::Drop) is the same instruction as a value.
-    /// The proved [`drop_`](crate::fallible::InstructionSink::drop_) of `fallible` encodes the same.
+    /// The proved [`drop_`](insn::InstructionSink::drop_) of `fallible` encodes the same.
     pub fn drop(&mut self) -> &mut Self {
         self.put_here([0x1A], [])
     }
@@ -228,7 +228,7 @@ impl InstructionSink<'_> {
     /// Appends `select` (opcode 0x1B), a parametric instruction that selects one of two values by a condition.
     ///
     /// [`Instruction::Select`](super::Instruction::Select) is the same instruction as a value.
-    /// The proved [`select`](crate::fallible::InstructionSink::select) of `fallible` encodes the same.
+    /// The proved [`select`](insn::InstructionSink::select) of `fallible` encodes the same.
     pub fn select(&mut self) -> &mut Self {
         self.put_here([0x1B], [])
     }
@@ -236,7 +236,7 @@ impl InstructionSink<'_> {
     /// Appends `select (result t)` (opcode 0x1C), a parametric instruction that selects one of two values by a condition.
     ///
     /// [`Instruction::TypedSelect`](super::Instruction::TypedSelect) is the same instruction as a value.
-    /// The proved [`typed_select`](crate::fallible::InstructionSink::typed_select) of `fallible` encodes the same.
+    /// The proved [`typed_select`](insn::InstructionSink::typed_select) of `fallible` encodes the same.
     ///
     /// ```
     /// use dolzhytik::{InstructionSink, ValType};
@@ -253,7 +253,7 @@ impl InstructionSink<'_> {
     /// Appends `select (result t*)` (opcode 0x1C), a parametric instruction that selects one of two values by a condition.
     ///
     /// [`Instruction::TypedSelectMulti`](super::Instruction::TypedSelectMulti) is the same instruction as a value.
-    /// The proved [`typed_select_multi`](crate::fallible::InstructionSink::typed_select_multi) of `fallible` encodes the same.
+    /// The proved [`typed_select_multi`](insn::InstructionSink::typed_select_multi) of `fallible` encodes the same.
     ///
     /// # Panics
     ///
@@ -279,7 +279,7 @@ impl InstructionSink<'_> {
     /// Appends `local.get` (opcode 0x20), a variable instruction that reads a local.
     ///
     /// [`Instruction::LocalGet`](super::Instruction::LocalGet) is the same instruction as a value.
-    /// The proved [`local_get`](crate::fallible::InstructionSink::local_get) of `fallible` encodes the same.
+    /// The proved [`local_get`](insn::InstructionSink::local_get) of `fallible` encodes the same.
     #[doc(alias = "local.get")]
     pub fn local_get(&mut self, local_index: u32) -> &mut Self {
         self.put_here([0x20], local_index)
@@ -288,7 +288,7 @@ impl InstructionSink<'_> {
     /// Appends `local.set` (opcode 0x21), a variable instruction that writes a local.
     ///
     /// [`Instruction::LocalSet`](super::Instruction::LocalSet) is the same instruction as a value.
-    /// The proved [`local_set`](crate::fallible::InstructionSink::local_set) of `fallible` encodes the same.
+    /// The proved [`local_set`](insn::InstructionSink::local_set) of `fallible` encodes the same.
     #[doc(alias = "local.set")]
     pub fn local_set(&mut self, local_index: u32) -> &mut Self {
         self.put_here([0x21], local_index)
@@ -297,7 +297,7 @@ impl InstructionSink<'_> {
     /// Appends `local.tee` (opcode 0x22), a variable instruction that writes a local, and keeps the value.
     ///
     /// [`Instruction::LocalTee`](super::Instruction::LocalTee) is the same instruction as a value.
-    /// The proved [`local_tee`](crate::fallible::InstructionSink::local_tee) of `fallible` encodes the same.
+    /// The proved [`local_tee`](insn::InstructionSink::local_tee) of `fallible` encodes the same.
     #[doc(alias = "local.tee")]
     pub fn local_tee(&mut self, local_index: u32) -> &mut Self {
         self.put_here([0x22], local_index)
@@ -306,7 +306,7 @@ impl InstructionSink<'_> {
     /// Appends `global.get` (opcode 0x23), a variable instruction that reads a global.
     ///
     /// [`Instruction::GlobalGet`](super::Instruction::GlobalGet) is the same instruction as a value.
-    /// The proved [`global_get`](crate::fallible::InstructionSink::global_get) of `fallible` encodes the same.
+    /// The proved [`global_get`](insn::InstructionSink::global_get) of `fallible` encodes the same.
     #[doc(alias = "global.get")]
     pub fn global_get(&mut self, global_index: u32) -> &mut Self {
         self.put_here([0x23], global_index)
@@ -315,7 +315,7 @@ impl InstructionSink<'_> {
     /// Appends `global.set` (opcode 0x24), a variable instruction that writes a global.
     ///
     /// [`Instruction::GlobalSet`](super::Instruction::GlobalSet) is the same instruction as a value.
-    /// The proved [`global_set`](crate::fallible::InstructionSink::global_set) of `fallible` encodes the same.
+    /// The proved [`global_set`](insn::InstructionSink::global_set) of `fallible` encodes the same.
     #[doc(alias = "global.set")]
     pub fn global_set(&mut self, global_index: u32) -> &mut Self {
         self.put_here([0x24], global_index)
@@ -340,7 +340,7 @@ impl InstructionSink<'_> {
     /// Appends `i32.load` (opcode 0x28), a memory instruction that loads a number from a memory.
     ///
     /// [`Instruction::I32Load`](super::Instruction::I32Load) is the same instruction as a value.
-    /// The proved [`i32_load`](crate::fallible::InstructionSink::i32_load) of `fallible` encodes the same.
+    /// The proved [`i32_load`](insn::InstructionSink::i32_load) of `fallible` encodes the same.
     #[doc(alias = "i32.load")]
     pub fn i32_load(&mut self, memarg: MemArg) -> &mut Self {
         self.put_here([0x28], &memarg)
@@ -453,7 +453,7 @@ impl InstructionSink<'_> {
     /// Appends `i32.store` (opcode 0x36), a memory instruction that stores a number to a memory.
     ///
     /// [`Instruction::I32Store`](super::Instruction::I32Store) is the same instruction as a value.
-    /// The proved [`i32_store`](crate::fallible::InstructionSink::i32_store) of `fallible` encodes the same.
+    /// The proved [`i32_store`](insn::InstructionSink::i32_store) of `fallible` encodes the same.
     #[doc(alias = "i32.store")]
     pub fn i32_store(&mut self, memarg: MemArg) -> &mut Self {
         self.put_here([0x36], &memarg)
@@ -526,7 +526,7 @@ impl InstructionSink<'_> {
     /// Appends `memory.size` (opcode 0x3F), a memory instruction that returns the size of a memory in pages.
     ///
     /// [`Instruction::MemorySize`](super::Instruction::MemorySize) is the same instruction as a value.
-    /// The proved [`memory_size`](crate::fallible::InstructionSink::memory_size) of `fallible` encodes the same.
+    /// The proved [`memory_size`](insn::InstructionSink::memory_size) of `fallible` encodes the same.
     #[doc(alias = "memory.size")]
     pub fn memory_size(&mut self, mem: u32) -> &mut Self {
         self.put([0x3F], mem)
@@ -535,7 +535,7 @@ impl InstructionSink<'_> {
     /// Appends `memory.grow` (opcode 0x40), a memory instruction that grows a memory by a number of pages.
     ///
     /// [`Instruction::MemoryGrow`](super::Instruction::MemoryGrow) is the same instruction as a value.
-    /// The proved [`memory_grow`](crate::fallible::InstructionSink::memory_grow) of `fallible` encodes the same.
+    /// The proved [`memory_grow`](insn::InstructionSink::memory_grow) of `fallible` encodes the same.
     #[doc(alias = "memory.grow")]
     pub fn memory_grow(&mut self, mem: u32) -> &mut Self {
         self.put([0x40], mem)
@@ -544,7 +544,7 @@ impl InstructionSink<'_> {
     /// Appends `i32.const` (opcode 0x41), a numeric instruction that returns a constant.
     ///
     /// [`Instruction::I32Const`](super::Instruction::I32Const) is the same instruction as a value.
-    /// The proved [`i32_const`](crate::fallible::InstructionSink::i32_const) of `fallible` encodes the same.
+    /// The proved [`i32_const`](insn::InstructionSink::i32_const) of `fallible` encodes the same.
     #[doc(alias = "i32.const")]
     pub fn i32_const(&mut self, value: i32) -> &mut Self {
         self.put_here([0x41], value)
@@ -553,7 +553,7 @@ impl InstructionSink<'_> {
     /// Appends `i64.const` (opcode 0x42), a numeric instruction that returns a constant.
     ///
     /// [`Instruction::I64Const`](super::Instruction::I64Const) is the same instruction as a value.
-    /// The proved [`i64_const`](crate::fallible::InstructionSink::i64_const) of `fallible` encodes the same.
+    /// The proved [`i64_const`](insn::InstructionSink::i64_const) of `fallible` encodes the same.
     #[doc(alias = "i64.const")]
     pub fn i64_const(&mut self, value: i64) -> &mut Self {
         self.put_here([0x42], value)
@@ -562,7 +562,7 @@ impl InstructionSink<'_> {
     /// Appends `f32.const` (opcode 0x43), a numeric instruction that returns a constant.
     ///
     /// [`Instruction::F32Const`](super::Instruction::F32Const) is the same instruction as a value.
-    /// The proved [`f32_const`](crate::fallible::InstructionSink::f32_const) of `fallible` encodes the same.
+    /// The proved [`f32_const`](insn::InstructionSink::f32_const) of `fallible` encodes the same.
     #[doc(alias = "f32.const")]
     pub fn f32_const(&mut self, value: Ieee32) -> &mut Self {
         self.put([0x43], value)
@@ -571,7 +571,7 @@ impl InstructionSink<'_> {
     /// Appends `f64.const` (opcode 0x44), a numeric instruction that returns a constant.
     ///
     /// [`Instruction::F64Const`](super::Instruction::F64Const) is the same instruction as a value.
-    /// The proved [`f64_const`](crate::fallible::InstructionSink::f64_const) of `fallible` encodes the same.
+    /// The proved [`f64_const`](insn::InstructionSink::f64_const) of `fallible` encodes the same.
     #[doc(alias = "f64.const")]
     pub fn f64_const(&mut self, value: Ieee64) -> &mut Self {
         self.put([0x44], value)
@@ -580,7 +580,7 @@ impl InstructionSink<'_> {
     /// Appends `i32.eqz` (opcode 0x45), a numeric instruction that tests whether an integer is zero.
     ///
     /// [`Instruction::I32Eqz`](super::Instruction::I32Eqz) is the same instruction as a value.
-    /// The proved [`i32_eqz`](crate::fallible::InstructionSink::i32_eqz) of `fallible` encodes the same.
+    /// The proved [`i32_eqz`](insn::InstructionSink::i32_eqz) of `fallible` encodes the same.
     #[doc(alias = "i32.eqz")]
     pub fn i32_eqz(&mut self) -> &mut Self {
         self.put_here([0x45], [])
@@ -877,7 +877,7 @@ impl InstructionSink<'_> {
     /// Appends `i32.add` (opcode 0x6A), a numeric instruction that adds two integers.
     ///
     /// [`Instruction::I32Add`](super::Instruction::I32Add) is the same instruction as a value.
-    /// The proved [`i32_add`](crate::fallible::InstructionSink::i32_add) of `fallible` encodes the same.
+    /// The proved [`i32_add`](insn::InstructionSink::i32_add) of `fallible` encodes the same.
     #[doc(alias = "i32.add")]
     pub fn i32_add(&mut self) -> &mut Self {
         self.put_here([0x6A], [])
@@ -886,7 +886,7 @@ impl InstructionSink<'_> {
     /// Appends `i32.sub` (opcode 0x6B), a numeric instruction that subtracts two integers.
     ///
     /// [`Instruction::I32Sub`](super::Instruction::I32Sub) is the same instruction as a value.
-    /// The proved [`i32_sub`](crate::fallible::InstructionSink::i32_sub) of `fallible` encodes the same.
+    /// The proved [`i32_sub`](insn::InstructionSink::i32_sub) of `fallible` encodes the same.
     #[doc(alias = "i32.sub")]
     pub fn i32_sub(&mut self) -> &mut Self {
         self.put_here([0x6B], [])
@@ -895,7 +895,7 @@ impl InstructionSink<'_> {
     /// Appends `i32.mul` (opcode 0x6C), a numeric instruction that multiplies two integers.
     ///
     /// [`Instruction::I32Mul`](super::Instruction::I32Mul) is the same instruction as a value.
-    /// The proved [`i32_mul`](crate::fallible::InstructionSink::i32_mul) of `fallible` encodes the same.
+    /// The proved [`i32_mul`](insn::InstructionSink::i32_mul) of `fallible` encodes the same.
     #[doc(alias = "i32.mul")]
     pub fn i32_mul(&mut self) -> &mut Self {
         self.put([0x6C], [])
@@ -1024,7 +1024,7 @@ impl InstructionSink<'_> {
     /// Appends `i64.add` (opcode 0x7C), a numeric instruction that adds two integers.
     ///
     /// [`Instruction::I64Add`](super::Instruction::I64Add) is the same instruction as a value.
-    /// The proved [`i64_add`](crate::fallible::InstructionSink::i64_add) of `fallible` encodes the same.
+    /// The proved [`i64_add`](insn::InstructionSink::i64_add) of `fallible` encodes the same.
     #[doc(alias = "i64.add")]
     pub fn i64_add(&mut self) -> &mut Self {
         self.put_here([0x7C], [])
@@ -1033,7 +1033,7 @@ impl InstructionSink<'_> {
     /// Appends `i64.sub` (opcode 0x7D), a numeric instruction that subtracts two integers.
     ///
     /// [`Instruction::I64Sub`](super::Instruction::I64Sub) is the same instruction as a value.
-    /// The proved [`i64_sub`](crate::fallible::InstructionSink::i64_sub) of `fallible` encodes the same.
+    /// The proved [`i64_sub`](insn::InstructionSink::i64_sub) of `fallible` encodes the same.
     #[doc(alias = "i64.sub")]
     pub fn i64_sub(&mut self) -> &mut Self {
         self.put([0x7D], [])
@@ -1042,7 +1042,7 @@ impl InstructionSink<'_> {
     /// Appends `i64.mul` (opcode 0x7E), a numeric instruction that multiplies two integers.
     ///
     /// [`Instruction::I64Mul`](super::Instruction::I64Mul) is the same instruction as a value.
-    /// The proved [`i64_mul`](crate::fallible::InstructionSink::i64_mul) of `fallible` encodes the same.
+    /// The proved [`i64_mul`](insn::InstructionSink::i64_mul) of `fallible` encodes the same.
     #[doc(alias = "i64.mul")]
     pub fn i64_mul(&mut self) -> &mut Self {
         self.put([0x7E], [])
@@ -1611,7 +1611,7 @@ impl InstructionSink<'_> {
     /// Appends `ref.null` (opcode 0xD0), a reference instruction that returns a null reference.
     ///
     /// [`Instruction::RefNull`](super::Instruction::RefNull) is the same instruction as a value.
-    /// The proved [`ref_null`](crate::fallible::InstructionSink::ref_null) of `fallible` encodes the same.
+    /// The proved [`ref_null`](insn::InstructionSink::ref_null) of `fallible` encodes the same.
     #[doc(alias = "ref.null")]
     pub fn ref_null(&mut self, heap_type: HeapType) -> &mut Self {
         self.put([0xD0], heap_type)
@@ -1620,7 +1620,7 @@ impl InstructionSink<'_> {
     /// Appends `ref.is_null` (opcode 0xD1), a reference instruction that tests whether a reference is null.
     ///
     /// [`Instruction::RefIsNull`](super::Instruction::RefIsNull) is the same instruction as a value.
-    /// The proved [`ref_is_null`](crate::fallible::InstructionSink::ref_is_null) of `fallible` encodes the same.
+    /// The proved [`ref_is_null`](insn::InstructionSink::ref_is_null) of `fallible` encodes the same.
     #[doc(alias = "ref.is_null")]
     pub fn ref_is_null(&mut self) -> &mut Self {
         self.put([0xD1], [])
@@ -1631,7 +1631,7 @@ impl InstructionSink<'_> {
     /// Imported functions have the first indices: see [`ImportSection`](super::ImportSection).
     ///
     /// [`Instruction::RefFunc`](super::Instruction::RefFunc) is the same instruction as a value.
-    /// The proved [`ref_func`](crate::fallible::InstructionSink::ref_func) of `fallible` encodes the same.
+    /// The proved [`ref_func`](insn::InstructionSink::ref_func) of `fallible` encodes the same.
     #[doc(alias = "ref.func")]
     pub fn ref_func(&mut self, function_index: u32) -> &mut Self {
         self.put([0xD2], function_index)
@@ -1973,14 +1973,14 @@ impl InstructionSink<'_> {
     /// assert_eq!(bytes, [0xFB, 24, 1, 7, 0x70, 0x73]);
     /// ```
     pub fn br_on_cast(&mut self, relative_depth: u32, from_ref_type: RefType, to_ref_type: RefType) -> &mut Self {
-        self.cast([0xFB, 0x18], relative_depth, from_ref_type, to_ref_type)
+        self.value(&insn::Instruction::BrOnCast { relative_depth, from_ref_type, to_ref_type })
     }
 
     /// Appends `br_on_cast_fail` (opcode 0xFB 25), a control instruction that branches to a label if a reference does not have a type.
     ///
     /// [`Instruction::BrOnCastFail`](super::Instruction::BrOnCastFail) is the same instruction as a value.
     pub fn br_on_cast_fail(&mut self, relative_depth: u32, from_ref_type: RefType, to_ref_type: RefType) -> &mut Self {
-        self.cast([0xFB, 0x19], relative_depth, from_ref_type, to_ref_type)
+        self.value(&insn::Instruction::BrOnCastFail { relative_depth, from_ref_type, to_ref_type })
     }
 
     /// Appends `any.convert_extern` (opcode 0xFB 26), an aggregate instruction that converts an external reference to an internal one.
@@ -2067,14 +2067,14 @@ impl InstructionSink<'_> {
     ///
     /// [`Instruction::BrOnCastDescEq`](super::Instruction::BrOnCastDescEq) is the same instruction as a value.
     pub fn br_on_cast_desc_eq(&mut self, relative_depth: u32, from_ref_type: RefType, to_ref_type: RefType) -> &mut Self {
-        self.cast([0xFB, 0x25], relative_depth, from_ref_type, to_ref_type)
+        self.value(&insn::Instruction::BrOnCastDescEq { relative_depth, from_ref_type, to_ref_type })
     }
 
     /// Appends `br_on_cast_desc_eq_fail` (opcode 0xFB 38), an instruction of the custom descriptors proposal that branches to a label if a reference does not have the given descriptor.
     ///
     /// [`Instruction::BrOnCastDescEqFail`](super::Instruction::BrOnCastDescEqFail) is the same instruction as a value.
     pub fn br_on_cast_desc_eq_fail(&mut self, relative_depth: u32, from_ref_type: RefType, to_ref_type: RefType) -> &mut Self {
-        self.cast([0xFB, 0x26], relative_depth, from_ref_type, to_ref_type)
+        self.value(&insn::Instruction::BrOnCastDescEqFail { relative_depth, from_ref_type, to_ref_type })
     }
 
     /// Appends `i32.trunc_sat_f32_s` (opcode 0xFC 0), a numeric instruction that converts a float to an integer, and saturates.
@@ -2398,7 +2398,7 @@ impl InstructionSink<'_> {
     /// Appends `v128.const` (opcode 0xFD 12), a vector instruction that returns a constant.
     ///
     /// [`Instruction::V128Const`](super::Instruction::V128Const) is the same instruction as a value.
-    /// The proved [`v128_const`](crate::fallible::InstructionSink::v128_const) of `fallible` encodes the same.
+    /// The proved [`v128_const`](insn::InstructionSink::v128_const) of `fallible` encodes the same.
     ///
     /// ```
     /// use dolzhytik::InstructionSink;

@@ -2,7 +2,7 @@
 use super::bytes::{append, append_once};
 use super::short::{EMPTY_BLOCK, Short, put_short};
 use super::{NONE, done};
-use crate::base::{self, RefType, Result, vec_of};
+use crate::base::{self, Result, vec_of};
 use crate::ending::{Growing, Root, grow};
 use crate::immediates::BlockType;
 use crate::{code, insn};
@@ -76,16 +76,10 @@ impl<'a> InstructionSink<'a> {
         }
     }
 
-    /// Appends the opcode of a cast and its immediates.
+    /// Appends an instruction by the proved `encode` of its value.
     #[inline(never)]
-    pub(super) fn cast(
-        &mut self,
-        op: [u8; 2],
-        label: u32,
-        from: RefType,
-        to: RefType,
-    ) -> &mut Self {
-        append(&(op, cast(label, from, to)), self.sink);
+    pub(super) fn value(&mut self, instruction: &insn::Instruction<'_>) -> &mut Self {
+        append(instruction, self.sink);
         self
     }
 
@@ -108,13 +102,6 @@ impl<'a> InstructionSink<'a> {
         append_once((parts, done(vec_of(list))), self.sink);
         self
     }
-}
-
-/// Returns the immediates of a cast: a byte with the nullability of both types, the label, and the
-/// heap types.
-pub fn cast(label: u32, from: RefType, to: RefType) -> impl base::Encode {
-    let nullable = u8::from(from.nullable) | u8::from(to.nullable) << 1;
-    (nullable, label, (from.heap_type, to.heap_type))
 }
 
 #[doc = text!(Function)]

@@ -3,7 +3,6 @@
 
 use super::Encode;
 use super::bytes::append;
-use super::code::cast;
 use super::short::{EMPTY_BLOCK, Short, put_short};
 use crate::base::{self, CowSlice, HeapType, Lent, RefType, ValType};
 use crate::alloc::{Allocator, Global};
@@ -5883,10 +5882,23 @@ fn write_block(op: u32, block_type: BlockType, sink: &mut Vec<u8>) {
     }
 }
 
-/// Appends an opcode and its immediates, of which one is a list, or those of a cast.
+/// Appends an opcode and its immediates, of which one is a list.
 #[inline(never)]
 fn write_list<T: base::Encode>(op: u32, parts: T, sink: &mut Vec<u8>) {
     append(&(op_of(op), parts), sink)
+}
+
+/// Appends the encoding of the proved value, where the fields are not the immediates one by one.
+#[inline(never)]
+fn write_proved(instruction: &Instruction<'_>, sink: &mut Vec<u8>) {
+    let proved: insn::Instruction = match instruction {
+        Instruction::BrOnCast { relative_depth: a, from_ref_type: b, to_ref_type: c } => insn::Instruction::BrOnCast { relative_depth: *a, from_ref_type: *b, to_ref_type: *c },
+        Instruction::BrOnCastFail { relative_depth: a, from_ref_type: b, to_ref_type: c } => insn::Instruction::BrOnCastFail { relative_depth: *a, from_ref_type: *b, to_ref_type: *c },
+        Instruction::BrOnCastDescEq { relative_depth: a, from_ref_type: b, to_ref_type: c } => insn::Instruction::BrOnCastDescEq { relative_depth: *a, from_ref_type: *b, to_ref_type: *c },
+        Instruction::BrOnCastDescEqFail { relative_depth: a, from_ref_type: b, to_ref_type: c } => insn::Instruction::BrOnCastDescEqFail { relative_depth: *a, from_ref_type: *b, to_ref_type: *c },
+        _ => unreachable!("its fields are its immediates"),
+    };
+    append(&proved, sink)
 }
 
 /// Encodes the opcode and the immediates.
@@ -6458,10 +6470,10 @@ impl Encode for Instruction<'_> {
             Instruction::Resume { cont_type_index: a, resume_table: b }
             | Instruction::ResumeThrowRef { cont_type_index: a, resume_table: b } => write_list(op, (*a, &**b), sink),
             Instruction::ResumeThrow { cont_type_index: a, tag_index: b, resume_table: c } => write_list(op, (*a, *b, &**c), sink),
-            Instruction::BrOnCast { relative_depth: a, from_ref_type: b, to_ref_type: c }
-            | Instruction::BrOnCastFail { relative_depth: a, from_ref_type: b, to_ref_type: c }
-            | Instruction::BrOnCastDescEq { relative_depth: a, from_ref_type: b, to_ref_type: c }
-            | Instruction::BrOnCastDescEqFail { relative_depth: a, from_ref_type: b, to_ref_type: c } => write_list(op, cast(*a, *b, *c), sink),
+            Instruction::BrOnCast { .. }
+            | Instruction::BrOnCastFail { .. }
+            | Instruction::BrOnCastDescEq { .. }
+            | Instruction::BrOnCastDescEqFail { .. } => write_proved(self, sink),
             Instruction::V128Const(a) => write(op, a.to_le_bytes(), sink),
             Instruction::I8x16Shuffle(a) => write(op, *a, sink),
             Instruction::I8x16ExtractLaneS(a)

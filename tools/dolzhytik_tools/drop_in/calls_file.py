@@ -38,7 +38,7 @@ def documentation(case: Case, proved: dict[str, str]) -> str:
     lines.append("[`Instruction::%s`](super::Instruction::%s) is the same instruction as a value." % (case.name, case.name))
     if case.call in proved and case.shape != "bt":
         name = proved[case.call]
-        lines.append("The proved [`%s`](crate::fallible::InstructionSink::%s) of `fallible` encodes the same." % (name, name))
+        lines.append("The proved [`%s`](insn::InstructionSink::%s) of `fallible` encodes the same." % (name, name))
     ordered, given = [name for name, _ in case.parts], [name for name, _ in case.parameters]
     if ordered != given:
         lines.append("The encoding has %s." % " before ".join("`%s`" % name for name in ordered))
@@ -65,7 +65,7 @@ def body(case: Case, proved: dict[str, str]) -> str:
     if not parts:
         return "self.put%s(%s, [])" % (here, op)
     if case.shape == "k":
-        return "self.cast(%s, %s)" % (op, ", ".join(parts))
+        return "self.value(&insn::Instruction::%s)" % case.of(parts)
     if case.shape == "bt":
         # The proved call measures the list twice.
         return "self.listed(%s, %s).put([], %s)" % (op, *parts)
@@ -97,7 +97,7 @@ def calls_file(cases: list[Case], proved: dict[str, str]) -> str:
 
 use super::InstructionSink;
 use crate::base::{HeapType, RefType, ValType};
-use crate::insn::{BlockType, Catch, Handle, Ieee32, Ieee64, Lane, MemArg, Ordering};
+use crate::insn::{self, BlockType, Catch, Handle, Ieee32, Ieee64, Lane, MemArg, Ordering};
 
 impl InstructionSink<'_> {
 %s}

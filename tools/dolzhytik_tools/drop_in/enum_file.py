@@ -84,9 +84,10 @@ def written_part(case: Case, it: str, ty: str) -> str:
 
 
 def written(case: Case) -> str:
-    """Returns the call that encodes a case: its opcode and its immediates."""
+    """Returns the call that encodes a case: its opcode and its immediates, or the proved value if
+    the fields are not the immediates one by one."""
     if case.shape == "k":
-        return "write_list(op, cast(*a, *b, *c), sink)"
+        return "write_proved(self, sink)"
     if case.shape == "b":
         return "write_block(op, *a, sink)"
     parts = [written_part(case, it, ty) for it, ty in zip(case.letters(), case.types)]
@@ -122,7 +123,8 @@ def arms(ways: Iterable[tuple[tuple[str, ...], str, Case]]) -> str:
     """Returns an arm for the cases of the same types and the same expression."""
     patterns: dict[tuple[tuple[str, ...], str], list[str]] = {}
     for types, way, case in ways:
-        patterns.setdefault((types, way), []).append("Instruction::" + case.of(case.letters()))
+        of = case.pattern() if "self" in way else case.of(case.letters())
+        patterns.setdefault((types, way), []).append("Instruction::" + of)
     return "".join("            %s => %s,\n" % ("\n            | ".join(of), way) for (_, way), of in patterns.items())
 
 
@@ -130,7 +132,6 @@ TEMPLATE = """//! The instructions, as cases of one enum.
 
 use super::Encode;
 use super::bytes::append;
-use super::code::cast;
 use super::short::{EMPTY_BLOCK, Short, put_short};
 use crate::base::{self, CowSlice, HeapType, Lent, RefType, ValType};
 use crate::alloc::{Allocator, Global};
@@ -405,10 +406,19 @@ fn write_block(op: u32, block_type: BlockType, sink: &mut Vec<u8>) {
     }
 }
 
-/// Appends an opcode and its immediates, of which one is a list, or those of a cast.
+/// Appends an opcode and its immediates, of which one is a list.
 #[inline(never)]
 fn write_list<T: base::Encode>(op: u32, parts: T, sink: &mut Vec<u8>) {
     append(&(op_of(op), parts), sink)
+}
+
+/// Appends the encoding of the proved value, where the fields are not the immediates one by one.
+#[inline(never)]
+fn write_proved(instruction: &Instruction<'_>, sink: &mut Vec<u8>) {
+    let proved: insn::Instruction = match instruction {
+%s        _ => unreachable!("its fields are its immediates"),
+    };
+    append(&proved, sink)
 }
 
 /// Encodes the opcode and the immediates.
@@ -431,5 +441,6 @@ def instruction_file(cases: list[Case]) -> str:
         "".join(map(conversion, cases)),
         "".join(map(decoded_arm, cases)),
         "".join(map(op_arm, cases)),
+        "".join(conversion(case)[4:] for case in cases if case.shape == "k"),
         encode_arms(cases),
     )
