@@ -8,7 +8,7 @@ use dolzhytik::fallible::{
     self, EntityType, Global, Import, InstructionSink, Op, RawSection, Refused,
 };
 use dolzhytik::reader::remap::{
-    IndexTooLarge, Instrument, Position, Prologue, RemapError, Visited, insert_code, insert_import,
+    IndexSpace, IndexTooLarge, Instrument, Position, Prologue, RemapError, Visited, insert_code, insert_import,
     insert_section, instrument_code,
 };
 use dolzhytik::reader::{Body, Items, Offsets, Plain as Decoded, Section, Sections};
@@ -100,7 +100,10 @@ fn is_imported(bytes: &[u8]) -> bool {
             inserted(&module, 2, &payload, Position::First).as_deref() == Some(&given[..])
         }
         // The plain map gives 0 for the last index.
-        (Err(error), Answer::Remapped(_)) => error == RemapError::Index(IndexTooLarge),
+        (Err(error), Answer::Remapped(_)) => {
+            let (space, index) = (IndexSpace::Functions, u32::MAX);
+            error == RemapError::Index(IndexTooLarge { space, index })
+        }
         (Err(_), _) => true,
         _ => false,
     }

@@ -14,7 +14,7 @@ use dolzhytik::reader::remap::{
     IndexSpace, Position, Remap, RemapError, remap_items, remap_module, remap_section, spaces_of,
 };
 use dolzhytik::reader::{
-    self, ModuleFault, Offsets, ReadError, ReadFault, Reencode, ReencodeError, Sections, Standard,
+    self, ModuleFault, Offsets, ReadError, ReadFault, Reencode, Sections, Standard,
     encode_items_in, shorten_module,
 };
 use std::cell::Cell;
@@ -200,16 +200,12 @@ impl Reencode for Methods<'_> {
 
 // ---- the plain remapper
 
-/// The id of code sections.
-const CODE: u8 = 10;
-
 /// The result for a module or a section.
 #[derive(Debug)]
 pub enum Answer {
     Remapped(Vec<u8>),
-    /// The bytes do not decode. The error is at one of these offsets, or is that of one of these
-    /// indices, which come before it and are rejected.
-    Unread(RangeInclusive<usize>, Vec<(Space, u32)>),
+    /// The bytes do not decode. The error is at one of these offsets.
+    Unread(RangeInclusive<usize>),
     /// The map rejects these indices.
     Rejected(Vec<(Space, u32)>),
     /// The section at this offset holds offsets.
@@ -219,7 +215,7 @@ pub enum Answer {
 /// The result for the size prefix and the payload of a section.
 fn remapped_section(section: &Section<'_>, map: &Map) -> Answer {
     let indices = |space, index| map.new_of(space, index);
-    let (decoded, mut rejected) = remapped(section.framed, section.kind(), &indices);
+    let (decoded, rejected) = remapped(section.framed, section.kind(), &indices);
     match decoded {
         Some((encoding, taken)) if taken == section.framed.len() => {
             if rejected.is_empty() {
@@ -228,29 +224,20 @@ fn remapped_section(section: &Section<'_>, map: &Map) -> Answer {
                 Answer::Rejected(rejected)
             }
         }
-        _ => {
-            // Only code is mapped while it is decoded.
-            if section.id != CODE {
-                rejected.clear();
-            }
-            Answer::Unread(
-                section.offset..=section.offset + section.payload.len(),
-                rejected,
-            )
-        }
+        _ => Answer::Unread(section.offset..=section.offset + section.payload.len()),
     }
 }
 
 /// The result for a module.
 pub fn remapped_module(bytes: &[u8], map: &Map, leaves_out: bool) -> Answer {
     if !bytes.starts_with(HEADER) {
-        return Answer::Unread(0..=bytes.len(), Vec::new());
+        return Answer::Unread(0..=bytes.len());
     }
     let mut module = HEADER.to_vec();
     let mut at = HEADER.len();
     while at < bytes.len() {
         let Some(section) = section(bytes, at) else {
-            return Answer::Unread(at..=bytes.len(), Vec::new());
+            return Answer::Unread(at..=bytes.len());
         };
         if section.holder().is_none() {
             match remapped_section(&section, map) {
@@ -273,13 +260,13 @@ pub fn remapped_module(bytes: &[u8], map: &Map, leaves_out: bool) -> Answer {
 /// Whether an error of the library is the one that is expected.
 fn is_same_error(given: &RemapError<(Space, u32)>, expected: &Answer, counts: &mut Counts) -> bool {
     match (given, expected) {
-        (RemapError::Read(error), Answer::Unread(offsets, _)) => {
+        (RemapError::Read(error), Answer::Unread(offsets)) => {
             let ReadError { cause, offset } = *error;
             counts.unread += 1;
             offsets.contains(&offset)
                 && ![ReadFault::Memory, ReadFault::NotShortest].contains(&cause)
         }
-        (RemapError::Index(index), Answer::Rejected(rejected) | Answer::Unread(_, rejected)) => {
+        (RemapError::Index(index), Answer::Rejected(rejected)) => {
             counts.rejected += 1;
             counts.later += u64::from(rejected.first() != Some(index));
             rejected.contains(index)
@@ -292,8 +279,7 @@ fn is_same_error(given: &RemapError<(Space, u32)>, expected: &Answer, counts: &m
     }
 }
 
-/// Whether `Reencode` gives this result of `remap_module` too. Only `remap_module` reports a rejected
-/// index in code before a wrong byte.
+/// Whether `Reencode` gives this result of `remap_module` too.
 fn is_reencoded(
     bytes: &[u8],
     map: &Map,
@@ -302,7 +288,6 @@ fn is_reencoded(
 ) -> bool {
     match (Methods(map).reencode_module(bytes, offsets), given) {
         (Ok(reencoded), Ok(given)) => reencoded[..] == given[..],
-        (Err(ReencodeError::Read(_)), Err(RemapError::Index(_))) => true,
         (Err(error), Err(given)) => error == (*given).into(),
         _ => false,
     }
@@ -360,10 +345,9 @@ fn is_same_section(given: &reader::Section<'_>, map: &Map, counts: &mut Counts) 
         (Err(RemapError::Read(error)), Answer::Unread(..)) => {
             payload.is_empty() && given.items().err() == Some(error)
         }
-        (
-            Err(RemapError::Index(index)),
-            Answer::Rejected(rejected) | Answer::Unread(_, rejected),
-        ) => payload.is_empty() && rejected.contains(&index),
+        (Err(RemapError::Index(index)), Answer::Rejected(rejected)) => {
+            payload.is_empty() && rejected.contains(&index)
+        }
         _ => false,
     }
 }

@@ -48,7 +48,8 @@ impl<E: Error> Error for RemapError<E> {
 
 impl fmt::Display for IndexTooLarge {
     fn fmt(&self, f: &mut fmt::Formatter<'_>) -> fmt::Result {
-        f.write_str("an index would be more than 4294967295")
+        let Self { space, index } = self;
+        write!(f, "index {index} of {space:?} would become more than 4294967295")
     }
 }
 

@@ -1,8 +1,8 @@
--- This file proves that the map to the next function gives indices of 32 bits.
+-- This file proves of maps of functions that they give indices of 32 bits.
 use Rattle.wasm_base.proofs.Words.{◌≡◌, ◌≢◌, ℕ, ◌+◌, ◌^◌, ◌<◌, ◌==◌, Bool, true, false, cond, refl, arith, eqb-false}
 use Rattle.wasm_remap.specs.Mapping.{IsSmall}
 use Rattle.wasm_remap.specs.declared.spaces.IndexSpace.TheVariants as spaces
-use Rattle.read_back.specs.Remapped.{next, next_function}
+use Rattle.read_back.specs.Remapped.{exchanged, next, next_function}
 
 small : (n : ℕ) → n < 2 ^ 32 → next n < 2 ^ 32
 small n h = go (n == 0xFFFFFFFF) refl
@@ -23,3 +23,13 @@ next_small spaces.Globals n h = h
 next_small spaces.Tags n h = h
 next_small spaces.Elements n h = h
 next_small spaces.Data n h = h
+
+-- The exchanged functions have new indices below 2^32.
+pub exchanged_small : (first second : ℕ) → first < 2 ^ 32 → second < 2 ^ 32 → IsSmall (exchanged first second)
+exchanged_small first second f s spaces.Functions n lt = go (n == first) (n == second)
+  where
+    go : (a b : Bool) → cond a second (cond b first n) < 2 ^ 32
+    go true b = s
+    go false true = f
+    go false false = lt
+exchanged_small first second f s space n lt = lt

@@ -19,6 +19,11 @@ next_function space n = n
 abbrev pub IsLast : IndexSpace → ℕ → Type 0
 IsLast space n = (space ≡ spaces.Functions) × (n ≡ 0xFFFFFFFF)
 
+-- The first function for the second, the second for the first, and each other index as it is.
+abbrev pub exchanged : (first second : ℕ) → IndexSpace → ℕ → ℕ
+exchanged first second spaces.Functions n = cond (n == first) second (cond (n == second) first n)
+exchanged first second space n = n
+
 -- The section decodes to items. If it has fewer than 2^26 bytes, the new bytes are the minimal
 -- encoding of the items in which each function has the next index, as a payload.
 pub record IsRemapped (s : Section) (new : List ℕ) : Type 0 where

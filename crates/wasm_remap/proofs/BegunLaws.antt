@@ -1,7 +1,8 @@
 -- This file proves bodies that begin with inserted instructions.
-use Rattle.wasm_base.proofs.Words.{◌≡◌, ℕ, zero, suc, ◌+◌, ◌<◌, List, [], ◌∷◌, ◌++◌, length, Option, Some, Result, Ok, Err, refl, sym, ap, ap₂, subst, ◌∙◌, arith, append_assoc, append-nil, length-append, AllZip, AreGroups}
-use Rattle.wasm_base.proofs.Words.{Format, Decodes, padded, standard, any_bytes, members, pair, size_prefixed, u32, vec, val_type, decodes_same, u32_unambiguous, size_prefixed_bytes_unambiguous, unsigned_encoding, joined, IsEncodableSection, vec_of_pieces}
+use Rattle.wasm_base.proofs.Words.{◌≡◌, ◌≢◌, ℕ, zero, suc, ◌+◌, ◌<◌, List, [], ◌∷◌, ◌++◌, length, Option, Some, Result, Ok, Err, refl, sym, ap, ap₂, subst, ◌∙◌, arith, append_assoc, append-nil, length-append, AllZip, AreGroups}
+use Rattle.wasm_base.proofs.Words.{Format, Decodes, Rejects, RejectsWhole, padded, standard, any_bytes, members, pair, size_prefixed, u32, vec, val_type, decodes_same, u32_unambiguous, size_prefixed_bytes_unambiguous, unsigned_encoding, joined, IsEncodableSection, vec_of_pieces}
 use Rattle.std.proofs.lemmas.List.{append_cancel_right}
+use Rattle.wasm_base.specs.declared.fault.ReadFault.TheVariants.{Memory}
 use Rattle.wasm_code.proofs.Words.{Body, body}
 use Rattle.wasm_code.proofs.BodyLaws.{runs_unambiguous}
 use Rattle.wasm_code.specs.Bodies.{Run}
@@ -103,6 +104,7 @@ pub record HasEdited (f : ℕ → Body → List Body) (bodies : List Body) (it :
   pub done : List Body
   pub todo : List Body
   pub all : bodies ≡ done ++ todo
+  pub left : it.left ≡ length todo
   pub rest : members (size_prefixed body) standard it.rest todo
   pub encode : EncodeBodies entries (each_from f 0 done)
   pub counted : number ≡ length done
@@ -115,6 +117,7 @@ edited_none {it = it} f bodies d h e =
       done = [];
       todo = bodies;
       all = refl;
+      left = same.0;
       rest = subst (λ s. members (size_prefixed body) standard s bodies) (sym same.2) h.second;
       encode = subst (λ es. EncodeBodies es []) (sym e) tt;
       counted = refl;
@@ -130,6 +133,7 @@ edited_more {f = f} {before = before} {number = number} more h g adds step =
       done = h.done ++ n.x ∷ [];
       todo = n.others;
       all = h.all ∙ ap (λ l. h.done ++ l) n.is ∙ sym (append_assoc h.done (n.x ∷ []) n.others);
+      left = omega (arith, h.left, g.left, ap length n.is);
       rest = n.left;
       encode = subst (λ es. EncodeBodies es (each_from f 0 (h.done ++ n.x ∷ []))) (sym added.is)
           (subst (λ xs. EncodeBodies (before ++ added.entries) xs) (ap (λ i. each_from f 0 h.done ++ f i n.x) (h.counted ∙ from_none) ∙ each_push f h.done 0 n.x)
@@ -141,6 +145,36 @@ pub edited_all : {f : ℕ → Body → List Body} {bodies : List Body} {it : Vis
 edited_all {f = f} {entries = entries} h e =
     let none = none_left h.todo (subst (λ s. members (size_prefixed body) standard s h.todo) e h.rest) in
     subst (λ bodies. EncodeBodies entries (each_from f 0 bodies)) (sym (h.all ∙ ap (λ l. h.done ++ l) none ∙ append-nil h.done)) h.encode
+
+-- LEB128 that the standard's grammar admits is admitted as padded LEB128.
+as_padded : {s : List ℕ} {n : ℕ} → u32 standard s n → u32 padded s n
+as_padded h = record { groups = h.groups; total = h.total; range = h.range; size = h.size }
+
+-- The number of bodies decodes.
+pub no_number : {payload : List ℕ} (bodies : List Body) → vec (size_prefixed body) standard payload bodies → Rejects u32 padded payload → ⊥
+no_number bodies h n = n.none (length bodies) h.back (record { front = h.front; split = h.joined; encodes = as_padded h.first })
+
+-- A result of `next` that is an error.
+pub given_error : {old new : Visiting} {r : Result LocatedBody ReadError} {e : ReadError} → r ≡ Err e → NextBody old (Some r) new → EndsBodies old e new
+given_error {old = old} {new = new} e h = subst (λ z. NextBody old (Some z) new) e h
+
+-- The iterator fails only if an allocation fails.
+pub no_error : {f : ℕ → Body → List Body} {bodies : List Body} {old new : Visiting} {e : ReadError} {entries : List (List ℕ)} {number : ℕ} → HasEdited f bodies old entries number → EndsBodies old e new → e.cause ≢ Memory → ⊥
+no_error {old = old} h ends other = go h.todo h.left h.rest
+  where
+    go : (todo : List Body) → old.left ≡ length todo → members (size_prefixed body) standard old.rest todo → ⊥
+    go [] e rest = ends.more e rest
+    go (x ∷ others) e rest = (ends.none other (λ z. omega (arith, e, z))).none rest.3.content rest.1 (record {
+      front = rest.0;
+      split = rest.2;
+      encodes = record { front = rest.3.front; content = rest.3.content; joined = rest.3.joined; size = as_padded rest.3.size; encodes = refl };
+    })
+
+-- Each body that it returns decodes.
+pub no_body : {f : ℕ → Body → List Body} {bodies : List Body} {old new : Visiting} {b : LocatedBody} {entries : List (List ℕ)} {number : ℕ} → HasEdited f bodies old entries number → GivesBody old b new → RejectsWhole body standard b.bytes → ⊥
+no_body h g n =
+    let next = next_body h.todo g h.rest in
+    n.none next.x next.decodes
 
 -- The payload of the new code section.
 pub edited_payload : (entries : List (List ℕ)) (bodies : List Body) → IsEncodableSection entries → EncodeBodies entries bodies → vec (size_prefixed body) standard (unsigned_encoding (length entries) ++ joined entries) bodies

@@ -1,11 +1,11 @@
 -- This file proves what a pass appends for the content of a section.
 use Rattle.wasm_base.proofs.Words.{◌≡◌, ℕ, List, [], map, refl, sym, ap, subst}
 use Rattle.wasm_base.specs.Formats.{size_prefixed, vec}
-use Rattle.wasm_base.specs.Minimal.{AppendsMinimal, Includes, both_grammars}
+use Rattle.wasm_base.specs.Minimal.{AppendsMinimal, HasEncoding, Includes, both_grammars}
 use Rattle.wasm_base.specs.Numbers.{Grammar, admitted, builders, padded, padded_of, standard}
 use Rattle.wasm_code.specs.Bodies.{Body, body}
 use Rattle.wasm_reader.specs.Kinds.{Bodies, Contents, content, grammars_of, kind_in}
-use Rattle.wasm_reader.specs.Sections.{AppendsContentIn}
+use Rattle.wasm_reader.specs.Sections.{AppendsContentIn, HasContentIn}
 use Rattle.wasm_reader.specs.Words.{Section, section_kind_of}
 use Rattle.wasm_reader.specs.declared.kinds.SectionKind.{SectionKind}
 use Rattle.wasm_reader.specs.declared.kinds.SectionKind.TheVariants as kinds
@@ -28,6 +28,10 @@ built_appends x old new e a = record {
   appended = a.appended;
   encodes = λ q. a.encodes admitted (subst (λ k. Includes k admitted) (sym e) tt) q.bytes (in_standard (kind_in x) q.grammar q.bytes x q.decoded);
 }
+
+-- An encoding in one of these grammars is one in the standard's.
+pub built_has : (x : Contents) → grammars_of (kind_in x) ≡ both_grammars → HasContentIn admitted x → HasEncoding (grammars_of (kind_in x)) (content (kind_in x)) x
+built_has x e q = record { grammar = q.grammar; included = subst (λ k. Includes k q.grammar) (sym e) tt; bytes = q.bytes; decoded = q.decoded }
 
 abbrev bodies_in : Contents → List Body
 bodies_in (Bodies xs) = xs

@@ -1,5 +1,5 @@
 -- This file proves the number of imported entities of an index space.
-use Rattle.wasm_base.proofs.Words.{◌≡◌, ℕ, ◌+◌, ◌<◌, List, [], ◌∷◌, ◌++◌, Bool, cond, length, get_or, map, take, refl, sym, ap, ◌∙◌, arith, take_more, map-append}
+use Rattle.wasm_base.proofs.Words.{◌≡◌, ℕ, ◌+◌, ◌<◌, ◌≤◌, List, [], ◌∷◌, ◌++◌, Bool, cond, length, get_or, map, take, drop, take-append-drop, refl, sym, ap, ◌∙◌, arith, take_more, map-append}
 use Rattle.std.specs.List.{count_by, fold}
 use Rattle.wasm_sections.specs.Imports.{ImportItem}
 use Rattle.wasm_remap.specs.Imported.{imported, imported_from}
@@ -17,6 +17,12 @@ imported_more space view xs i x low e =
     let f = ap (λ l. imported space (map view l)) (take_more xs i x low) ∙ ap (imported space) (map-append view (take i xs) (get_or xs i x ∷ [])) ∙ imported_join space (map view (take i xs)) (view (get_or xs i x) ∷ [])
     ∙ ap (λ y. imported space (map view (take i xs)) + (imported_from space (view y).imported + 0)) (sym e) in
     omega (arith, f)
+
+-- Some entries of a list import no more than all of them.
+pub imported_prefix : {T : Type 0} (space : IndexSpace) (view : T → ImportItem) (xs : List T) (k : ℕ) → imported space (map view (take k xs)) ≤ imported space (map view xs)
+imported_prefix space view xs k =
+    let split = ap (λ l. imported space (map view l)) (sym (take-append-drop k xs)) ∙ ap (imported space) (map-append view (take k xs) (drop k xs)) ∙ imported_join space (map view (take k xs)) (map view (drop k xs)) in
+    omega (arith, split)
 
 images_from : {T X : Type 0} (p : X → Bool) (view : T → X) (xs : List T) (n : ℕ) → fold (λ a x. a + cond (p (view x)) 1 0) n xs ≡ fold (λ a x. a + cond (p x) 1 0) n (map view xs)
 images_from p view [] n = refl

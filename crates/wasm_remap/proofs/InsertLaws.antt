@@ -1,9 +1,10 @@
 -- This file proves modules into which a section is inserted.
-use Rattle.wasm_base.proofs.Words.{◌≡◌, ◌≢◌, ◌⊎◌, ℕ, ◌+◌, ◌<◌, ◌^◌, List, [], ◌∷◌, ◌++◌, length, map, Bool, true, false, inl, inr, refl, sym, ap, ap₂, subst, take, drop, take-append-drop, ◌∙◌, length-append, arith, Format, members, vec, u32, standard, unsigned_encoding, u32_in, u32_unambiguous, Decodes, DecodesWhole, IsSizePrefixed, wasm_module}
+use Rattle.wasm_base.proofs.Words.{◌≡◌, ◌≢◌, ◌⊎◌, ℕ, ◌+◌, ◌<◌, ◌^◌, List, [], ◌∷◌, ◌++◌, length, map, Bool, true, false, inl, inr, refl, sym, ap, ap₂, subst, take, drop, take-append-drop, ◌∙◌, length-append, arith, Format, members, vec, u32, standard, unsigned_encoding, u32_in, u32_unambiguous, Decodes, DecodesWhole, IsSizePrefixed, Rejects, wasm_module}
 use Rattle.wasm_code.proofs.ExpressionLaws.{members_join}
 use Rattle.std.proofs.lemmas.List.{take-map, drop-map}
 use Rattle.wasm_reader.specs.Iterating.{Located}
 use Rattle.wasm_reader.specs.Outlines.{HasSections, Section}
+use Rattle.wasm_remap.specs.Errors.{AreTooMany}
 use Rattle.wasm_remap.specs.Inserted.{GainsMembers, InsertsSection, IsAdded, IsExtended, IsJoined, IsPayload, between, is_number, joined_lists}
 use Rattle.wasm_remap.specs.Places.{IsFound, IsPlace, lacks, rank_of, sections_in}
 use Rattle.wasm_remap.specs.declared.insert.Position.{Position}
@@ -56,6 +57,14 @@ sized_payload {payload = payload} {rest = rest} {n = n} h d =
     let same = u32_unambiguous.unique standard (unsigned_encoding (length payload)) d.front payload rest (length payload) n size d.encodes (sym h.is ∙ d.split) in
     sym same.2
 
+-- An encoding begins with its size prefix.
+pub sized_read : {encoding payload : List ℕ} → IsSizePrefixed encoding payload → Rejects u32 standard encoding → ⊥
+sized_read {payload = payload} h n = n.none (length payload) payload (record { front = unsigned_encoding (length payload); split = h.is; encodes = u32_in standard (length payload) (omega (arith, h.encodable)) })
+
+-- The counts of new members and old ones do not fit.
+pub are_too_many : {encoding payload new old : List ℕ} {size a b : ℕ} (new_members old_members : List ℕ) → IsSizePrefixed encoding new → Decodes u32 standard encoding size payload → Decodes u32 standard payload a new_members → Decodes u32 standard old b old_members → (a + b < 2 ^ 32 → ⊥) → AreTooMany new old
+are_too_many {a = a} {b = b} new_members old_members sized d new old unfit = record { new_count = a; new_members = new_members; new_read = subst (λ s. Decodes u32 standard s a new_members) (sized_payload sized d) new; old_count = b; old_members = old_members; old_read = old; unfit = unfit }
+
 -- The payload of a list of new members and old ones.
 pub is_joined : (p : Position) {encoding payload new old joined : List ℕ} {size a b count : ℕ} (new_members old_members : List ℕ) → IsSizePrefixed encoding new → Decodes u32 standard encoding size payload → Decodes u32 standard payload a new_members → Decodes u32 standard old b old_members
     → count ≡ a + b → count < 2 ^ 32 → joined ≡ unsigned_encoding count ++ joined_lists p new_members old_members → IsJoined p new old joined
@@ -86,7 +95,7 @@ gains_members F p id {new = new} {bytes = bytes} {edited = edited} xs plain read
           before = e.before;
           after = e.after;
           payload = e.payload;
-          members = inl (e.section, e.found.split, e.found.is, λ ys old. payload_members F p id xs ys plain e.has read old);
+          members = inl (e.section, e.found, λ ys old. payload_members F p id xs ys plain e.has read old);
           decodes = subst (λ z. DecodesWhole wasm_module edited z) e.are h.decodes;
         }
     go (inr g) =
@@ -96,7 +105,7 @@ gains_members F p id {new = new} {bytes = bytes} {edited = edited} xs plain read
           before = g.before;
           after = g.after;
           payload = new;
-          members = inr (g.split, read);
+          members = inr (g.split, g.ordered, read);
           decodes = subst (λ z. DecodesWhole wasm_module edited z) g.are h.decodes;
         }
 

@@ -1,6 +1,6 @@
 -- This file proves bodies with instructions before and after their own.
-use Rattle.wasm_base.proofs.Words.{◌≡◌, ℕ, zero, suc, ◌+◌, ◌<◌, ◌==◌, List, [], ◌∷◌, ◌++◌, length, Bool, true, false, cond, refl, sym, ap, ap₂, subst, ◌∙◌, arith, append_assoc, append-nil, length-append, length-drop, eqb-true, eqb-false, take, drop, drop-drop, take-append-drop, ◌-◌, ◌≤◌, Result, Option, Ok, Some, None}
-use Rattle.wasm_base.proofs.Words.{Decodes, standard, members, pair, u32, vec, val_type, decodes_same}
+use Rattle.wasm_base.proofs.Words.{◌≡◌, ◌≢◌, ℕ, zero, suc, ◌+◌, ◌<◌, ◌==◌, List, [], ◌∷◌, ◌++◌, length, Bool, true, false, cond, refl, sym, ap, ap₂, subst, ◌∙◌, arith, append_assoc, append-nil, length-append, length-drop, eqb-true, eqb-false, take, drop, drop-drop, take-append-drop, ◌-◌, ◌≤◌, Result, Option, Ok, Err, Some, None}
+use Rattle.wasm_base.proofs.Words.{Decodes, Rejects, standard, members, pair, u32, vec, val_type, decodes_same}
 use Rattle.std.proofs.lemmas.List.{append_cancel_right}
 use Rattle.wasm_base.proofs.DecodeWhole.{member_shorter}
 use Rattle.wasm_code.proofs.Words.{Body, body}
@@ -9,6 +9,7 @@ use Rattle.wasm_code.proofs.ExpressionLaws.{members_join}
 use Rattle.wasm_base.specs.Faults.{Failure}
 use Rattle.wasm_code.specs.Bodies.{Run}
 use Rattle.wasm_code.specs.Words.{GivesInstruction, NextInstruction, Walking, ahead}
+use Rattle.wasm_code.specs.Walks.{GivesFailure}
 use Rattle.wasm_code.specs.declared.walk.Decoded.{Decoded}
 use Rattle.wasm_insn.proofs.InstructionLaws.{any_begins, unique}
 use Rattle.wasm_insn.proofs.Words.{Plain, instruction, table}
@@ -168,6 +169,17 @@ given {before = before} {after = after} e h = subst (λ z. NextInstruction stand
 
 pub ended : (before after : Walking) {r : Result (Option Decoded) Failure} → r ≡ Ok None → NextInstruction standard before r after → ahead before ≡ []
 ended before after e h = (subst (λ z. NextInstruction standard before z after) e h).0
+
+pub failed : (before after : Walking) {r : Result (Option Decoded) Failure} {e : Failure} → r ≡ Err e → NextInstruction standard before r after → GivesFailure (instruction table) standard before e after × (ahead before ≢ [])
+failed before after e h = subst (λ z. NextInstruction standard before z after) e h
+
+-- The next instruction of a body decodes.
+pub woven_decodes : {before after : Around} {x : Body} {locals rest : List ℕ} {count : ℕ} {new : List ℕ} → HasWoven before after x locals rest count new → rest ≢ [] → Rejects (instruction table) standard rest → ⊥
+woven_decodes {rest = rest} h more none = go h.todo h.left
+  where
+    go : (todo : List Plain) → members (instruction table) standard rest todo → ⊥
+    go [] left = more left
+    go (i ∷ todo) left = none.none i left.1 (record { front = left.0; split = left.2; encodes = left.3 })
 
 same_test : (a b c d : ℕ) → (a ≡ b → c ≡ d) → (c ≡ d → a ≡ b) → (a == b) ≡ (c == d)
 same_test a b c d f g = go (a == b) (c == d) refl refl

@@ -19,4 +19,7 @@ pub mod BodyLaws
 pub mod ContentLaws
 pub mod CountedImports
 pub mod InstrumentedLaws
+pub mod ErrorLaws
+pub mod MappableLaws
 pub mod RemovedLaws
+pub mod UnusedLaws

@@ -14,13 +14,16 @@ use Rattle.wasm_reader.specs.declared.kinds.SectionKind.{SectionKind}
 use Rattle.wasm_reader.specs.declared.kinds.SectionKind.TheVariants as kinds
 use Rattle.wasm_reader.proofs.KindLaws.{content_whole, kind_is}
 use Rattle.wasm_remap.specs.Customs.{name_spaces, space_among, remapped_name}
+use Rattle.wasm_reader.specs.declared.whole.Offsets.{Offsets}
+use Rattle.wasm_remap.specs.Errors.{ExplainsChange, ExplainsContent, ExplainsModule}
+use Rattle.wasm_remap.specs.declared.indexed.RemapError.{RemapError}
+use Rattle.wasm_remap.specs.declared.remove.RemoveError.{RemoveError}
+use Rattle.wasm_remap.proofs.ErrorLaws.{explains_each}
 use Rattle.wasm_remap.specs.Instructions.{remapped_body}
 use Rattle.wasm_remap.specs.Mapping.{Follows, IsSmall, Mapping, mapped_first}
-use Rattle.wasm_remap.specs.Removed.{HasNone, IsTrimmed, Renumbers, by_table, is_removed, numbered, staying, stays, trimmed, trimmed_name, unflagged}
+use Rattle.wasm_remap.specs.Removed.{ExplainsTrimmed, IsTrimmed, IsTrimmedBy, IsUse, Renumbers, by_table, is_removed, numbered, staying, stays, trimmed, trimmed_name, unflagged}
 use Rattle.wasm_remap.specs.Sections.{remapped}
 use Rattle.wasm_remap.specs.Shifted.{is_same}
-use Rattle.wasm_remap.specs.declared.remove.RemoveError.{RemoveError}
-use Rattle.wasm_remap.specs.declared.remove.RemoveError.TheVariants.{InUse}
 use Rattle.wasm_remap.specs.declared.spaces.IndexSpace.{IndexSpace}
 use Rattle.wasm_remap.specs.declared.spaces.IndexSpace.TheVariants as spaces
 use Rattle.wasm_remap.proofs.MappedCode.{body_maps, index_maps}
@@ -159,8 +162,24 @@ pub numbered_done : (flags : List Bool) (old : List (Option ℕ)) (k next : ℕ)
 numbered_done flags old k next l h = sym (append-nil old) ∙ ap (λ z. old ++ numbered next z) (sym (drop_all k flags l)) ∙ h
 
 -- Such a mapping is one that the table follows.
-pub renumbers_follows : (removed : List Bool) (m : Mapping) → Renumbers removed m → Follows (by_table (numbered 0 removed)) (λ space n (e : RemoveError). HasNone (numbered 0 removed) space n) m
-renumbers_follows removed m h space n accepted = h space n (λ none. accepted (InUse 0) none)
+pub renumbers_follows : (removed : List Bool) (m : Mapping) → Renumbers removed m → Follows (by_table (numbered 0 removed)) (IsUse (numbered 0 removed)) m
+renumbers_follows removed m h space n accepted = h space n (λ none. accepted _ (record { none = none; is = refl }))
+
+-- The change of a section by a table, of which `defined` has the flags of the defined functions.
+abbrev by_flags : List Bool → List (Option ℕ) → List Bool → Section → List ℕ → Type 0
+by_flags removed table defined s payload = (m : Mapping) → Follows (by_table table) (IsUse table) m → IsTrimmed removed defined m s payload
+
+-- Why it fails.
+abbrev why_by_flags : List Bool → List (Option ℕ) → List Bool → Section → RemapError RemoveError → Type 0
+why_by_flags removed table defined = ExplainsContent (λ x. remapped (by_table table) (trimmed removed defined x)) (IsUse table)
+
+-- Why a module is not changed by the table and the flags of a removal.
+pub removal_explained : (removed : List Bool) (offsets : Offsets) (bytes : List ℕ) (imported : ℕ) {table : List (Option ℕ)} {defined : List Bool} → table ≡ numbered 0 removed → defined ≡ drop imported removed → (e : RemapError RemoveError) → ExplainsModule (ExplainsChange (by_flags removed table defined) (why_by_flags removed table defined)) offsets bytes e
+    → ExplainsModule (ExplainsChange (IsTrimmedBy removed (drop imported removed)) (ExplainsTrimmed removed (drop imported removed))) offsets bytes e
+removal_explained removed offsets bytes imported {table = table} {defined = defined} t d e h =
+    let same = subst (λ ts. ExplainsModule (ExplainsChange (by_flags removed ts defined) (why_by_flags removed ts defined)) offsets bytes e) t h in
+    let own = subst (λ ds. ExplainsModule (ExplainsChange (by_flags removed (numbered 0 removed) ds) (why_by_flags removed (numbered 0 removed) ds)) offsets bytes e) d same in
+    explains_each (ExplainsTrimmed removed (drop imported removed)) offsets bytes (λ s payload k m numbers. k m (renumbers_follows removed m numbers)) e own
 
 -- ---- names
 
@@ -286,7 +305,7 @@ module _ (m : Mapping) (small : IsSmall m) (removed defined : List Bool) where
         (a.0, subst (λ y. content kind standard_minimal a.0 (remapped m y)) (sym same) a.1, a.2);
   }
 
-  trimmed_maps : (kind : SectionKind) → Maps (λ x. remapped m (trimmed removed defined x)) (content kind)
+  pub trimmed_maps : (kind : SectionKind) → Maps (λ x. remapped m (trimmed removed defined x)) (content kind)
   trimmed_maps kinds.Functions = mapped_maps Functions (λ xs. map (m spaces.Types) (unflagged defined xs)) (λ x. refl) (part_maps (index_maps m small spaces.Types) (unflagged defined) (unflagged_part defined))
   trimmed_maps kinds.Bodies = mapped_maps Bodies (λ xs. map (remapped_body m) (unflagged defined xs)) (λ x. refl) (part_maps (size_prefixed_maps (body_maps m small)) (unflagged defined) (unflagged_part defined))
   trimmed_maps kinds.Names = mapped_maps Names (λ xs. map (remapped_name m) (map (trimmed_name removed) xs)) (λ x. refl) trimmed_names_maps

@@ -68,7 +68,8 @@ pub record InsertsSection (p : Position) (id : ℕ) (new bytes edited : List ℕ
   pub decodes : DecodesWhole wasm_module edited news
 
 -- The bytes are a module, and the edited bytes are a module that has these members too, in the
--- standard's grammar: joined with those that an old section decodes to, or in a new section.
+-- standard's grammar: joined with those that the first section of the id decodes to, or in a new
+-- section at its place if there is none.
 pub record GainsMembers {X : Type 0} (p : Position) (id : ℕ) (F : Format X) (xs : List X) (bytes edited : List ℕ) : Type 0 where
   pub olds : List Section
   pub has : HasSections bytes olds
@@ -76,6 +77,6 @@ pub record GainsMembers {X : Type 0} (p : Position) (id : ℕ) (F : Format X) (x
   pub after : List Section
   pub payload : List ℕ
   pub members :
-      ((section : Section) × (olds ≡ before ++ section ∷ after) × (section.id ≡ id) × ((ys : List X) → vec F standard section.payload ys → vec F standard payload (joined_lists p xs ys)))
-      ⊎ ((olds ≡ before ++ after) × vec F standard payload xs)
+      ((section : Section) × IsFound id before section after olds × ((ys : List X) → vec F standard section.payload ys → vec F standard payload (joined_lists p xs ys)))
+      ⊎ ((olds ≡ before ++ after) × (rank_of id ≢ 0 → lacks id olds × IsPlace id before after) × vec F standard payload xs)
   pub decodes : DecodesWhole wasm_module edited (between before id payload after)

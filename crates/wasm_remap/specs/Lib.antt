@@ -13,4 +13,5 @@ pub mod Imported
 pub mod Begun
 pub mod Instrumented
 pub mod Streamed
+pub mod Errors
 pub mod Removed

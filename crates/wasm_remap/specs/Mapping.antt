@@ -27,9 +27,13 @@ mapped_in m (Some space) n = m space n
 abbrev pub mapped_first : {X : Type 0} → Mapping → Option IndexSpace → ℕ × X → ℕ × X
 mapped_first m space p = (mapped_in m space p.0, p.1)
 
+-- The map rejects some index with this error.
+abbrev pub IsRejected : {E : Type 0} → (IndexSpace → ℕ → E → Type 0) → E → Type 0
+IsRejected rejects e = (space : IndexSpace) × (n : ℕ) × rejects space n e
+
 -- The map rejected an index with this error, or there was no memory.
 abbrev pub ComesFrom : {E : Type 0} → (IndexSpace → ℕ → E → Type 0) → RemapError E → Type 0
 ComesFrom rejects (Read fault) = ⊥
 ComesFrom rejects (Refused refused) = refused ≡ refusals.Memory
 ComesFrom rejects (Offsets offset) = ⊥
-ComesFrom rejects (Index e) = (space : IndexSpace) × (n : ℕ) × rejects space n e
+ComesFrom rejects (Index e) = IsRejected rejects e

@@ -1,7 +1,8 @@
 -- This file defines modules without some of their functions.
-use Rattle.std.specs.Prelude.{◌≡◌, ◌⊎◌, ℕ, ◌+◌, ◌<◌, ◌^◌, List, [], ◌∷◌, length, map, drop, get_or, Bool, true, false, cond, not, Option, Some, None}
+use Rattle.std.specs.Prelude.{◌≡◌, ◌≢◌, ◌⊎◌, ℕ, ◌+◌, ◌<◌, ◌^◌, List, [], ◌∷◌, length, map, drop, get_or, Bool, true, false, cond, nat_lt, not, Option, Some, None}
 use Rattle.std.specs.List.{filter}
-use Rattle.wasm_base.specs.Words.{admitted, standard, number_of}
+use Rattle.wasm_base.specs.Words.{RejectsWhole, admitted, number_of, padded, standard, wasm_module}
+use Rattle.wasm_base.specs.declared.refused.Refused.TheVariants as refusals
 use Rattle.wasm_base.specs.declared.section_id.SectionId.TheVariants as ids
 use Rattle.wasm_custom.specs.Names.{NameItem, Module, Map, Indirect, Other}
 use Rattle.wasm_reader.specs.Kinds.{Contents, content, Bodies, Functions, Imports, Names}
@@ -10,11 +11,17 @@ use Rattle.wasm_reader.specs.Sections.{AppendsContentIn, HasContentIn}
 use Rattle.wasm_reader.specs.Words.{Section, section_kind_of}
 use Rattle.wasm_reader.specs.declared.whole.Offsets.{Offsets}
 use Rattle.wasm_remap.specs.Customs.{name_spaces, space_among}
+use Rattle.wasm_remap.specs.Errors.{ExplainsChange, ExplainsContent, ExplainsModule, HasFirst}
 use Rattle.wasm_remap.specs.Imported.{imported}
 use Rattle.wasm_remap.specs.Mapping.{IsSmall, Mapping}
 use Rattle.wasm_remap.specs.Places.{IsFound, lacks}
 use Rattle.wasm_remap.specs.Sections.{ChangesModule, remapped}
 use Rattle.wasm_remap.specs.Shifted.{is_same}
+use Rattle.wasm_sections.specs.Words.{ImportItem}
+use Rattle.wasm_remap.specs.declared.remove.RemoveError.{RemoveError}
+use Rattle.wasm_remap.specs.declared.remove.RemoveError.TheVariants.{Imported, InUse, Unlisted}
+use Rattle.wasm_remap.specs.declared.indexed.RemapError.{RemapError}
+use Rattle.wasm_remap.specs.declared.indexed.RemapError.TheVariants as errors
 use Rattle.wasm_remap.specs.declared.spaces.IndexSpace.{IndexSpace}
 use Rattle.wasm_remap.specs.declared.spaces.IndexSpace.TheVariants as spaces
 
@@ -33,6 +40,12 @@ numbered next (false ∷ flags) = Some next ∷ numbered (next + 1) flags
 -- The table has no index for this function.
 abbrev pub HasNone : List (Option ℕ) → IndexSpace → ℕ → Type 0
 HasNone table space n = (is_same space spaces.Functions ≡ true) × (get_or table n None ≡ None)
+
+-- The error of a use of this function, for which the table has no index. It is removed, or past the
+-- end of the table.
+pub record IsUse (table : List (Option ℕ)) (space : IndexSpace) (n : ℕ) (e : RemoveError) : Type 0 where
+  pub none : HasNone table space n
+  pub is : e ≡ cond (nat_lt n (length table)) (InUse n) (Unlisted n)
 
 -- The index that is there, or else 0.
 abbrev pub or_zero : Option ℕ → ℕ
@@ -108,3 +121,40 @@ pub record RemovesFunctions (removed : List Bool) (offsets : Offsets) (bytes new
   pub imports : ImportsFunctions sections imported
   pub stay : (n : ℕ) → n < imported → is_removed removed n ≡ false
   pub changes : (m : Mapping) → Renumbers removed m → ChangesModule (IsTrimmed removed (drop imported removed) m) offsets bytes new
+
+-- ---- errors
+
+-- Why the items of a section are not changed.
+abbrev pub ExplainsTrimmed : (removed defined : List Bool) → Section → RemapError RemoveError → Type 0
+ExplainsTrimmed removed defined = ExplainsContent (λ x. remapped (by_table (numbered 0 removed)) (trimmed removed defined x)) (IsUse (numbered 0 removed))
+
+-- The change of a section for a removal.
+abbrev pub IsTrimmedBy : (removed defined : List Bool) → Section → List ℕ → Type 0
+IsTrimmedBy removed defined s payload = (m : Mapping) → Renumbers removed m → IsTrimmed removed defined m s payload
+
+-- The bytes are a module that imports this number of functions.
+pub record HasImported (bytes : List ℕ) (imported : ℕ) : Type 0 where
+  pub sections : List Section
+  pub has : HasSections bytes sections
+  pub imports : ImportsFunctions sections imported
+
+-- Why the imported functions are not counted: the bytes are no module, the imports do not decode, or
+-- there are 2^32 or more.
+abbrev pub ExplainsCount : {E : Type 0} → List ℕ → RemapError E → Type 0
+ExplainsCount bytes (errors.Read fault) = RejectsWhole wasm_module padded bytes ⊎ HasFirst (number_of ids.Import) bytes (λ s. RejectsWhole (content (section_kind_of s)) standard s.payload)
+ExplainsCount bytes (errors.Refused refused) = refused ≢ refusals.Memory → HasFirst (number_of ids.Import) bytes (λ s. (xs : List ImportItem) × content (section_kind_of s) standard s.payload (Imports xs) × (imported spaces.Functions xs < 2 ^ 32 → ⊥))
+ExplainsCount bytes (errors.Index e) = ⊥
+ExplainsCount bytes (errors.Offsets offset) = ⊥
+
+-- Why the flags do not fit the module: an imported function is to be removed, or there are 2^32 flags
+-- or more.
+abbrev pub ExplainsFlags : List Bool → (imported : ℕ) → RemapError RemoveError → Type 0
+ExplainsFlags removed imported (errors.Index (Imported n)) = (n < imported) × (is_removed removed n ≡ true)
+ExplainsFlags removed imported (errors.Refused refused) = refused ≢ refusals.Memory → length removed < 2 ^ 32 → ⊥
+ExplainsFlags removed imported e = ⊥
+
+-- Why functions are not removed from a module.
+abbrev pub ExplainsRemoval : List Bool → Offsets → List ℕ → RemapError RemoveError → Type 0
+ExplainsRemoval removed offsets bytes e =
+    ExplainsCount bytes e
+    ⊎ ((imported : ℕ) × HasImported bytes imported × (ExplainsFlags removed imported e ⊎ ExplainsModule (ExplainsChange (IsTrimmedBy removed (drop imported removed)) (ExplainsTrimmed removed (drop imported removed))) offsets bytes e))

@@ -21,18 +21,15 @@ ghost use Rattle.wasm_remap.specs.Sections.{RemapsSection};
 ghost use Rattle.wasm_remap.specs.Spaces.{spaces_of as spaces_of_op};
 ghost use Rattle.wasm_remap.specs.Streamed.{AppendsForm, HaveNoIndex, Remaps, RemapsWhole, bytes_without_index, is_within};
 
-use crate::indexed::{Indexed, Remap, RemapError, mapped_number};
+use crate::indexed::{Indexed, Remap, mapped_number};
 use crate::spaces::spaces_of;
 use crate::streamed::{Stopped, Streamed, append_many};
 use std::alloc::Allocator;
-use wasm_base::{
-    Encode, EncodeIn, ReadFault, Readable, Refused, Shorten, Standard, ValType, Walk,
-    prefix_size_since,
-};
+use wasm_base::{Encode, EncodeIn, Readable, Shorten, Standard, ValType, Walk, prefix_size_since};
 use wasm_code::Body;
 use wasm_immediates::{BlockType, MemArg};
 use wasm_insn::{Op, Operands, Plain, Shape, read_instruction};
-use wasm_reader::{ReadError, Section};
+use wasm_reader::Section;
 
 /// Returns `true` if the byte is a one-byte opcode whose immediates have no index. A test by ranges,
 /// since most instructions are such.
@@ -68,7 +65,7 @@ fn append_number<M: Remap, B: Allocator>(
     number: u32,
     indices: &M,
     sink: &mut Vec<u8, B>,
-) -> Result<(), Stopped<M::Error>>
+) -> Result<(), Stopped>
     ensures ok { OnOk result ((m : Mapping) → Follows (M.mapped indices.now) (M.rejects indices.now) m → AppendsForm (instruction table) (record { op = op; arguments = remapped_argument m (spaces_of_op op) (unsigned number) ∷ [] }) sink.old.items sink.new.items) }
     ensures front { IsFrontOf sink.old.items sink.new.items }
 {
@@ -85,7 +82,7 @@ fn append_numbers<A: Allocator + Copy, M: Remap, B: Allocator>(
     alloc: A,
     indices: &M,
     sink: &mut Vec<u8, B>,
-) -> Result<(), Stopped<M::Error>>
+) -> Result<(), Stopped>
     ensures ok { OnOk result ((m : Mapping) → Follows (M.mapped indices.now) (M.rejects indices.now) m → (xs : List Argument) → arguments (parts_of shapes.Uu) standard bytes.now xs → AppendsForm (instruction table) (remapped_instruction m (record { op = op; arguments = xs })) sink.old.items sink.new.items) }
     ensures front { IsFrontOf sink.old.items sink.new.items }
 {
@@ -107,7 +104,7 @@ fn append_memory<A: Allocator + Copy, M: Remap, B: Allocator>(
     alloc: A,
     indices: &M,
     sink: &mut Vec<u8, B>,
-) -> Result<(), Stopped<M::Error>>
+) -> Result<(), Stopped>
     ensures ok { OnOk result ((m : Mapping) → Follows (M.mapped indices.now) (M.rejects indices.now) m → AppendsForm (instruction table) (record { op = op; arguments = remapped_argument m (spaces_of_op op) (memory argument) ∷ [] }) sink.old.items sink.new.items) }
     ensures front { IsFrontOf sink.old.items sink.new.items }
 {
@@ -126,7 +123,7 @@ fn append_block<A: Allocator + Copy, M: Remap, B: Allocator>(
     alloc: A,
     indices: &M,
     sink: &mut Vec<u8, B>,
-) -> Result<(), Stopped<M::Error>>
+) -> Result<(), Stopped>
     ensures ok { OnOk result ((m : Mapping) → Follows (M.mapped indices.now) (M.rejects indices.now) m → AppendsForm (instruction table) (record { op = op; arguments = remapped_argument m (spaces_of_op op) (block ty) ∷ [] }) sink.old.items sink.new.items) }
     ensures front { IsFrontOf sink.old.items sink.new.items }
 {
@@ -147,7 +144,7 @@ fn append_rare<A: Allocator + Copy, M: Remap, B: Allocator>(
     alloc: A,
     indices: &M,
     sink: &mut Vec<u8, B>,
-) -> Result<(), Stopped<M::Error>>
+) -> Result<(), Stopped>
     ensures ok { OnOk result ((m : Mapping) → Follows (M.mapped indices.now) (M.rejects indices.now) m → (xs : List Argument) → AreOperands operands.entry xs → AppendsForm (instruction table) (remapped_instruction m (record { op = op; arguments = xs })) sink.old.items sink.new.items) }
     ensures front { IsFrontOf sink.old.items sink.new.items }
 {
@@ -168,7 +165,7 @@ fn append_operation<A: Allocator + Copy, M: Remap, B: Allocator>(
     alloc: A,
     indices: &M,
     sink: &mut Vec<u8, B>,
-) -> Result<(), Stopped<M::Error>>
+) -> Result<(), Stopped>
     ensures ok { OnOk result ((m : Mapping) → Follows (M.mapped indices.now) (M.rejects indices.now) m → (xs : List Argument) → AreOperands operands.entry xs → AppendsForm (instruction table) (remapped_instruction m (record { op = op; arguments = xs })) sink.old.items sink.new.items) }
     ensures front { IsFrontOf sink.old.items sink.new.items }
 {
@@ -190,7 +187,7 @@ fn append_instruction<'a, A: Allocator + Copy, M: Remap, B: Allocator>(
     alloc: A,
     indices: &M,
     sink: &mut Vec<u8, B>,
-) -> Result<&'a [u8], Stopped<M::Error>>
+) -> Result<&'a [u8], Stopped>
     ensures found { IfOk result (λ rest. (m : Mapping) → Follows (M.mapped indices.now) (M.rejects indices.now) m → Remaps (remapped_instruction m) (instruction table) bytes.now rest.now sink.old.items sink.new.items) }
     ensures front { IsFrontOf sink.old.items sink.new.items }
 {
@@ -213,7 +210,7 @@ fn append_code<A: Allocator + Copy, M: Remap, B: Allocator>(
     alloc: A,
     indices: &M,
     sink: &mut Vec<u8, B>,
-) -> Result<(), Stopped<M::Error>>
+) -> Result<(), Stopped>
     ensures found { OnOk result ((m : Mapping) → Follows (M.mapped indices.now) (M.rejects indices.now) m → RemapsWhole (map (remapped_instruction m)) (members (instruction table)) bytes.now sink.old.items sink.new.items) }
     ensures front { IsFrontOf sink.old.items sink.new.items }
 {
@@ -239,7 +236,7 @@ impl<A: Allocator + Copy> Streamed<A> for (u32, ValType) {
         alloc: A,
         indices: &M,
         sink: &mut Vec<u8, B>,
-    ) -> Result<&'a [u8], Stopped<M::Error>> {
+    ) -> Result<&'a [u8], Stopped> {
         let (count, rest) = <u32 as Readable<'a, A, Standard>>::read(bytes, alloc)?;
         let (mut ty, rest) = <ValType as Readable<'a, A, Standard>>::read(rest, alloc)?;
         ty.remap(alloc, indices)?;
@@ -255,7 +252,7 @@ fn append_content<A: Allocator + Copy, M: Remap, B: Allocator>(
     alloc: A,
     indices: &M,
     sink: &mut Vec<u8, B>,
-) -> Result<(), Stopped<M::Error>>
+) -> Result<(), Stopped>
     ensures found { OnOk result ((m : Mapping) → Follows (M.mapped indices.now) (M.rejects indices.now) m → RemapsWhole (remapped_body m) body bytes.now sink.old.items sink.new.items) }
     ensures front { IsFrontOf sink.old.items sink.new.items }
 {
@@ -277,13 +274,10 @@ impl<A: Allocator + Copy> Streamed<A> for Body<A> {
         alloc: A,
         indices: &M,
         sink: &mut Vec<u8, B>,
-    ) -> Result<&'a [u8], Stopped<M::Error>> {
+    ) -> Result<&'a [u8], Stopped> {
         let (content, rest) = <&'a [u8] as Readable<'a, A, Standard>>::read(bytes, alloc)?;
         let start = sink.len();
-        match append_content(content, alloc, indices, sink) {
-            Ok(()) => {}
-            Err(stopped) => return Err(stopped.before(rest)),
-        }
+        append_content(content, alloc, indices, sink)?;
         prefix_size_since(sink, start)?;
         Ok(rest)
     }
@@ -295,7 +289,7 @@ fn append_bodies<A: Allocator + Copy, M: Remap, B: Allocator>(
     alloc: A,
     indices: &M,
     sink: &mut Vec<u8, B>,
-) -> Result<(), Stopped<M::Error>>
+) -> Result<(), Stopped>
     ensures found { OnOk result ((m : Mapping) → Follows (M.mapped indices.now) (M.rejects indices.now) m → RemapsWhole (map (remapped_body m)) (vec (size_prefixed body)) bytes.now sink.old.items sink.new.items) }
     ensures front { IsFrontOf sink.old.items sink.new.items }
 {
@@ -303,27 +297,8 @@ fn append_bodies<A: Allocator + Copy, M: Remap, B: Allocator>(
     if rest.is_empty() {
         Ok(())
     } else {
-        Err(Stopped::Read(ReadFault::SizeMismatch.at(rest)))
+        Err(Stopped::Other)
     }
-}
-
-/// Returns the error of the payload of a section. A failed allocation is no error of the bytes.
-fn error_of<A: Allocator + Copy, E>(
-    section: &Section<'_, A>,
-    stopped: Stopped<E>,
-) -> RemapError<E> {
-    let error = match stopped {
-        Stopped::Read(error) => error,
-        Stopped::Append(error) => return error,
-    };
-    if error.cause() == ReadFault::Memory {
-        return RemapError::Refused(Refused::Memory);
-    }
-    let left = section.payload().len().min(error.left() as usize);
-    RemapError::Read(ReadError {
-        cause: error.cause(),
-        offset: section.range().end - left,
-    })
 }
 
 /// Appends the minimal encoding of the bodies of a code section with each index mapped. They are
@@ -333,17 +308,15 @@ pub(crate) fn remap_bodies<A: Allocator + Copy, M: Remap, B: Allocator>(
     alloc: A,
     indices: &M,
     sink: &mut Vec<u8, B>,
-) -> Result<(), RemapError<M::Error>>
+) -> Result<(), Stopped>
     requires { section_kind_of section.now.section ≡ kinds.Bodies }
     ensures ok { OnOk result ((m : Mapping) → Follows (M.mapped indices.now) (M.rejects indices.now) m → RemapsSection m section.now.section sink.old.items sink.new.items) }
     ensures err { OnErr result (sink.new.items ≡ sink.old.items) }
 {
     let start = sink.len();
-    match append_bodies(section.payload(), alloc, indices, sink) {
-        Ok(()) => Ok(()),
-        Err(stopped) => {
-            sink.truncate(start);
-            Err(error_of(section, stopped))
-        }
+    let appended = append_bodies(section.payload(), alloc, indices, sink);
+    if appended.is_err() {
+        sink.truncate(start);
     }
+    appended
 }

@@ -1,9 +1,10 @@
 // Instructions that are inserted at the start of bodies.
-ghost use Rattle.std.specs.Prelude.{◌≡◌, ◌∷◌, [], ℕ, List, IfOk, OnOk};
+ghost use Rattle.std.specs.Prelude.{◌≡◌, ◌∷◌, [], ℕ, List, IfOk, IfErr, OnOk};
 ghost use Rattle.wasm_base.specs.Words.{size_prefixed, standard, vec};
 ghost use Rattle.wasm_code.specs.Words.{Body, body as body_format};
 ghost use Rattle.wasm_insn.specs.Words.{Plain};
 ghost use Rattle.wasm_remap.specs.Begun.{begun_body, each_from, AddsBodies, EditsCode, EncodeBodies, GainsCode, InsertsCode, IsBegun, IsClosed};
+ghost use Rattle.wasm_remap.specs.Errors.{ExplainsBodies, ExplainsBody, ExplainsCode};
 
 use crate::indexed::RemapError;
 use crate::insert::module_of;
@@ -65,7 +66,8 @@ pub(crate) trait EditBody {
         section: &mut CodeSection<A>,
         alloc: A,
     ) -> Result<(), RemapError<E>>
-        ensures { OnOk result ((x : Body) → body_format standard body.now.bytes x → AddsBodies (edited self.now number x) section.old section.new) };
+        ensures ok { OnOk result ((x : Body) → body_format standard body.now.bytes x → AddsBodies (edited self.now number x) section.old section.new) }
+        ensures why { IfErr result (λ e. ExplainsBody body.now.bytes e) };
 }
 
 /// The change that inserts instructions at the start.
@@ -96,7 +98,8 @@ pub(crate) fn code_of<C: EditBody, A: Allocator + Copy, E>(
     change: &C,
     alloc: A,
 ) -> Result<CodeSection<A>, RemapError<E>>
-    ensures { IfOk result (λ new. (xs : List Body) → vec (size_prefixed body_format) standard section.now.section.payload xs → EncodeBodies new (each_from (C.edited change.now) 0 xs)) }
+    ensures ok { IfOk result (λ new. (xs : List Body) → vec (size_prefixed body_format) standard section.now.section.payload xs → EncodeBodies new (each_from (C.edited change.now) 0 xs)) }
+    ensures why { section.now.section.id ≡ 10 → IfErr result (λ e. ExplainsBodies section.now.section.payload e) }
 {
     let mut bodies = section.bodies()?;
     let mut new = CodeSection::new(alloc);
@@ -120,7 +123,8 @@ pub(crate) fn edit_code<C: EditBody, A: Allocator + Copy>(
     alloc: A,
     change: &C,
 ) -> Result<Vec<u8, A>, RemapError<IndexTooLarge>>
-    ensures { IfOk result (λ edited. EditsCode (C.edited change.now) bytes.now edited.items) }
+    ensures ok { IfOk result (λ edited. EditsCode (C.edited change.now) bytes.now edited.items) }
+    ensures why { IfErr result (λ e. ExplainsCode bytes.now e) }
 {
     let sections = sections_of(bytes, alloc)?;
     let Some((before, old, after)) = found(&sections, 10) else {
@@ -148,7 +152,8 @@ pub fn insert_code<P: Prologue, A: Allocator + Copy>(
     alloc: A,
     prologue: &P,
 ) -> Result<Vec<u8, A>, RemapError<IndexTooLarge>>
-    ensures { IfOk result (λ edited. InsertsCode (P.code prologue.now) bytes.now edited.items) }
+    ensures ok { IfOk result (λ edited. InsertsCode (P.code prologue.now) bytes.now edited.items) }
+    ensures why { IfErr result (λ e. ExplainsCode bytes.now e) }
 {
     edit_code(bytes, alloc, &Begun(prologue))
 }

@@ -1,5 +1,6 @@
 // Imports that are inserted into a module.
-ghost use Rattle.std.specs.Prelude.{◌≡◌, IfOk, IfSome, map};
+ghost use Rattle.std.specs.Prelude.{◌≡◌, ◌<◌, ◌^◌, IfOk, IfErr, IfSome, None, map};
+ghost use Rattle.wasm_remap.specs.Errors.{ExplainsImport};
 ghost use Rattle.wasm_remap.specs.Imported.{InsertsImport, imported, imported_from, is_in, space_of};
 ghost use Rattle.wasm_sections.specs.Imports.{imports_item};
 
@@ -60,7 +61,8 @@ fn imported_from<A: Allocator>(imports: &Imports<'_, A>, space: IndexSpace) -> u
 /// Returns how many entities of the space the entries of an import section import, or `None` above
 /// 4294967295.
 pub fn imported<A: Allocator>(entries: &[Imports<'_, A>], space: IndexSpace) -> Option<u32>
-    ensures { IfSome result (λ n. n ≡ imported space (map imports_item entries.now)) }
+    ensures sum { IfSome result (λ n. n ≡ imported space (map imports_item entries.now)) }
+    ensures above { result ≡ None → imported space (map imports_item entries.now) < 2 ^ 32 → ⊥ }
 {
     let mut count: u32 = 0;
     for entry in entries {
@@ -101,7 +103,8 @@ pub fn insert_import<A: Allocator + Copy>(
     import: &Import<'_>,
     offsets: Offsets,
 ) -> Result<Vec<u8, A>, RemapError<IndexTooLarge>>
-    ensures { IfOk result (λ edited. InsertsImport import.now offsets bytes.now edited.items) }
+    ensures ok { IfOk result (λ edited. InsertsImport import.now offsets bytes.now edited.items) }
+    ensures why { IfErr result (λ e. ExplainsImport import.now offsets bytes.now e) }
 {
     let room = Shift {
         space: space_of(import.ty),

@@ -1,19 +1,20 @@
 // Maps of indices, and items whose indices are mapped in place.
 ghost use Rattle.std.specs.Prelude.{◌≡◌, ℕ, List, IfOk, IfErr, OnOk, OnErr, Option, map};
 ghost use Rattle.wasm_base.specs.declared.refused.Refused.TheVariants.{Memory, TooLong};
+ghost use Rattle.wasm_remap.specs.Errors.{error_of};
 ghost use Rattle.wasm_remap.specs.Mapping.{ComesFrom, Follows, Mapping, mapped_first, mapped_in};
 ghost use Rattle.wasm_remap.specs.declared.indexed.RemapError.TheVariants as errors;
 ghost use Rattle.wasm_remap.specs.declared.spaces.IndexSpace.{IndexSpace};
 
 use crate::spaces::IndexSpace;
 use std::alloc::{AllocError, Allocator};
-use wasm_base::Refused;
+use wasm_base::{ReadFault, Refused};
 use wasm_reader::ReadError;
 
 /// A map of the indices of a module: for each index space, the new index of each old one.
 pub trait Remap {
     /// The reason for which the map rejects an index.
-    type Error;
+    type Error: Drop;
 
     // The new index of each old one.
     ghost mapped: { Self → IndexSpace → ℕ → ℕ };
@@ -62,10 +63,14 @@ impl<E> From<Refused> for RemapError<E> {
 }
 
 impl<E> From<ReadError> for RemapError<E> {
-    ghost from_gives = { λ fault error. error ≡ errors.Read fault };
+    ghost from_gives = { λ fault error. error ≡ error_of fault };
 
     fn from(fault: ReadError) -> RemapError<E> {
-        RemapError::Read(fault)
+        if fault.cause == ReadFault::Memory {
+            RemapError::Refused(Refused::Memory)
+        } else {
+            RemapError::Read(fault)
+        }
     }
 }
 

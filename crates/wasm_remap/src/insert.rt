@@ -1,6 +1,9 @@
 // Sections that are inserted into a module.
-ghost use Rattle.std.specs.Prelude.{◌≡◌, ◌≢◌, ℕ, List, ◌++◌, IfOk, OnOk};
-ghost use Rattle.wasm_base.specs.Words.{u32, unsigned_encoding, standard, wasm_module, Decodes, DecodesWhole};
+ghost use Rattle.std.specs.Prelude.{◌≡◌, ◌≢◌, ℕ, List, ◌++◌, Err, IfOk, IfErr, OnOk};
+ghost use Rattle.wasm_base.specs.Words.{u32, unsigned_encoding, standard, wasm_module, Decodes, DecodesWhole, Rejects};
+ghost use Rattle.wasm_base.specs.declared.fault.ReadFault.TheVariants.{Memory};
+ghost use Rattle.wasm_base.specs.declared.refused.Refused.TheVariants.{TooLong};
+ghost use Rattle.wasm_remap.specs.Errors.{ExplainsInsert, ExplainsJoin};
 ghost use Rattle.wasm_remap.specs.Inserted.{InsertsSection, IsJoined, between, is_number, joined_lists};
 ghost use Rattle.wasm_remap.specs.Places.{sections_in};
 ghost use Rattle.wasm_remap.specs.declared.insert.Position.TheVariants.{Instead};
@@ -36,7 +39,8 @@ fn counted<A: Allocator + Copy>(
     alloc: A,
     offset: usize,
 ) -> Result<(u32, &[u8]), ReadError>
-    ensures { IfOk result (λ x. Decodes u32 standard bytes.now x.0 x.1.now) }
+    ensures ok { IfOk result (λ x. Decodes u32 standard bytes.now x.0 x.1.now) }
+    ensures none { IfErr result (λ e. e.cause ≢ Memory → Rejects u32 standard bytes.now) }
 {
     match <u32 as Readable<'_, A, Standard>>::read(bytes, alloc) {
         Ok(counted) => Ok(counted),
@@ -54,7 +58,8 @@ fn list_of<A: Allocator>(
     back: &[u8],
     alloc: A,
 ) -> Result<Vec<u8, A>, Refused>
-    ensures { IfOk result (λ list. list.items ≡ unsigned_encoding count ++ (front.now ++ back.now)) }
+    ensures ok { IfOk result (λ list. list.items ≡ unsigned_encoding count ++ (front.now ++ back.now)) }
+    ensures memory { result ≢ Err TooLong }
 {
     let mut list = Vec::new(alloc);
     count.encode(&mut list)?;
@@ -84,6 +89,7 @@ fn joined<S: NewSection, A: Allocator + Copy>(
 ) -> Result<Vec<u8, A>, RemapError<IndexTooLarge>>
     ensures joins { position ≢ Instead → IfOk result (λ payload. (added : List ℕ) → S.payload new.now added → IsJoined position added old.now.section.payload payload.items) }
     ensures fits { OnOk result (S.encodable new.now) }
+    ensures why { (added : List ℕ) → S.payload new.now added → IfErr result (λ e. ExplainsJoin (S.encodable new.now) added old.now.section.payload e) }
 {
     let mut encoding = Vec::new(alloc);
     new.encode(&mut encoding)?;
@@ -106,6 +112,7 @@ pub(crate) fn module_of<S: NewSection, A: Allocator + Copy>(
 ) -> Result<Vec<u8, A>, Refused>
     ensures read { IfOk result (λ new. (payload : List ℕ) → S.payload section.now payload → DecodesWhole wasm_module new.items (between (sections_in before.now) (S.id_of section.now) payload (sections_in after.now))) }
     ensures fits { OnOk result (S.encodable section.now) }
+    ensures too_long { S.encodable section.now → result ≢ Err TooLong }
 {
     let mut module = Module::new(alloc)?;
     append_copies(before, &mut module)?;
@@ -148,6 +155,7 @@ pub fn insert_section<S: NewSection, A: Allocator + Copy>(
 ) -> Result<Vec<u8, A>, RemapError<IndexTooLarge>>
     ensures inserts { IfOk result (λ edited. (payload : List ℕ) → S.payload section.now payload → InsertsSection position (S.id_of section.now) payload bytes.now edited.items) }
     ensures fits { OnOk result (S.encodable section.now) }
+    ensures why { (payload : List ℕ) → S.payload section.now payload → IfErr result (λ e. ExplainsInsert position (S.id_of section.now) (S.encodable section.now) payload bytes.now e) }
 {
     let sections = sections_of(bytes, alloc)?;
     let id = section.id();

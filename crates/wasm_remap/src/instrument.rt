@@ -1,11 +1,12 @@
 // Instructions that are inserted before and after those of bodies.
-ghost use Rattle.std.specs.Prelude.{◌≡◌, ◌++◌, ◌∷◌, [], cond, ℕ, List, IfOk, OnOk};
+ghost use Rattle.std.specs.Prelude.{◌≡◌, ◌++◌, ◌∷◌, [], cond, ℕ, List, IfOk, IfErr, OnOk};
 ghost use Rattle.wasm_base.specs.Words.{standard};
 ghost use Rattle.wasm_code.specs.Words.{Body, body as body_format};
 ghost use Rattle.wasm_insn.specs.Arguments.{Argument};
 ghost use Rattle.wasm_insn.specs.Operands.{AreOperands};
 ghost use Rattle.wasm_insn.specs.Words.{Plain, instruction, table};
 ghost use Rattle.wasm_remap.specs.Begun.{GainsCode, IsClosed};
+ghost use Rattle.wasm_remap.specs.Errors.{ExplainsBody, ExplainsCode};
 ghost use Rattle.wasm_remap.specs.Instrumented.{InstrumentsCode, instrumented_body};
 
 use crate::code::{EditBody, edit_code};
@@ -100,7 +101,8 @@ fn instrumented<I: Instrument, A: Allocator + Copy, E>(
     instrument: &I,
     alloc: A,
 ) -> Result<Vec<u8, A>, RemapError<E>>
-    ensures { IfOk result (λ new. (x : Body) → body_format standard body.now.bytes x → body_format standard new.items (instrumented_body (I.before instrument.now number) (I.after instrument.now number) x)) }
+    ensures ok { IfOk result (λ new. (x : Body) → body_format standard body.now.bytes x → body_format standard new.items (instrumented_body (I.before instrument.now number) (I.after instrument.now number) x)) }
+    ensures why { IfErr result (λ e. ExplainsBody body.now.bytes e) }
 {
     let bytes = body.bytes();
     let (_runs, mut instructions) = body.instructions()?;
@@ -167,7 +169,8 @@ pub fn instrument_code<I: Instrument, A: Allocator + Copy>(
     alloc: A,
     instrument: &I,
 ) -> Result<Vec<u8, A>, RemapError<IndexTooLarge>>
-    ensures { IfOk result (λ edited. InstrumentsCode (I.before instrument.now) (I.after instrument.now) bytes.now edited.items) }
+    ensures ok { IfOk result (λ edited. InstrumentsCode (I.before instrument.now) (I.after instrument.now) bytes.now edited.items) }
+    ensures why { IfErr result (λ e. ExplainsCode bytes.now e) }
 {
     edit_code(bytes, alloc, &InstrumentedBodies(instrument))
 }

@@ -1,15 +1,18 @@
 // The items of sections whose indices are mapped.
-ghost use Rattle.std.specs.Prelude.{◌≡◌, true, IfErr, OnOk, OnErr};
+ghost use Rattle.std.specs.Prelude.{◌≡◌, ◌≢◌, true, Err, IfErr, OnOk, OnErr};
+ghost use Rattle.wasm_base.specs.declared.refused.Refused.TheVariants.{TooLong};
 ghost use Rattle.wasm_base.specs.Minimal.{both_grammars};
 ghost use Rattle.wasm_base.specs.Numbers.{admitted};
 ghost use Rattle.wasm_reader.specs.Kinds.{contents_of, grammars_of};
-ghost use Rattle.wasm_reader.specs.Sections.{AppendsContentIn};
+ghost use Rattle.wasm_reader.specs.Sections.{AppendsContentIn, HasContentIn};
+ghost use Rattle.wasm_remap.specs.Errors.{ExplainsItems, ExplainsSection};
 ghost use Rattle.wasm_remap.specs.Mapping.{ComesFrom, Follows, Mapping};
 ghost use Rattle.wasm_remap.specs.Sections.{RemapsSection, remapped};
 
 use crate::bodies::remap_bodies;
 use crate::indexed::{Remap, RemapError, mapped, remap_each, remap_numbers};
 use crate::spaces::IndexSpace;
+use crate::streamed::Stopped;
 use std::alloc::Allocator;
 use wasm_base::{Refused, Standard};
 use wasm_reader::{Items, Section, SectionKind, encode_items, encode_items_in};
@@ -105,13 +108,14 @@ fn is_minimal_when_built(kind: SectionKind) -> bool
 
 /// Appends the minimal encoding of the items in the standard's grammar. On an error, the sink is
 /// unchanged.
-pub(crate) fn append_items<A: Allocator + Copy, B: Allocator>(
+fn append_items<A: Allocator + Copy, B: Allocator>(
     items: &Items<'_, A>,
     alloc: A,
     sink: &mut Vec<u8, B>,
 ) -> Result<(), Refused>
     ensures ok { OnOk result (AppendsContentIn admitted (contents_of items.now) sink.old.items sink.new.items) }
     ensures err { OnErr result (sink.new.items ≡ sink.old.items) }
+    ensures too_long { HasContentIn admitted (contents_of items.now) → result ≢ Err TooLong }
 {
     if is_minimal_when_built(items.kind()) {
         encode_items(items, sink)?;
@@ -121,10 +125,45 @@ pub(crate) fn append_items<A: Allocator + Copy, B: Allocator>(
     Ok(())
 }
 
+/// Maps each index of the items, and appends their minimal encoding in the standard's grammar. On an
+/// error, the sink is unchanged.
+pub(crate) fn append_mapped<A: Allocator + Copy, M: Remap, B: Allocator>(
+    items: &mut Items<'_, A>,
+    alloc: A,
+    indices: &M,
+    sink: &mut Vec<u8, B>,
+) -> Result<(), RemapError<M::Error>>
+    ensures ok { OnOk result ((m : Mapping) → Follows (M.mapped indices.now) (M.rejects indices.now) m → AppendsContentIn admitted (remapped m (contents_of items.old)) sink.old.items sink.new.items) }
+    ensures err { OnErr result (sink.new.items ≡ sink.old.items) }
+    ensures why { IfErr result (λ e. ExplainsItems (remapped (M.mapped indices.now)) (M.rejects indices.now) (contents_of items.old) e) }
+{
+    remap_content(items, alloc, indices)?;
+    append_items(items, alloc, sink)?;
+    Ok(())
+}
+
+/// Decodes the items of a section, maps each index, and appends the minimal encoding of the items.
+/// On an error, the sink is unchanged.
+#[tactic(auto, using(crate::proofs::MappedSections::section_remapped))]
+fn remap_decoded<A: Allocator + Copy, M: Remap, B: Allocator>(
+    section: &Section<'_, A>,
+    alloc: A,
+    indices: &M,
+    sink: &mut Vec<u8, B>,
+) -> Result<(), RemapError<M::Error>>
+    ensures ok { OnOk result ((m : Mapping) → Follows (M.mapped indices.now) (M.rejects indices.now) m → RemapsSection m section.now.section sink.old.items sink.new.items) }
+    ensures err { OnErr result (sink.new.items ≡ sink.old.items) }
+    ensures why { IfErr result (λ e. ExplainsSection (M.mapped indices.now) (M.rejects indices.now) section.now.section e) }
+{
+    let mut items = section.items()?;
+    append_mapped(&mut items, alloc, indices, sink)
+}
+
 /// Decodes the items of a section, maps each index, and appends the minimal encoding of the items
 /// as a payload. On an error, the sink is unchanged.
 ///
-/// Bodies are decoded, mapped and appended instruction by instruction, and not kept.
+/// Bodies are decoded, mapped and appended instruction by instruction, and not kept. If that fails,
+/// they are decoded to a list, which gives the error.
 ///
 /// ```text
 /// let mut payload = Vec::new(alloc);
@@ -135,9 +174,7 @@ pub(crate) fn append_items<A: Allocator + Copy, B: Allocator>(
 /// # Errors
 ///
 /// Returns `Read` if the section does not decode, `Index` with the error of the map if it rejects an
-/// index, and `Refused` if an encoding is too long or an allocation fails. In a code section that
-/// does not decode, a rejected index before the first wrong byte is reported instead.
-#[tactic(auto, using(crate::proofs::MappedSections::section_remapped))]
+/// index, and `Refused` if the encoding is too long or an allocation fails.
 pub fn remap_section<A: Allocator + Copy, M: Remap, B: Allocator>(
     section: &Section<'_, A>,
     alloc: A,
@@ -147,12 +184,14 @@ pub fn remap_section<A: Allocator + Copy, M: Remap, B: Allocator>(
     ensures ok { OnOk result (RemapsSection (M.mapped indices.now) section.now.section sink.old.items sink.new.items) }
     ensures every { OnOk result ((m : Mapping) → Follows (M.mapped indices.now) (M.rejects indices.now) m → RemapsSection m section.now.section sink.old.items sink.new.items) }
     ensures err { OnErr result (sink.new.items ≡ sink.old.items) }
+    ensures why { IfErr result (λ e. ExplainsSection (M.mapped indices.now) (M.rejects indices.now) section.now.section e) }
 {
     if let Some(SectionKind::Bodies) = section.kind() {
-        return remap_bodies(section, alloc, indices, sink);
+        match remap_bodies(section, alloc, indices, sink) {
+            Ok(()) => return Ok(()),
+            Err(Stopped::Memory) => return Err(Refused::Memory.into()),
+            Err(Stopped::Other) => {}
+        }
     }
-    let mut items = section.items()?;
-    remap_content(&mut items, alloc, indices)?;
-    append_items(&items, alloc, sink)?;
-    Ok(())
+    remap_decoded(section, alloc, indices, sink)
 }

@@ -1,6 +1,8 @@
 // The places of sections in a module.
-ghost use Rattle.std.specs.Prelude.{◌≡◌, ◌≢◌, ℕ, List, ◌++◌, ◌∷◌, take, drop, map, length, ◌≤◌, IfOk, OnOk, MatchOption};
+ghost use Rattle.std.specs.Prelude.{◌≡◌, ◌≢◌, ℕ, List, ◌++◌, ◌∷◌, take, drop, map, length, ◌≤◌, Err, IfOk, IfErr, OnOk, MatchOption};
+ghost use Rattle.wasm_base.specs.declared.refused.Refused.TheVariants.{TooLong};
 ghost use Rattle.wasm_reader.specs.Outlines.{HasSections};
+ghost use Rattle.wasm_remap.specs.Errors.{ExplainsSections};
 ghost use Rattle.wasm_remap.specs.Places.{AppendsSections, IsFound, IsPlace, copied, lacks, rank_of, sections_in};
 
 use crate::indexed::RemapError;
@@ -37,7 +39,8 @@ pub(crate) fn sections_of<'a, A: Allocator + Copy, E>(
     bytes: &'a [u8],
     alloc: A,
 ) -> Result<Vec<Section<'a, A>, A>, RemapError<E>>
-    ensures { IfOk result (λ list. HasSections bytes.now (sections_in list.items)) }
+    ensures ok { IfOk result (λ list. HasSections bytes.now (sections_in list.items)) }
+    ensures why { IfErr result (λ e. ExplainsSections bytes.now e) }
 {
     let mut list = Vec::new(alloc);
     let mut sections = Sections::new(alloc, bytes)?;
@@ -106,7 +109,8 @@ pub(crate) fn append_copies<A: Allocator + Copy>(
     sections: &[Section<'_, A>],
     module: &mut Module<A>,
 ) -> Result<(), Refused>
-    ensures { OnOk result (AppendsSections (map copied (sections_in sections.now)) module.old module.new) }
+    ensures ok { OnOk result (AppendsSections (map copied (sections_in sections.now)) module.old module.new) }
+    ensures memory { result ≢ Err TooLong }
 {
     for section in sections.iter() {
         let copied = RawSection {

@@ -1,5 +1,6 @@
 // Functions that are removed from a module.
-ghost use Rattle.std.specs.Prelude.{◌≡◌, ℕ, List, ◌<◌, [], drop, false, map, IfOk, OnOk, Option};
+ghost use Rattle.std.specs.Prelude.{◌≡◌, ◌≢◌, ℕ, List, ◌<◌, ◌^◌, [], drop, length, true, false, map, Err, IfOk, IfErr, OnOk, Option};
+ghost use Rattle.wasm_base.specs.declared.refused.Refused.TheVariants.{TooLong};
 ghost use Rattle.wasm_custom.specs.Words.{name_item_view};
 ghost use Rattle.wasm_custom.specs.Names.{inside_view, names_view};
 ghost use Rattle.wasm_reader.specs.Kinds.{contents_of};
@@ -7,13 +8,15 @@ ghost use Rattle.wasm_reader.specs.Outlines.{HasSections};
 ghost use Rattle.wasm_reader.specs.Words.{Section as SectionModel};
 ghost use Rattle.wasm_remap.specs.Mapping.{Follows, Mapping};
 ghost use Rattle.wasm_remap.specs.Places.{sections_in};
-ghost use Rattle.wasm_remap.specs.Removed.{HasNone, ImportsFunctions, IsTrimmed, RemovesFunctions, by_table, is_removed, numbered, staying, trimmed, trimmed_name, unflagged};
-ghost use Rattle.wasm_remap.specs.declared.remove.RemoveError.{RemoveError};
+ghost use Rattle.wasm_remap.specs.Removed.{ExplainsCount, ExplainsRemoval, ImportsFunctions, IsUse, IsTrimmed, RemovesFunctions, by_table, is_removed, numbered, staying, trimmed, trimmed_name, unflagged};
+ghost use Rattle.wasm_remap.specs.Errors.{ExplainsContent};
+ghost use Rattle.wasm_remap.specs.declared.remove.RemoveError.TheVariants.{Imported};
+ghost use Rattle.wasm_remap.specs.Sections.{remapped};
 
 use crate::customs::space_of_subsection;
 use crate::imports::imported;
 use crate::indexed::{Remap, RemapError};
-use crate::items::{append_items, remap_items};
+use crate::items::append_mapped;
 use crate::modules::{Change, change_module};
 use crate::places::{found, sections_of};
 use crate::spaces::IndexSpace;
@@ -45,7 +48,8 @@ fn is_removed(removed: &[bool], index: usize) -> bool
 
 /// Returns the new index of each function, and `None` for those that are removed.
 fn numbered<A: Allocator>(removed: &[bool], alloc: A) -> Result<Vec<Option<u32>, A>, Refused>
-    ensures { IfOk result (λ table. table.items ≡ numbered 0 removed.now) }
+    ensures ok { IfOk result (λ table. table.items ≡ numbered 0 removed.now) }
+    ensures too_long { length removed.now < 2 ^ 32 → result ≢ Err TooLong }
 {
     let mut table = Vec::new(alloc);
     let mut next = 0u32;
@@ -127,7 +131,7 @@ impl Remap for Removal<'_> {
 
     ghost mapped = { λ r. by_table r.indices.now };
 
-    ghost rejects = { λ r space n _. HasNone r.indices.now space n };
+    ghost rejects = { λ r space n e. IsUse r.indices.now space n e };
 
     fn index(&self, space: IndexSpace, index: u32) -> Result<u32, RemoveError> {
         if space != IndexSpace::Functions {
@@ -186,7 +190,9 @@ fn trim<A: Allocator + Copy>(items: &mut Items<'_, A>, removed: &[bool], defined
 impl Change for Removal<'_> {
     type Error = RemoveError;
 
-    ghost changes = { λ r s payload. (m : Mapping) → Follows (by_table r.indices.now) (λ space n (e : RemoveError). HasNone r.indices.now space n) m → IsTrimmed r.removed.now r.defined.now m s payload };
+    ghost changes = { λ r s payload. (m : Mapping) → Follows (by_table r.indices.now) (IsUse r.indices.now) m → IsTrimmed r.removed.now r.defined.now m s payload };
+
+    ghost explains = { λ r. ExplainsContent (λ x. remapped (by_table r.indices.now) (trimmed r.removed.now r.defined.now x)) (IsUse r.indices.now) };
 
     fn payload<A: Allocator + Copy>(
         &self,
@@ -195,35 +201,39 @@ impl Change for Removal<'_> {
     ) -> Result<Vec<u8, A>, RemapError<RemoveError>> {
         let mut items = section.items()?;
         trim(&mut items, self.removed, self.defined);
-        remap_items(&mut items, alloc, self)?;
         let mut payload = Vec::new(alloc);
-        append_items(&items, alloc, &mut payload)?;
+        append_mapped(&mut items, alloc, self, &mut payload)?;
         Ok(payload)
     }
+
+    ghost no_offsets = { λ it s offset h. h };
 }
 
 /// Returns the number of functions that the sections import.
 fn imported_functions<A: Allocator + Copy>(
     sections: &[Section<'_, A>],
 ) -> Result<u32, RemapError<RemoveError>>
-    ensures { IfOk result (λ n. ImportsFunctions (sections_in sections.now) n) }
+    ensures ok { IfOk result (λ n. ImportsFunctions (sections_in sections.now) n) }
+    ensures why { (bytes : List ℕ) → HasSections bytes (sections_in sections.now) → IfErr result (λ e. ExplainsCount bytes e) }
 {
     let section = match found(sections, u8::from(SectionId::Import)) {
         None => return Ok(0),
         Some((_, section, _)) => section,
     };
-    match section.items()? {
-        Items::Imports(entries) => match imported(&entries, IndexSpace::Functions) {
-            Some(count) => Ok(count),
-            None => Err(RemapError::Refused(Refused::TooLong)),
-        },
-        _ => Err(RemapError::Refused(Refused::TooLong)),
+    let Items::Imports(entries) = section.items()? else {
+        // Its items are imports.
+        return Err(RemapError::Refused(Refused::Memory));
+    };
+    match imported(&entries, IndexSpace::Functions) {
+        Some(count) => Ok(count),
+        None => Err(RemapError::Refused(Refused::TooLong)),
     }
 }
 
 /// Returns an error if an imported function is to be removed.
 fn check_imported(removed: &[bool], imported: u32) -> Result<(), RemoveError>
-    ensures { OnOk result ((n : ℕ) → n < imported → is_removed removed.now n ≡ false) }
+    ensures ok { OnOk result ((n : ℕ) → n < imported → is_removed removed.now n ≡ false) }
+    ensures why { IfErr result (λ e. (n : ℕ) × (e ≡ Imported n) × (n < imported) × (is_removed removed.now n ≡ true)) }
 {
     for index in 0..imported {
         if is_removed(removed, index as usize) {
@@ -262,7 +272,8 @@ pub fn remove_functions<A: Allocator + Copy>(
     removed: &[bool],
     offsets: Offsets,
 ) -> Result<Vec<u8, A>, RemapError<RemoveError>>
-    ensures { IfOk result (λ new. RemovesFunctions removed.now offsets bytes.now new.items) }
+    ensures ok { IfOk result (λ new. RemovesFunctions removed.now offsets bytes.now new.items) }
+    ensures why { IfErr result (λ e. ExplainsRemoval removed.now offsets bytes.now e) }
 {
     let sections = sections_of::<A, RemoveError>(bytes, alloc)?;
     let imported = imported_functions(&sections)?;

@@ -17,16 +17,21 @@ pub struct Shift {
     pub by: u32,
 }
 
-/// An index would pass 4294967295.
+/// The new index of this one would pass 4294967295.
 #[derive(Clone, Copy, PartialEq, Eq, Debug)]
-pub struct IndexTooLarge;
+pub struct IndexTooLarge {
+    /// The index space.
+    pub space: IndexSpace,
+    /// The old index.
+    pub index: u32,
+}
 
 impl Remap for Shift {
     type Error = IndexTooLarge;
 
     ghost mapped = { shifted };
 
-    ghost rejects = { λ s space n _. IsTooLarge s space n };
+    ghost rejects = { IsTooLarge };
 
     fn index(&self, space: IndexSpace, index: u32) -> Result<u32, IndexTooLarge> {
         if space != self.space || index < self.from {
@@ -34,7 +39,7 @@ impl Remap for Shift {
         }
         match index.checked_add(self.by) {
             Some(index) => Ok(index),
-            None => Err(IndexTooLarge),
+            None => Err(IndexTooLarge { space, index }),
         }
     }
 }

@@ -5,52 +5,51 @@ ghost use Rattle.wasm_base.specs.Minimal.{IsFrontOf};
 ghost use Rattle.wasm_base.specs.Numbers.{Mode};
 ghost use Rattle.wasm_remap.specs.Mapping.{Follows, Mapping};
 ghost use Rattle.wasm_remap.specs.Streamed.{Remaps};
-ghost use Rattle.wasm_remap.specs.declared.streamed.Stopped.TheVariants as stops;
-ghost use Rattle.wasm_remap.specs.declared.indexed.RemapError.TheVariants as errors;
 
 use crate::indexed::{Remap, RemapError};
 use std::alloc::Allocator;
-use wasm_base::{DecodeError, Encode, Readable, Refused, Standard};
+use wasm_base::{DecodeError, Encode, ReadFault, Readable, Refused, Standard};
 
 /// Why a pass stops.
-pub(crate) enum Stopped<E> {
-    /// The bytes do not decode.
-    Read(DecodeError),
-    /// The map rejects an index, an encoding is too long, or there is no memory.
-    Append(RemapError<E>),
+pub(crate) enum Stopped {
+    /// There is no memory.
+    Memory,
+    /// The bytes do not decode, the map rejects an index, or an encoding is too long. The same
+    /// items, decoded to a list, give the error.
+    Other,
 }
 
-impl<E> Stopped<E> {
-    /// Returns the error of a payload that is followed by these bytes.
-    pub(crate) fn before(self, rest: &[u8]) -> Stopped<E> {
-        match self {
-            Stopped::Read(error) => Stopped::Read(error.before(rest)),
-            Stopped::Append(error) => Stopped::Append(error),
+impl From<DecodeError> for Stopped {
+    ghost from_gives = { λ _ _. Unit };
+
+    fn from(error: DecodeError) -> Stopped {
+        if error.cause() == ReadFault::Memory {
+            Stopped::Memory
+        } else {
+            Stopped::Other
         }
     }
 }
 
-impl<E> From<DecodeError> for Stopped<E> {
-    ghost from_gives = { λ error stopped. stopped ≡ stops.Read error };
+impl From<Refused> for Stopped {
+    ghost from_gives = { λ _ _. Unit };
 
-    fn from(error: DecodeError) -> Stopped<E> {
-        Stopped::Read(error)
+    fn from(refused: Refused) -> Stopped {
+        match refused {
+            Refused::Memory => Stopped::Memory,
+            Refused::TooLong => Stopped::Other,
+        }
     }
 }
 
-impl<E> From<RemapError<E>> for Stopped<E> {
-    ghost from_gives = { λ error stopped. stopped ≡ stops.Append error };
+impl<E: Drop> From<RemapError<E>> for Stopped {
+    ghost from_gives = { λ _ _. Unit };
 
-    fn from(error: RemapError<E>) -> Stopped<E> {
-        Stopped::Append(error)
-    }
-}
-
-impl<E> From<Refused> for Stopped<E> {
-    ghost from_gives = { λ refused stopped. stopped ≡ stops.Append (errors.Refused refused) };
-
-    fn from(refused: Refused) -> Stopped<E> {
-        Stopped::Append(RemapError::Refused(refused))
+    fn from(error: RemapError<E>) -> Stopped {
+        match error {
+            RemapError::Refused(refused) => refused.into(),
+            _ => Stopped::Other,
+        }
     }
 }
 
@@ -72,7 +71,7 @@ pub(crate) trait Streamed<A: Allocator + Copy> {
         alloc: A,
         indices: &M,
         sink: &mut Vec<u8, B>,
-    ) -> Result<&'a [u8], Stopped<M::Error>>
+    ) -> Result<&'a [u8], Stopped>
         ensures found { IfOk result (λ rest. (m : Mapping) → Follows (M.mapped indices.now) (M.rejects indices.now) m → Remaps (image m) format bytes.now rest.now sink.old.items sink.new.items) }
         ensures front { IsFrontOf sink.old.items sink.new.items };
 }
@@ -85,7 +84,7 @@ pub(crate) fn append_many<'a, T: Streamed<A>, A: Allocator + Copy, M: Remap, B: 
     alloc: A,
     indices: &M,
     sink: &mut Vec<u8, B>,
-) -> Result<&'a [u8], Stopped<M::Error>>
+) -> Result<&'a [u8], Stopped>
     ensures found { IfOk result (λ rest. (m : Mapping) → Follows (M.mapped indices.now) (M.rejects indices.now) m → Remaps (map (T.image m)) (vec T.format) bytes.now rest.now sink.old.items sink.new.items) }
     ensures front { IsFrontOf sink.old.items sink.new.items }
 {

@@ -358,6 +358,333 @@ pub trait customs {
     type remapped_relocation;
 }
 
+/// Why calls that edit a module fail.
+///
+/// - The errors of the reader: [`is_memory`](errors::is_memory), [`error_of`](errors::error_of).
+/// - Sections: [`ExplainsItems`](errors::ExplainsItems), [`ExplainsContent`](errors::ExplainsContent), [`ExplainsSection`](errors::ExplainsSection).
+/// - Modules: [`HasSection`](errors::HasSection), [`FailsIn`](errors::FailsIn), [`ExplainsModule`](errors::ExplainsModule), [`ExplainsChange`](errors::ExplainsChange), [`ExplainsRemap`](errors::ExplainsRemap), [`IsReadable`](errors::IsReadable), [`IsMappable`](errors::IsMappable).
+/// - Inserted sections: [`ExplainsSections`](errors::ExplainsSections), [`AreTooMany`](errors::AreTooMany), [`ExplainsJoin`](errors::ExplainsJoin), [`IsTooLong`](errors::IsTooLong), [`HasFirst`](errors::HasFirst), [`ExplainsInsert`](errors::ExplainsInsert).
+/// - Changed code: [`ExplainsBody`](errors::ExplainsBody), [`ExplainsBodies`](errors::ExplainsBodies), [`ExplainsCode`](errors::ExplainsCode).
+/// - Inserted imports: [`ExplainsEntry`](errors::ExplainsEntry), [`import_payload`](errors::import_payload), [`ExplainsImport`](errors::ExplainsImport).
+///
+/// [How to read definitions](super). The file is [`Errors.antt`](https://github.com/dolzhytik/dolzhytik/blob/main/crates/wasm_remap/specs/Errors.antt).
+pub trait errors {
+    /// Whether an allocation failed.
+    ///
+    /// ```text
+    /// abbrev pub is_memory : ReadFault → Bool
+    /// is_memory faults.Memory = true
+    /// is_memory fault = false
+    /// ```
+    type is_memory;
+    /// The error for one of the reader. A failed allocation is no error of the bytes.
+    ///
+    /// ```text
+    /// abbrev pub error_of : {E : Type 0} → ReadError → RemapError E
+    /// error_of fault = cond (is_memory fault.cause) (errors.Refused refusals.Memory)
+    ///     (errors.Read fault)
+    /// ```
+    ///
+    /// Definitions: [`is_memory`](errors::is_memory).
+    type error_of;
+    /// Why the changed items are not appended: the map rejects an index, or the changed items have no encoding. `Memory` says nothing of the items.
+    ///
+    /// ```text
+    /// abbrev pub ExplainsItems
+    ///     : {E : Type 0} → (Contents → Contents) → (IndexSpace → ℕ → E → Type 0) → Contents
+    ///     → RemapError E → Type 0
+    /// ExplainsItems f rejects x (errors.Read fault) = ⊥
+    /// ExplainsItems f rejects x (errors.Refused refused) = refused ≢ refusals.Memory
+    ///     → HasContentIn admitted (f x) → ⊥
+    /// ExplainsItems f rejects x (errors.Index e) = IsRejected rejects e
+    /// ExplainsItems f rejects x (errors.Offsets offset) = ⊥
+    /// ```
+    ///
+    /// Definitions: [`Contents`](super::reader::kinds::Contents), [`HasContentIn`](super::reader::sections::HasContentIn), [`admitted`](super::base::numbers::Grammar), [`IsRejected`](mapping::IsRejected).
+    type ExplainsItems;
+    /// Why the items of a section are not changed: the section does not decode, the map rejects an index, or the changed items have no encoding.
+    ///
+    /// ```text
+    /// abbrev pub ExplainsContent
+    ///     : {E : Type 0} → (Contents → Contents) → (IndexSpace → ℕ → E → Type 0) → Section
+    ///     → RemapError E → Type 0
+    /// ExplainsContent f rejects s (errors.Read fault) = RejectsWhole
+    ///     (content (section_kind_of s)) standard s.payload
+    /// ExplainsContent f rejects s (errors.Refused refused) = refused ≢ refusals.Memory
+    ///     → (x : Contents) × content (section_kind_of s) standard s.payload x
+    ///     × (HasContentIn admitted (f x) → ⊥)
+    /// ExplainsContent f rejects s (errors.Index e) = IsRejected rejects e
+    /// ExplainsContent f rejects s (errors.Offsets offset) = ⊥
+    /// ```
+    ///
+    /// Definitions: [`Contents`](super::reader::kinds::Contents), [`Section`](super::reader::outlines::Section), [`RejectsWhole`](super::base::continuing::RejectsWhole), [`content`](super::reader::kinds::content), [`section_kind_of`](super::reader::outlines::section_kind_of), [`standard`](super::base::numbers::Mode), [`HasContentIn`](super::reader::sections::HasContentIn), [`admitted`](super::base::numbers::Grammar), [`IsRejected`](mapping::IsRejected).
+    type ExplainsContent;
+    /// Why the indices of a section are not mapped.
+    ///
+    /// ```text
+    /// abbrev pub ExplainsSection
+    ///     : {E : Type 0} → Mapping → (IndexSpace → ℕ → E → Type 0) → Section → RemapError E
+    ///     → Type 0
+    /// ExplainsSection m rejects = ExplainsContent (remapped m) rejects
+    /// ```
+    ///
+    /// Definitions: [`Mapping`](mapping::Mapping), [`Section`](super::reader::outlines::Section), [`ExplainsContent`](errors::ExplainsContent), [`remapped`](sections::remapped).
+    type ExplainsSection;
+    /// The bytes begin with the header and sections, the last of which is this one.
+    ///
+    /// ```text
+    /// pub record HasSection (bytes : List ℕ) (s : Section) : Type 0 where
+    ///   pub before : List Section
+    ///   pub after : List ℕ
+    ///   pub joined : bytes ≡ header ++ (flat_map bytes_of before ++ (bytes_of s ++ after))
+    ///   pub each : AllByRecursion IsSection before
+    ///   pub is_section : IsSection s
+    /// ```
+    ///
+    /// Definitions: [`Section`](super::reader::outlines::Section), [`header`](super::base::formats::header), [`bytes_of`](super::reader::outlines::bytes_of), [`IsSection`](super::reader::outlines::IsSection).
+    type HasSection;
+    /// The change of a section of the module fails with this error. The section holds no offsets.
+    ///
+    /// ```text
+    /// abbrev pub FailsIn : {E : Type 0} → (Section → RemapError E → Type 0) → List ℕ
+    ///     → RemapError E → Type 0
+    /// FailsIn Why bytes e = (s : Section) × HasSection bytes s
+    ///     × (contains_offsets s.name ≡ false) × Why s e
+    /// ```
+    ///
+    /// Definitions: [`Section`](super::reader::outlines::Section), [`HasSection`](errors::HasSection), [`contains_offsets`](super::reader::shortening::contains_offsets).
+    type FailsIn;
+    /// Why the sections of a module are not changed: the bytes are no module, the change of a section fails, or a section holds offsets.
+    ///
+    /// ```text
+    /// abbrev pub ExplainsModule
+    ///     : {E : Type 0} → (Section → RemapError E → Type 0) → Offsets → List ℕ → RemapError E
+    ///     → Type 0
+    /// ExplainsModule Why offsets bytes
+    ///     (errors.Read fault) = RejectsWhole wasm_module padded bytes
+    ///     ⊎ FailsIn Why bytes (errors.Read fault)
+    /// ExplainsModule Why offsets bytes (errors.Refused refused) = refused ≢ refusals.Memory
+    ///     → FailsIn Why bytes (errors.Refused refused)
+    /// ExplainsModule Why offsets bytes (errors.Index e) = FailsIn Why bytes (errors.Index e)
+    /// ExplainsModule Why offsets bytes (errors.Offsets offset) = (offsets ≡ Refuse)
+    ///     × ((s : Section) × HasSection bytes s × (contains_offsets s.name ≡ true))
+    /// ```
+    ///
+    /// Definitions: [`Section`](super::reader::outlines::Section), [`RejectsWhole`](super::base::continuing::RejectsWhole), [`wasm_module`](super::base::formats::wasm_module), [`padded`](super::base::numbers::Mode), [`FailsIn`](errors::FailsIn), [`HasSection`](errors::HasSection), [`contains_offsets`](super::reader::shortening::contains_offsets).
+    type ExplainsModule;
+    /// Why a changed section is not appended: the change fails, or the new payload has 2^32 bytes or more.
+    ///
+    /// ```text
+    /// abbrev pub ExplainsChange
+    ///     : {E : Type 0} → (Section → List ℕ → Type 0) → (Section → RemapError E → Type 0)
+    ///     → Section → RemapError E → Type 0
+    /// ExplainsChange R Why s (errors.Refused refused) = refused ≢ refusals.Memory
+    ///     → Why s (errors.Refused refused)
+    ///     ⊎ ((payload : List ℕ) × R s payload × (length payload < 2 ^ 32 → ⊥))
+    /// ExplainsChange R Why s e = Why s e
+    /// ```
+    ///
+    /// Definitions: [`Section`](super::reader::outlines::Section).
+    type ExplainsChange;
+    /// Why the indices of a module are not mapped.
+    ///
+    /// ```text
+    /// abbrev pub ExplainsRemap
+    ///     : {E : Type 0} → Mapping → (IndexSpace → ℕ → E → Type 0) → Offsets → List ℕ
+    ///     → RemapError E → Type 0
+    /// ExplainsRemap m rejects = ExplainsModule
+    ///     (ExplainsChange (IsRemapped m) (ExplainsSection m rejects))
+    /// ```
+    ///
+    /// Definitions: [`Mapping`](mapping::Mapping), [`ExplainsModule`](errors::ExplainsModule), [`ExplainsChange`](errors::ExplainsChange), [`IsRemapped`](sections::IsRemapped), [`ExplainsSection`](errors::ExplainsSection).
+    type ExplainsRemap;
+    /// The section decodes, and has fewer than 2^26 bytes.
+    ///
+    /// ```text
+    /// pub record IsReadable (s : Section) : Type 0 where
+    ///   pub items : Contents
+    ///   pub decoded : content (section_kind_of s) standard s.payload items
+    ///   pub short : length s.payload < 2 ^ 26
+    /// ```
+    ///
+    /// Definitions: [`Section`](super::reader::outlines::Section), [`Contents`](super::reader::kinds::Contents), [`content`](super::reader::kinds::content), [`section_kind_of`](super::reader::outlines::section_kind_of), [`standard`](super::base::numbers::Mode).
+    type IsReadable;
+    /// The bytes are a module. Each section that holds no offsets decodes, and has fewer than 2^26 bytes. With `Refuse`, no section holds offsets. A map whose new indices are below 2^32, and that rejects none, then maps the module, if there is memory.
+    ///
+    /// ```text
+    /// pub record IsMappable (offsets : Offsets) (bytes : List ℕ) : Type 0 where
+    ///   pub sections : List Section
+    ///   pub has : HasSections bytes sections
+    ///   pub readable : AllByRecursion
+    ///       (λ s. contains_offsets s.name ≡ false → IsReadable s) sections
+    ///   pub no_offsets : offsets ≡ Refuse
+    ///       → AllByRecursion (λ s. contains_offsets s.name ≡ false) sections
+    /// ```
+    ///
+    /// Definitions: [`Section`](super::reader::outlines::Section), [`HasSections`](super::reader::outlines::HasSections), [`contains_offsets`](super::reader::shortening::contains_offsets), [`IsReadable`](errors::IsReadable).
+    type IsMappable;
+    /// Why the sections of a module are not listed: the bytes are no module.
+    ///
+    /// ```text
+    /// abbrev pub ExplainsSections : {E : Type 0} → List ℕ → RemapError E → Type 0
+    /// ExplainsSections bytes (errors.Read fault) = RejectsWhole wasm_module padded bytes
+    /// ExplainsSections bytes (errors.Refused refused) = refused ≡ refusals.Memory
+    /// ExplainsSections bytes (errors.Index e) = ⊥
+    /// ExplainsSections bytes (errors.Offsets offset) = ⊥
+    /// ```
+    ///
+    /// Definitions: [`RejectsWhole`](super::base::continuing::RejectsWhole), [`wasm_module`](super::base::formats::wasm_module), [`padded`](super::base::numbers::Mode).
+    type ExplainsSections;
+    /// Both payloads begin with a count, and their sum is 2^32 or more.
+    ///
+    /// ```text
+    /// pub record AreTooMany (new old : List ℕ) : Type 0 where
+    ///   pub new_count : ℕ
+    ///   pub new_members : List ℕ
+    ///   pub new_read : Decodes u32 standard new new_count new_members
+    ///   pub old_count : ℕ
+    ///   pub old_members : List ℕ
+    ///   pub old_read : Decodes u32 standard old old_count old_members
+    ///   pub unfit : new_count + old_count < 2 ^ 32 → ⊥
+    /// ```
+    ///
+    /// Definitions: [`Decodes`](super::base::decoding::Decodes), [`u32`](super::base::formats::u32), [`standard`](super::base::numbers::Mode).
+    type AreTooMany;
+    /// Why the members of a new list and an old one are not joined: one of them does not begin with a count, the new section is not encodable, or there are too many members.
+    ///
+    /// ```text
+    /// abbrev pub ExplainsJoin : {E : Type 0} → (Encodable : Type 0) → (new old : List ℕ)
+    ///     → RemapError E → Type 0
+    /// ExplainsJoin Encodable new old (errors.Read fault) = Rejects u32 standard new
+    ///     ⊎ Rejects u32 standard old
+    /// ExplainsJoin Encodable new old (errors.Refused refused) = refused ≢ refusals.Memory
+    ///     → (Encodable → ⊥) ⊎ AreTooMany new old
+    /// ExplainsJoin Encodable new old (errors.Index e) = ⊥
+    /// ExplainsJoin Encodable new old (errors.Offsets offset) = ⊥
+    /// ```
+    ///
+    /// Definitions: [`Rejects`](super::base::decoding::Rejects), [`u32`](super::base::formats::u32), [`standard`](super::base::numbers::Mode), [`AreTooMany`](errors::AreTooMany).
+    type ExplainsJoin;
+    /// The joined payload has 2^32 bytes or more.
+    ///
+    /// ```text
+    /// abbrev pub IsTooLong : Position → (new old : List ℕ) → Type 0
+    /// IsTooLong p new old = (payload : List ℕ) × IsJoined p new old payload
+    ///     × (length payload < 2 ^ 32 → ⊥)
+    /// ```
+    ///
+    /// Definitions: [`IsJoined`](inserted::IsJoined).
+    type IsTooLong;
+    /// The first section of this id in the module has this property.
+    ///
+    /// ```text
+    /// pub record HasFirst (id : ℕ) (bytes : List ℕ) (P : Section → Type 0) : Type 0 where
+    ///   pub olds : List Section
+    ///   pub has : HasSections bytes olds
+    ///   pub before : List Section
+    ///   pub section : Section
+    ///   pub after : List Section
+    ///   pub found : IsFound id before section after olds
+    ///   pub property : P section
+    /// ```
+    ///
+    /// Definitions: [`Section`](super::reader::outlines::Section), [`HasSections`](super::reader::outlines::HasSections), [`IsFound`](places::IsFound).
+    type HasFirst;
+    /// Why a section is not inserted into a module: the bytes are no module, the new section is not encodable, or its members are not joined with those of the old section.
+    ///
+    /// ```text
+    /// abbrev pub ExplainsInsert
+    ///     : {E : Type 0} → Position → (id : ℕ) → (Encodable : Type 0) → (new bytes : List ℕ)
+    ///     → RemapError E → Type 0
+    /// ExplainsInsert p id Encodable new bytes
+    ///     (errors.Read fault) = RejectsWhole wasm_module padded bytes
+    ///     ⊎ HasFirst id bytes (λ s. Rejects u32 standard new ⊎ Rejects u32 standard s.payload)
+    /// ExplainsInsert p id Encodable new bytes (errors.Refused refused) = refused
+    ///     ≢ refusals.Memory → (Encodable → ⊥)
+    ///     ⊎ HasFirst id bytes (λ s. AreTooMany new s.payload ⊎ IsTooLong p new s.payload)
+    /// ExplainsInsert p id Encodable new bytes (errors.Index e) = ⊥
+    /// ExplainsInsert p id Encodable new bytes (errors.Offsets offset) = ⊥
+    /// ```
+    ///
+    /// Definitions: [`RejectsWhole`](super::base::continuing::RejectsWhole), [`wasm_module`](super::base::formats::wasm_module), [`padded`](super::base::numbers::Mode), [`HasFirst`](errors::HasFirst), [`Rejects`](super::base::decoding::Rejects), [`u32`](super::base::formats::u32), [`standard`](super::base::numbers::Mode), [`AreTooMany`](errors::AreTooMany), [`IsTooLong`](errors::IsTooLong).
+    type ExplainsInsert;
+    /// Why a body is not changed: it does not decode.
+    ///
+    /// ```text
+    /// abbrev pub ExplainsBody : {E : Type 0} → List ℕ → RemapError E → Type 0
+    /// ExplainsBody bytes (errors.Read fault) = RejectsWhole body standard bytes
+    /// ExplainsBody bytes (errors.Refused refused) = Unit {0}
+    /// ExplainsBody bytes (errors.Index e) = ⊥
+    /// ExplainsBody bytes (errors.Offsets offset) = ⊥
+    /// ```
+    ///
+    /// Definitions: [`RejectsWhole`](super::base::continuing::RejectsWhole), [`body`](super::code::bodies::body), [`standard`](super::base::numbers::Mode).
+    type ExplainsBody;
+    /// Why the bodies of a code section are not changed: its payload does not decode.
+    ///
+    /// ```text
+    /// abbrev pub ExplainsBodies : {E : Type 0} → List ℕ → RemapError E → Type 0
+    /// ExplainsBodies payload (errors.Read fault) = RejectsWhole
+    ///     (vec (size_prefixed body)) standard payload
+    /// ExplainsBodies payload (errors.Refused refused) = Unit {0}
+    /// ExplainsBodies payload (errors.Index e) = ⊥
+    /// ExplainsBodies payload (errors.Offsets offset) = ⊥
+    /// ```
+    ///
+    /// Definitions: [`RejectsWhole`](super::base::continuing::RejectsWhole), [`vec`](super::base::formats::vec), [`size_prefixed`](super::base::formats::size_prefixed), [`body`](super::code::bodies::body), [`standard`](super::base::numbers::Mode).
+    type ExplainsBodies;
+    /// Why the code of a module is not changed: the bytes are no module, or the payload of the first code section does not decode.
+    ///
+    /// ```text
+    /// abbrev pub ExplainsCode : {E : Type 0} → List ℕ → RemapError E → Type 0
+    /// ExplainsCode bytes (errors.Read fault) = RejectsWhole wasm_module padded bytes
+    ///     ⊎ HasFirst (number_of ids.Code) bytes
+    ///     (λ s. RejectsWhole (vec (size_prefixed body)) standard s.payload)
+    /// ExplainsCode bytes (errors.Refused refused) = Unit {0}
+    /// ExplainsCode bytes (errors.Index e) = ⊥
+    /// ExplainsCode bytes (errors.Offsets offset) = ⊥
+    /// ```
+    ///
+    /// Definitions: [`RejectsWhole`](super::base::continuing::RejectsWhole), [`wasm_module`](super::base::formats::wasm_module), [`padded`](super::base::numbers::Mode), [`HasFirst`](errors::HasFirst), [`number_of`](super::base::section_id::number_of), [`vec`](super::base::formats::vec), [`size_prefixed`](super::base::formats::size_prefixed), [`body`](super::code::bodies::body), [`standard`](super::base::numbers::Mode).
+    type ExplainsCode;
+    /// Why an import is not added to a section: it is not encodable.
+    ///
+    /// ```text
+    /// abbrev pub ExplainsEntry : {E : Type 0} → (Encodable : Type 0) → RemapError E → Type 0
+    /// ExplainsEntry Encodable (errors.Refused refused) = refused ≢ refusals.Memory → Encodable
+    ///     → ⊥
+    /// ExplainsEntry Encodable e = ⊥
+    /// ```
+    type ExplainsEntry;
+    /// The payload of an import section of one import.
+    ///
+    /// ```text
+    /// abbrev pub import_payload : Import → List ℕ
+    /// import_payload x = unsigned_encoding 1 ++ joined (import_encoding (import_item x) ∷ [])
+    /// ```
+    ///
+    /// Definitions: [`unsigned_encoding`](super::base::numbers::unsigned_encoding), [`joined`](super::base::pieces::joined), [`import_encoding`](super::sections::imports::import_encoding), [`import_item`](super::sections::imports::import_item).
+    type import_payload;
+    /// Why an import is not inserted: the indices of the module are not moved, the import is not encodable, or its section is not inserted into the module whose indices are moved.
+    ///
+    /// ```text
+    /// abbrev pub ExplainsImport
+    ///     : Import → Offsets → List ℕ → RemapError IndexTooLarge → Type 0
+    /// ExplainsImport x offsets bytes e =
+    ///     ExplainsRemap (shifted (room_in (space_of x.ty)))
+    ///         (IsTooLarge (room_in (space_of x.ty))) offsets bytes e
+    ///     ⊎ (ExplainsEntry (IsEncodableImport (import_item x)) e
+    ///     ⊎ ((shifted_bytes : List ℕ)
+    ///         × RemapsModule (shifted (room_in (space_of x.ty))) offsets bytes shifted_bytes
+    ///         × ExplainsInsert First (number_of ids.Import)
+    ///         (IsEncodableSection (import_encoding (import_item x) ∷ []))
+    ///         (import_payload x) shifted_bytes e))
+    /// ```
+    ///
+    /// Definitions: [`ExplainsRemap`](errors::ExplainsRemap), [`shifted`](shifted::shifted), [`room_in`](imported::room_in), [`space_of`](imported::space_of), [`IsTooLarge`](shifted::IsTooLarge), [`ExplainsEntry`](errors::ExplainsEntry), [`IsEncodableImport`](super::sections::imports::IsEncodableImport), [`import_item`](super::sections::imports::import_item), [`RemapsModule`](sections::RemapsModule), [`ExplainsInsert`](errors::ExplainsInsert), [`number_of`](super::base::section_id::number_of), [`IsEncodableSection`](super::base::pieces::IsEncodableSection), [`import_encoding`](super::sections::imports::import_encoding), [`import_payload`](errors::import_payload).
+    type ExplainsImport;
+}
+
 /// Modules into which an import is inserted.
 ///
 /// [How to read definitions](super). The file is [`Imported.antt`](https://github.com/dolzhytik/dolzhytik/blob/main/crates/wasm_remap/specs/Imported.antt).
@@ -534,7 +861,7 @@ pub trait inserted {
     ///
     /// Definitions: [`Section`](super::reader::outlines::Section), [`HasSections`](super::reader::outlines::HasSections), [`rank_of`](places::rank_of), [`IsExtended`](inserted::IsExtended), [`IsAdded`](inserted::IsAdded), [`DecodesWhole`](super::base::decoding::DecodesWhole), [`wasm_module`](super::base::formats::wasm_module).
     type InsertsSection;
-    /// The bytes are a module, and the edited bytes are a module that has these members too, in the standard's grammar: joined with those that an old section decodes to, or in a new section.
+    /// The bytes are a module, and the edited bytes are a module that has these members too, in the standard's grammar: joined with those that the first section of the id decodes to, or in a new section at its place if there is none.
     ///
     /// ```text
     /// pub record GainsMembers {X : Type 0} (p : Position) (id : ℕ) (F : Format X)
@@ -545,14 +872,16 @@ pub trait inserted {
     ///   pub after : List Section
     ///   pub payload : List ℕ
     ///   pub members :
-    ///       ((section : Section) × (olds ≡ before ++ section ∷ after) × (section.id ≡ id)
+    ///       ((section : Section) × IsFound id before section after olds
     ///           × ((ys : List X) → vec F standard section.payload ys
     ///               → vec F standard payload (joined_lists p xs ys)))
-    ///       ⊎ ((olds ≡ before ++ after) × vec F standard payload xs)
+    ///       ⊎ ((olds ≡ before ++ after)
+    ///           × (rank_of id ≢ 0 → lacks id olds × IsPlace id before after)
+    ///           × vec F standard payload xs)
     ///   pub decodes : DecodesWhole wasm_module edited (between before id payload after)
     /// ```
     ///
-    /// Definitions: [`Format`](super::base::formats::Format), [`Section`](super::reader::outlines::Section), [`HasSections`](super::reader::outlines::HasSections), [`vec`](super::base::formats::vec), [`standard`](super::base::numbers::Mode), [`joined_lists`](inserted::joined_lists), [`DecodesWhole`](super::base::decoding::DecodesWhole), [`wasm_module`](super::base::formats::wasm_module), [`between`](inserted::between).
+    /// Definitions: [`Format`](super::base::formats::Format), [`Section`](super::reader::outlines::Section), [`HasSections`](super::reader::outlines::HasSections), [`IsFound`](places::IsFound), [`vec`](super::base::formats::vec), [`standard`](super::base::numbers::Mode), [`joined_lists`](inserted::joined_lists), [`rank_of`](places::rank_of), [`lacks`](places::lacks), [`IsPlace`](places::IsPlace), [`DecodesWhole`](super::base::decoding::DecodesWhole), [`wasm_module`](super::base::formats::wasm_module), [`between`](inserted::between).
     type GainsMembers;
 }
 
@@ -1040,6 +1369,13 @@ pub trait mapping {
     ///
     /// Definitions: [`Mapping`](mapping::Mapping), [`mapped_in`](mapping::mapped_in).
     type mapped_first;
+    /// The map rejects some index with this error.
+    ///
+    /// ```text
+    /// abbrev pub IsRejected : {E : Type 0} → (IndexSpace → ℕ → E → Type 0) → E → Type 0
+    /// IsRejected rejects e = (space : IndexSpace) × (n : ℕ) × rejects space n e
+    /// ```
+    type IsRejected;
     /// The map rejected an index with this error, or there was no memory.
     ///
     /// ```text
@@ -1048,8 +1384,10 @@ pub trait mapping {
     /// ComesFrom rejects (Read fault) = ⊥
     /// ComesFrom rejects (Refused refused) = refused ≡ refusals.Memory
     /// ComesFrom rejects (Offsets offset) = ⊥
-    /// ComesFrom rejects (Index e) = (space : IndexSpace) × (n : ℕ) × rejects space n e
+    /// ComesFrom rejects (Index e) = IsRejected rejects e
     /// ```
+    ///
+    /// Definitions: [`IsRejected`](mapping::IsRejected).
     type ComesFrom;
 }
 
@@ -1193,9 +1531,10 @@ pub trait places {
 
 /// Modules without some of their functions.
 ///
-/// - New indices: [`is_removed`](removed::is_removed), [`numbered`](removed::numbered), [`HasNone`](removed::HasNone), [`or_zero`](removed::or_zero), [`by_table`](removed::by_table), [`Renumbers`](removed::Renumbers).
+/// - New indices: [`is_removed`](removed::is_removed), [`numbered`](removed::numbered), [`HasNone`](removed::HasNone), [`IsUse`](removed::IsUse), [`or_zero`](removed::or_zero), [`by_table`](removed::by_table), [`Renumbers`](removed::Renumbers).
 /// - Items: [`unflagged`](removed::unflagged), [`stays`](removed::stays), [`staying`](removed::staying), [`trimmed_name`](removed::trimmed_name), [`trimmed`](removed::trimmed), [`IsTrimmed`](removed::IsTrimmed).
 /// - Modules: [`ImportsFunctions`](removed::ImportsFunctions), [`RemovesFunctions`](removed::RemovesFunctions).
+/// - Errors: [`ExplainsTrimmed`](removed::ExplainsTrimmed), [`IsTrimmedBy`](removed::IsTrimmedBy), [`HasImported`](removed::HasImported), [`ExplainsCount`](removed::ExplainsCount), [`ExplainsFlags`](removed::ExplainsFlags), [`ExplainsRemoval`](removed::ExplainsRemoval).
 ///
 /// [How to read definitions](super). The file is [`Removed.antt`](https://github.com/dolzhytik/dolzhytik/blob/main/crates/wasm_remap/specs/Removed.antt).
 pub trait removed {
@@ -1225,6 +1564,17 @@ pub trait removed {
     ///
     /// Definitions: [`is_same`](shifted::is_same).
     type HasNone;
+    /// The error of a use of this function, for which the table has no index. It is removed, or past the end of the table.
+    ///
+    /// ```text
+    /// pub record IsUse (table : List (Option ℕ)) (space : IndexSpace) (n : ℕ)
+    ///     (e : RemoveError) : Type 0 where
+    ///   pub none : HasNone table space n
+    ///   pub is : e ≡ cond (nat_lt n (length table)) (InUse n) (Unlisted n)
+    /// ```
+    ///
+    /// Definitions: [`HasNone`](removed::HasNone).
+    type IsUse;
     /// The index that is there, or else 0.
     ///
     /// ```text
@@ -1356,6 +1706,86 @@ pub trait removed {
     ///
     /// Definitions: [`Section`](super::reader::outlines::Section), [`HasSections`](super::reader::outlines::HasSections), [`ImportsFunctions`](removed::ImportsFunctions), [`is_removed`](removed::is_removed), [`Mapping`](mapping::Mapping), [`Renumbers`](removed::Renumbers), [`ChangesModule`](sections::ChangesModule), [`IsTrimmed`](removed::IsTrimmed).
     type RemovesFunctions;
+    /// Why the items of a section are not changed.
+    ///
+    /// ```text
+    /// abbrev pub ExplainsTrimmed
+    ///     : (removed defined : List Bool) → Section → RemapError RemoveError → Type 0
+    /// ExplainsTrimmed removed defined = ExplainsContent
+    ///     (λ x. remapped (by_table (numbered 0 removed)) (trimmed removed defined x))
+    ///     (IsUse (numbered 0 removed))
+    /// ```
+    ///
+    /// Definitions: [`Section`](super::reader::outlines::Section), [`ExplainsContent`](errors::ExplainsContent), [`remapped`](sections::remapped), [`by_table`](removed::by_table), [`numbered`](removed::numbered), [`trimmed`](removed::trimmed), [`IsUse`](removed::IsUse).
+    type ExplainsTrimmed;
+    /// The change of a section for a removal.
+    ///
+    /// ```text
+    /// abbrev pub IsTrimmedBy : (removed defined : List Bool) → Section → List ℕ → Type 0
+    /// IsTrimmedBy removed defined s payload = (m : Mapping) → Renumbers removed m
+    ///     → IsTrimmed removed defined m s payload
+    /// ```
+    ///
+    /// Definitions: [`Section`](super::reader::outlines::Section), [`Mapping`](mapping::Mapping), [`Renumbers`](removed::Renumbers), [`IsTrimmed`](removed::IsTrimmed).
+    type IsTrimmedBy;
+    /// The bytes are a module that imports this number of functions.
+    ///
+    /// ```text
+    /// pub record HasImported (bytes : List ℕ) (imported : ℕ) : Type 0 where
+    ///   pub sections : List Section
+    ///   pub has : HasSections bytes sections
+    ///   pub imports : ImportsFunctions sections imported
+    /// ```
+    ///
+    /// Definitions: [`Section`](super::reader::outlines::Section), [`HasSections`](super::reader::outlines::HasSections), [`ImportsFunctions`](removed::ImportsFunctions).
+    type HasImported;
+    /// Why the imported functions are not counted: the bytes are no module, the imports do not decode, or there are 2^32 or more.
+    ///
+    /// ```text
+    /// abbrev pub ExplainsCount : {E : Type 0} → List ℕ → RemapError E → Type 0
+    /// ExplainsCount bytes (errors.Read fault) = RejectsWhole wasm_module padded bytes
+    ///     ⊎ HasFirst (number_of ids.Import) bytes
+    ///     (λ s. RejectsWhole (content (section_kind_of s)) standard s.payload)
+    /// ExplainsCount bytes (errors.Refused refused) = refused ≢ refusals.Memory
+    ///     → HasFirst (number_of ids.Import) bytes
+    ///     (λ s. (xs : List ImportItem)
+    ///     × content (section_kind_of s) standard s.payload (Imports xs)
+    ///     × (imported spaces.Functions xs < 2 ^ 32 → ⊥))
+    /// ExplainsCount bytes (errors.Index e) = ⊥
+    /// ExplainsCount bytes (errors.Offsets offset) = ⊥
+    /// ```
+    ///
+    /// Definitions: [`RejectsWhole`](super::base::continuing::RejectsWhole), [`wasm_module`](super::base::formats::wasm_module), [`padded`](super::base::numbers::Mode), [`HasFirst`](errors::HasFirst), [`number_of`](super::base::section_id::number_of), [`content`](super::reader::kinds::content), [`section_kind_of`](super::reader::outlines::section_kind_of), [`standard`](super::base::numbers::Mode), [`ImportItem`](super::sections::imports::ImportItem), [`Imports`](super::reader::kinds::Contents), [`imported`](imported::imported).
+    type ExplainsCount;
+    /// Why the flags do not fit the module: an imported function is to be removed, or there are 2^32 flags or more.
+    ///
+    /// ```text
+    /// abbrev pub ExplainsFlags : List Bool → (imported : ℕ) → RemapError RemoveError → Type 0
+    /// ExplainsFlags removed imported (errors.Index (Imported n)) = (n < imported)
+    ///     × (is_removed removed n ≡ true)
+    /// ExplainsFlags removed imported (errors.Refused refused) = refused ≢ refusals.Memory
+    ///     → length removed < 2 ^ 32 → ⊥
+    /// ExplainsFlags removed imported e = ⊥
+    /// ```
+    ///
+    /// Definitions: [`is_removed`](removed::is_removed).
+    type ExplainsFlags;
+    /// Why functions are not removed from a module.
+    ///
+    /// ```text
+    /// abbrev pub ExplainsRemoval
+    ///     : List Bool → Offsets → List ℕ → RemapError RemoveError → Type 0
+    /// ExplainsRemoval removed offsets bytes e =
+    ///     ExplainsCount bytes e
+    ///     ⊎ ((imported : ℕ) × HasImported bytes imported
+    ///         × (ExplainsFlags removed imported e
+    ///             ⊎ ExplainsModule (ExplainsChange
+    ///                 (IsTrimmedBy removed (drop imported removed))
+    ///                 (ExplainsTrimmed removed (drop imported removed))) offsets bytes e))
+    /// ```
+    ///
+    /// Definitions: [`ExplainsCount`](removed::ExplainsCount), [`HasImported`](removed::HasImported), [`ExplainsFlags`](removed::ExplainsFlags), [`ExplainsModule`](errors::ExplainsModule), [`ExplainsChange`](errors::ExplainsChange), [`IsTrimmedBy`](removed::IsTrimmedBy), [`ExplainsTrimmed`](removed::ExplainsTrimmed).
+    type ExplainsRemoval;
 }
 
 /// What a map of indices makes of the content of a section, and the promises of the calls that map.
@@ -1516,11 +1946,12 @@ pub trait shifted {
     ///
     /// Definitions: [`moves`](shifted::moves).
     type shifted;
-    /// The index moves, and the sum has more than 32 bits.
+    /// The index moves, and the sum has more than 32 bits. The error has the index.
     ///
     /// ```text
-    /// abbrev pub IsTooLarge : Shift → IndexSpace → ℕ → Type 0
-    /// IsTooLarge s space n = (moves s space n ≡ true) × (2 ^ 32 ≤ n + s.by)
+    /// abbrev pub IsTooLarge : Shift → IndexSpace → ℕ → IndexTooLarge → Type 0
+    /// IsTooLarge s space n e = (moves s space n ≡ true) × (2 ^ 32 ≤ n + s.by)
+    ///     × (e.space ≡ space) × (e.index ≡ n)
     /// ```
     ///
     /// Definitions: [`moves`](shifted::moves).

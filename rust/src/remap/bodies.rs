@@ -2,15 +2,15 @@
 // Bodies that are mapped instruction by instruction. No list of a body is kept.
 
 use crate::vec::{Sink, Vec};
-use crate::remap::indexed::{Indexed, Remap, RemapError, mapped_number};
+use crate::remap::indexed::{Indexed, Remap, mapped_number};
 use crate::remap::spaces::spaces_of;
 use crate::remap::streamed::{Stopped, Streamed, append_many};
 use crate::alloc::Allocator;
-use crate::base::{Encode, EncodeIn, ReadFault, Readable, Refused, Shorten, Standard, ValType, Walk, prefix_size_since};
+use crate::base::{Encode, EncodeIn, Readable, Shorten, Standard, ValType, Walk, prefix_size_since};
 use crate::code::Body;
 use crate::immediates::{BlockType, MemArg};
 use crate::insn::{Op, Operands, Plain, Shape, read_instruction};
-use crate::reader::{ReadError, Section};
+use crate::reader::Section;
 
 /// Returns `true` if the byte is a one-byte opcode whose immediates have no index. A test by ranges,
 /// since most instructions are such.
@@ -42,7 +42,7 @@ fn append_number<M: Remap, B: Sink>(
     number: u32,
     indices: &M,
     sink: &mut B,
-) -> Result<(), Stopped<M::Error>> {
+) -> Result<(), Stopped> {
     let number = mapped_number(indices, spaces_of(op).0, number)?;
     op.encode(sink)?;
     number.encode(sink)?;
@@ -56,7 +56,7 @@ fn append_numbers<A: Allocator + Copy, M: Remap, B: Sink>(
     alloc: A,
     indices: &M,
     sink: &mut B,
-) -> Result<(), Stopped<M::Error>> {
+) -> Result<(), Stopped> {
     let (numbers, _rest) = <(u32, u32) as Readable<'_, A, Standard>>::read(bytes, alloc)?;
     let spaces = spaces_of(op);
     let first = mapped_number(indices, spaces.0, numbers.0)?;
@@ -75,7 +75,7 @@ fn append_memory<A: Allocator + Copy, M: Remap, B: Sink>(
     alloc: A,
     indices: &M,
     sink: &mut B,
-) -> Result<(), Stopped<M::Error>> {
+) -> Result<(), Stopped> {
     let mut argument = argument;
     argument.remap(alloc, indices)?;
     op.encode(sink)?;
@@ -91,7 +91,7 @@ fn append_block<A: Allocator + Copy, M: Remap, B: Sink>(
     alloc: A,
     indices: &M,
     sink: &mut B,
-) -> Result<(), Stopped<M::Error>> {
+) -> Result<(), Stopped> {
     let mut ty = ty;
     ty.remap(alloc, indices)?;
     op.encode(sink)?;
@@ -108,7 +108,7 @@ fn append_rare<A: Allocator + Copy, M: Remap, B: Sink>(
     alloc: A,
     indices: &M,
     sink: &mut B,
-) -> Result<(), Stopped<M::Error>> {
+) -> Result<(), Stopped> {
     let args = operands.to_args(alloc)?;
     let mut plain = Plain { op, args };
     plain.remap(alloc, indices)?;
@@ -126,7 +126,7 @@ fn append_operation<A: Allocator + Copy, M: Remap, B: Sink>(
     alloc: A,
     indices: &M,
     sink: &mut B,
-) -> Result<(), Stopped<M::Error>> {
+) -> Result<(), Stopped> {
     match operands {
         Operands::U32(number) => append_number(op, number, indices, sink),
         Operands::Mem(argument) => append_memory(op, argument, alloc, indices, sink),
@@ -144,7 +144,7 @@ fn append_instruction<'a, A: Allocator + Copy, M: Remap, B: Sink>(
     alloc: A,
     indices: &M,
     sink: &mut B,
-) -> Result<&'a [u8], Stopped<M::Error>> {
+) -> Result<&'a [u8], Stopped> {
     if let [byte, ..] = bytes {
         if begins_without_index(*byte) {
             return Ok(<Plain<A> as Walk<Standard>>::walk(bytes, alloc, sink)?);
@@ -164,7 +164,7 @@ fn append_code<A: Allocator + Copy, M: Remap, B: Sink>(
     alloc: A,
     indices: &M,
     sink: &mut B,
-) -> Result<(), Stopped<M::Error>> {
+) -> Result<(), Stopped> {
     let mut rest = bytes;
     loop {
         if rest.is_empty() {
@@ -191,7 +191,7 @@ impl<A: Allocator + Copy> Streamed<A> for (u32, ValType) {
         alloc: A,
         indices: &M,
         sink: &mut B,
-    ) -> Result<&'a [u8], Stopped<M::Error>> {
+    ) -> Result<&'a [u8], Stopped> {
         let (count, rest) = <u32 as Readable<'a, A, Standard>>::read(bytes, alloc)?;
         let (mut ty, rest) = <ValType as Readable<'a, A, Standard>>::read(rest, alloc)?;
         ty.remap(alloc, indices)?;
@@ -207,7 +207,7 @@ fn append_content<A: Allocator + Copy, M: Remap, B: Sink>(
     alloc: A,
     indices: &M,
     sink: &mut B,
-) -> Result<(), Stopped<M::Error>> {
+) -> Result<(), Stopped> {
     let code = append_many::<(u32, ValType), _, _, _>(bytes, alloc, indices, sink)?;
     append_code(code, alloc, indices, sink)?;
     Ok(())
@@ -230,13 +230,10 @@ impl<A: Allocator + Copy> Streamed<A> for Body<A> {
         alloc: A,
         indices: &M,
         sink: &mut B,
-    ) -> Result<&'a [u8], Stopped<M::Error>> {
+    ) -> Result<&'a [u8], Stopped> {
         let (content, rest) = <&'a [u8] as Readable<'a, A, Standard>>::read(bytes, alloc)?;
         let start = sink.len();
-        match append_content(content, alloc, indices, sink) {
-            Ok(()) => {}
-            Err(stopped) => return Err(stopped.before(rest)),
-        }
+        append_content(content, alloc, indices, sink)?;
         prefix_size_since(sink, start)?;
         Ok(rest)
     }
@@ -248,32 +245,13 @@ fn append_bodies<A: Allocator + Copy, M: Remap, B: Sink>(
     alloc: A,
     indices: &M,
     sink: &mut B,
-) -> Result<(), Stopped<M::Error>> {
+) -> Result<(), Stopped> {
     let rest = append_many::<Body<A>, _, _, _>(bytes, alloc, indices, sink)?;
     if rest.is_empty() {
         Ok(())
     } else {
-        Err(Stopped::Read(ReadFault::SizeMismatch.at(rest)))
+        Err(Stopped::Other)
     }
-}
-
-/// Returns the error of the payload of a section. A failed allocation is no error of the bytes.
-fn error_of<A: Allocator + Copy, E>(
-    section: &Section<'_, A>,
-    stopped: Stopped<E>,
-) -> RemapError<E> {
-    let error = match stopped {
-        Stopped::Read(error) => error,
-        Stopped::Append(error) => return error,
-    };
-    if error.cause() == ReadFault::Memory {
-        return RemapError::Refused(Refused::Memory);
-    }
-    let left = section.payload().len().min(error.left() as usize);
-    RemapError::Read(ReadError {
-        cause: error.cause(),
-        offset: section.range().end - left,
-    })
 }
 
 /// Appends the minimal encoding of the bodies of a code section with each index mapped. They are
@@ -283,13 +261,11 @@ pub(crate) fn remap_bodies<A: Allocator + Copy, M: Remap, B: Sink>(
     alloc: A,
     indices: &M,
     sink: &mut B,
-) -> Result<(), RemapError<M::Error>> {
+) -> Result<(), Stopped> {
     let start = sink.len();
-    match append_bodies(section.payload(), alloc, indices, sink) {
-        Ok(()) => Ok(()),
-        Err(stopped) => {
-            sink.truncate(start);
-            Err(error_of(section, stopped))
-        }
+    let appended = append_bodies(section.payload(), alloc, indices, sink);
+    if appended.is_err() {
+        sink.truncate(start);
     }
+    appended
 }

@@ -77,12 +77,16 @@ pub(crate) trait EditBody {
     ///
     /// # Proved
     ///
+    /// After an error, `why`: Why a body is not changed: it does not decode.
+    ///
     /// ```text
-    /// ensures { OnOk result ((x : Body) → body_format standard body.now.bytes x
+    /// ensures ok { OnOk result
+    ///     ((x : Body) → body_format standard body.now.bytes x
     ///         → AddsBodies (edited self.now number x) section.old section.new) }
+    /// ensures why { IfErr result (λ e. ExplainsBody body.now.bytes e) }
     /// ```
     ///
-    /// Definitions: [`Body`](crate::definitions::code::bodies::Body), [`body_format`](crate::definitions::code::bodies::body), [`standard`](crate::definitions::base::numbers::Mode), [`AddsBodies`](crate::definitions::remap::begun::AddsBodies). [How to read clauses](crate::definitions).
+    /// Definitions: [`Body`](crate::definitions::code::bodies::Body), [`body_format`](crate::definitions::code::bodies::body), [`standard`](crate::definitions::base::numbers::Mode), [`AddsBodies`](crate::definitions::remap::begun::AddsBodies), [`ExplainsBody`](crate::definitions::remap::errors::ExplainsBody). [How to read clauses](crate::definitions).
     fn add_body<A: Allocator + Copy, E>(
         &self,
         body: &CodeBody<'_, A>,
@@ -171,14 +175,16 @@ pub(crate) fn edit_code<C: EditBody, A: Allocator + Copy>(
 ///
 /// # Proved
 ///
-/// After `Ok`: Each body begins with these instructions.
+/// - After `Ok`, `ok`: Each body begins with these instructions.
+/// - After an error, `why`: Why the code of a module is not changed: the bytes are no module, or the payload of the first code section does not decode.
 ///
 /// ```text
-/// ensures { IfOk result (λ edited. InsertsCode
-///         (P.code prologue.now) bytes.now edited.items) }
+/// ensures ok { IfOk result
+///     (λ edited. InsertsCode (P.code prologue.now) bytes.now edited.items) }
+/// ensures why { IfErr result (λ e. ExplainsCode bytes.now e) }
 /// ```
 ///
-/// Definitions: [`InsertsCode`](crate::definitions::remap::begun::InsertsCode). [How to read clauses](crate::definitions).
+/// Definitions: [`InsertsCode`](crate::definitions::remap::begun::InsertsCode), [`ExplainsCode`](crate::definitions::remap::errors::ExplainsCode). [How to read clauses](crate::definitions).
 pub fn insert_code<P: Prologue, A: Allocator + Copy>(
     bytes: &[u8],
     alloc: A,

@@ -56,7 +56,9 @@ fn imported_from<A: Allocator>(imports: &Imports<'_, A>, space: IndexSpace) -> u
 /// # Proved
 ///
 /// ```text
-/// ensures { IfSome result (λ n. n ≡ imported space (map imports_item entries.now)) }
+/// ensures sum { IfSome result (λ n. n ≡ imported space (map imports_item entries.now)) }
+/// ensures above { result ≡ None → imported space (map imports_item entries.now) < 2 ^ 32
+///     → ⊥ }
 /// ```
 ///
 /// Definitions: [`imported`](crate::definitions::remap::imported::imported), [`imports_item`](crate::definitions::sections::imports::imports_item). [How to read clauses](crate::definitions).
@@ -97,14 +99,16 @@ pub fn imported<A: Allocator>(entries: &[Imports<'_, A>], space: IndexSpace) -> 
 ///
 /// # Proved
 ///
-/// After `Ok`: The indices of the entity's space are one higher, and the first member of the imports is this one. Its payload as a section alone decodes to it, if its names are UTF-8 and its numbers are in range.
+/// - After `Ok`, `ok`: The indices of the entity's space are one higher, and the first member of the imports is this one. Its payload as a section alone decodes to it, if its names are UTF-8 and its numbers are in range.
+/// - After an error, `why`: Why an import is not inserted: the indices of the module are not moved, the import is not encodable, or its section is not inserted into the module whose indices are moved.
 ///
 /// ```text
-/// ensures { IfOk result (λ edited. InsertsImport import.now offsets bytes.now
-///         edited.items) }
+/// ensures ok { IfOk result
+///     (λ edited. InsertsImport import.now offsets bytes.now edited.items) }
+/// ensures why { IfErr result (λ e. ExplainsImport import.now offsets bytes.now e) }
 /// ```
 ///
-/// Definitions: [`InsertsImport`](crate::definitions::remap::imported::InsertsImport). [How to read clauses](crate::definitions).
+/// Definitions: [`InsertsImport`](crate::definitions::remap::imported::InsertsImport), [`ExplainsImport`](crate::definitions::remap::errors::ExplainsImport). [How to read clauses](crate::definitions).
 pub fn insert_import<A: Allocator + Copy>(
     bytes: &[u8],
     alloc: A,

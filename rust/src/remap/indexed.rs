@@ -3,7 +3,7 @@
 
 use crate::remap::spaces::IndexSpace;
 use crate::alloc::{AllocError, Allocator};
-use crate::base::Refused;
+use crate::base::{ReadFault, Refused};
 use crate::reader::ReadError;
 
 /// A map of the indices of a module: for each index space, the new index of each old one.
@@ -86,13 +86,17 @@ impl<E> From<Refused> for RemapError<E> {
 /// # Defined
 ///
 /// ```text
-/// from_gives = { λ fault error. error ≡ errors.Read fault }
+/// from_gives = { λ fault error. error ≡ error_of fault }
 /// ```
 ///
-/// [How to read clauses](crate::definitions).
+/// Definitions: [`error_of`](crate::definitions::remap::errors::error_of). [How to read clauses](crate::definitions).
 impl<E> From<ReadError> for RemapError<E> {
     fn from(fault: ReadError) -> RemapError<E> {
-        RemapError::Read(fault)
+        if fault.cause == ReadFault::Memory {
+            RemapError::Refused(Refused::Memory)
+        } else {
+            RemapError::Read(fault)
+        }
     }
 }
 

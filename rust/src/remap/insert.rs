@@ -135,9 +135,12 @@ pub(crate) fn module_of<S: NewSection, A: Allocator + Copy>(
 ///         → InsertsSection position (S.id_of section.now) payload bytes.now edited.items)
 ///     }
 /// ensures fits { OnOk result (S.encodable section.now) }
+/// ensures why { (payload : List ℕ) → S.payload section.now payload
+///     → IfErr result (λ e. ExplainsInsert position (S.id_of section.now)
+///         (S.encodable section.now) payload bytes.now e) }
 /// ```
 ///
-/// Definitions: [`InsertsSection`](crate::definitions::remap::inserted::InsertsSection). [How to read clauses](crate::definitions).
+/// Definitions: [`InsertsSection`](crate::definitions::remap::inserted::InsertsSection), [`ExplainsInsert`](crate::definitions::remap::errors::ExplainsInsert). [How to read clauses](crate::definitions).
 pub fn insert_section<S: NewSection, A: Allocator + Copy>(
     bytes: &[u8],
     alloc: A,

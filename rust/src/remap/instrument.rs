@@ -187,14 +187,17 @@ impl<I: Instrument> EditBody for InstrumentedBodies<'_, I> {
 ///
 /// # Proved
 ///
-/// After `Ok`: The bytes are a module, and the edited bytes are a module whose bodies have these instructions before and after their own. A module without code stays.
+/// - After `Ok`, `ok`: The bytes are a module, and the edited bytes are a module whose bodies have these instructions before and after their own. A module without code stays.
+/// - After an error, `why`: Why the code of a module is not changed: the bytes are no module, or the payload of the first code section does not decode.
 ///
 /// ```text
-/// ensures { IfOk result (λ edited. InstrumentsCode (I.before instrument.now)
+/// ensures ok { IfOk result
+///     (λ edited. InstrumentsCode (I.before instrument.now)
 ///         (I.after instrument.now) bytes.now edited.items) }
+/// ensures why { IfErr result (λ e. ExplainsCode bytes.now e) }
 /// ```
 ///
-/// Definitions: [`InstrumentsCode`](crate::definitions::remap::instrumented::InstrumentsCode). [How to read clauses](crate::definitions).
+/// Definitions: [`InstrumentsCode`](crate::definitions::remap::instrumented::InstrumentsCode), [`ExplainsCode`](crate::definitions::remap::errors::ExplainsCode). [How to read clauses](crate::definitions).
 pub fn instrument_code<I: Instrument, A: Allocator + Copy>(
     bytes: &[u8],
     alloc: A,

@@ -5,6 +5,7 @@ use crate::vec::Sink;
 use crate::remap::bodies::remap_bodies;
 use crate::remap::indexed::{Remap, RemapError, mapped, remap_each, remap_numbers};
 use crate::remap::spaces::IndexSpace;
+use crate::remap::streamed::Stopped;
 use crate::alloc::Allocator;
 use crate::base::{Refused, Standard};
 use crate::reader::{Items, Section, SectionKind, encode_items, encode_items_in};
@@ -102,7 +103,7 @@ fn is_minimal_when_built(kind: SectionKind) -> bool {
 
 /// Appends the minimal encoding of the items in the standard's grammar. On an error, the sink is
 /// unchanged.
-pub(crate) fn append_items<A: Allocator + Copy, B: Sink>(
+fn append_items<A: Allocator + Copy, B: Sink>(
     items: &Items<'_, A>,
     alloc: A,
     sink: &mut B,
@@ -115,10 +116,36 @@ pub(crate) fn append_items<A: Allocator + Copy, B: Sink>(
     Ok(())
 }
 
+/// Maps each index of the items, and appends their minimal encoding in the standard's grammar. On an
+/// error, the sink is unchanged.
+pub(crate) fn append_mapped<A: Allocator + Copy, M: Remap, B: Sink>(
+    items: &mut Items<'_, A>,
+    alloc: A,
+    indices: &M,
+    sink: &mut B,
+) -> Result<(), RemapError<M::Error>> {
+    remap_content(items, alloc, indices)?;
+    append_items(items, alloc, sink)?;
+    Ok(())
+}
+
+/// Decodes the items of a section, maps each index, and appends the minimal encoding of the items.
+/// On an error, the sink is unchanged.
+fn remap_decoded<A: Allocator + Copy, M: Remap, B: Sink>(
+    section: &Section<'_, A>,
+    alloc: A,
+    indices: &M,
+    sink: &mut B,
+) -> Result<(), RemapError<M::Error>> {
+    let mut items = section.items()?;
+    append_mapped(&mut items, alloc, indices, sink)
+}
+
 /// Decodes the items of a section, maps each index, and appends the minimal encoding of the items
 /// as a payload. On an error, the sink is unchanged.
 ///
-/// Bodies are decoded, mapped and appended instruction by instruction, and not kept.
+/// Bodies are decoded, mapped and appended instruction by instruction, and not kept. If that fails,
+/// they are decoded to a list, which gives the error.
 ///
 /// ```text
 /// let mut payload = Vec::new(alloc);
@@ -129,13 +156,13 @@ pub(crate) fn append_items<A: Allocator + Copy, B: Sink>(
 /// # Errors
 ///
 /// Returns `Read` if the section does not decode, `Index` with the error of the map if it rejects an
-/// index, and `Refused` if an encoding is too long or an allocation fails. In a code section that
-/// does not decode, a rejected index before the first wrong byte is reported instead.
+/// index, and `Refused` if the encoding is too long or an allocation fails.
 ///
 /// # Proved
 ///
 /// - After `Ok`, `ok`: The section decodes to items, and the buffer gains the minimal encoding of these items with each index mapped, if they have one. They have if the new indices are below 2^32, and the section has fewer than 2^26 bytes, so that no size prefix is too long.
 /// - After an error, `err`: the bytes of the sink are unchanged.
+/// - After an error, `why`: Why the indices of a section are not mapped.
 ///
 /// ```text
 /// ensures ok { OnOk result
@@ -145,9 +172,12 @@ pub(crate) fn append_items<A: Allocator + Copy, B: Sink>(
 ///     ((m : Mapping) → Follows (M.mapped indices.now) (M.rejects indices.now) m
 ///         → RemapsSection m section.now.section sink.old.items sink.new.items) }
 /// ensures err { OnErr result (sink.new.items ≡ sink.old.items) }
+/// ensures why { IfErr result
+///     (λ e. ExplainsSection (M.mapped indices.now)
+///         (M.rejects indices.now) section.now.section e) }
 /// ```
 ///
-/// Definitions: [`RemapsSection`](crate::definitions::remap::sections::RemapsSection), [`Mapping`](crate::definitions::remap::mapping::Mapping), [`Follows`](crate::definitions::remap::mapping::Follows). [How to read clauses](crate::definitions).
+/// Definitions: [`RemapsSection`](crate::definitions::remap::sections::RemapsSection), [`Mapping`](crate::definitions::remap::mapping::Mapping), [`Follows`](crate::definitions::remap::mapping::Follows), [`ExplainsSection`](crate::definitions::remap::errors::ExplainsSection). [How to read clauses](crate::definitions).
 pub fn remap_section<A: Allocator + Copy, M: Remap, B: Sink>(
     section: &Section<'_, A>,
     alloc: A,
@@ -155,10 +185,11 @@ pub fn remap_section<A: Allocator + Copy, M: Remap, B: Sink>(
     sink: &mut B,
 ) -> Result<(), RemapError<M::Error>> {
     if let Some(SectionKind::Bodies) = section.kind() {
-        return remap_bodies(section, alloc, indices, sink);
+        match remap_bodies(section, alloc, indices, sink) {
+            Ok(()) => return Ok(()),
+            Err(Stopped::Memory) => return Err(Refused::Memory.into()),
+            Err(Stopped::Other) => {}
+        }
     }
-    let mut items = section.items()?;
-    remap_content(&mut items, alloc, indices)?;
-    append_items(&items, alloc, sink)?;
-    Ok(())
+    remap_decoded(section, alloc, indices, sink)
 }

@@ -14,6 +14,9 @@ use crate::reader::{Offsets, Section, Sections};
 ///
 /// ```text
 /// changes: { Self → SectionModel → List ℕ → Type 0 }
+/// explains: { Self → SectionModel → ErrorModel Self.Error → Type 0 }
+/// no_offsets: { (it : Self) (s : SectionModel) (offset : ℕ)
+///     → explains it s (errors.Offsets offset) → ⊥ }
 /// ```
 ///
 /// Definitions: [`SectionModel`](crate::definitions::reader::outlines::Section). [How to read clauses](crate::definitions).
@@ -23,12 +26,15 @@ pub(crate) trait Change {
 
     // The bytes are the payload of the new section for this one.
 
+    // The change of the section fails with this error.
+
     /// Returns the payload of the new section.
     ///
     /// # Proved
     ///
     /// ```text
-    /// ensures { IfOk result (λ new. changes self.now section.now.section new.items) }
+    /// ensures ok { IfOk result (λ new. changes self.now section.now.section new.items) }
+    /// ensures why { IfErr result (λ e. explains self.now section.now.section e) }
     /// ```
     ///
     /// [How to read clauses](crate::definitions).
@@ -37,6 +43,8 @@ pub(crate) trait Change {
         section: &Section<'_, A>,
         alloc: A,
     ) -> Result<Vec<u8, A>, RemapError<Self::Error>>;
+
+    // It is no error of offsets.
 }
 
 /// Appends the changed section to a module.
@@ -90,9 +98,11 @@ struct Remapped<'m, M>(&'m M);
 /// changes = { λ by s payload. (m : Mapping)
 ///     → Follows (M.mapped by.0.now) (M.rejects by.0.now) m
 ///     → RemapsSection m s [] payload }
+/// explains = { λ by. ExplainsSection (M.mapped by.0.now) (M.rejects by.0.now) }
+/// no_offsets = { λ it s offset h. h }
 /// ```
 ///
-/// Definitions: [`Mapping`](crate::definitions::remap::mapping::Mapping), [`Follows`](crate::definitions::remap::mapping::Follows), [`RemapsSection`](crate::definitions::remap::sections::RemapsSection). [How to read clauses](crate::definitions).
+/// Definitions: [`Mapping`](crate::definitions::remap::mapping::Mapping), [`Follows`](crate::definitions::remap::mapping::Follows), [`RemapsSection`](crate::definitions::remap::sections::RemapsSection), [`ExplainsSection`](crate::definitions::remap::errors::ExplainsSection). [How to read clauses](crate::definitions).
 impl<M: Remap> Change for Remapped<'_, M> {
     type Error = M::Error;
 
@@ -125,7 +135,8 @@ impl<M: Remap> Change for Remapped<'_, M> {
 ///
 /// # Proved
 ///
-/// After `Ok`, `ok`: The bytes are a module, and the new bytes are a module of its sections with each index mapped. With `Refuse`, no section holds offsets.
+/// - After `Ok`, `ok`: The bytes are a module, and the new bytes are a module of its sections with each index mapped. With `Refuse`, no section holds offsets.
+/// - After an error, `why`: Why the indices of a module are not mapped.
 ///
 /// ```text
 /// ensures ok { IfOk result
@@ -133,9 +144,12 @@ impl<M: Remap> Change for Remapped<'_, M> {
 /// ensures every { IfOk result
 ///     (λ new. (m : Mapping) → Follows (M.mapped indices.now) (M.rejects indices.now) m
 ///         → RemapsModule m offsets bytes.now new.items) }
+/// ensures why { IfErr result
+///     (λ e. ExplainsRemap (M.mapped indices.now)
+///         (M.rejects indices.now) offsets bytes.now e) }
 /// ```
 ///
-/// Definitions: [`RemapsModule`](crate::definitions::remap::sections::RemapsModule), [`Mapping`](crate::definitions::remap::mapping::Mapping), [`Follows`](crate::definitions::remap::mapping::Follows). [How to read clauses](crate::definitions).
+/// Definitions: [`RemapsModule`](crate::definitions::remap::sections::RemapsModule), [`Mapping`](crate::definitions::remap::mapping::Mapping), [`Follows`](crate::definitions::remap::mapping::Follows), [`ExplainsRemap`](crate::definitions::remap::errors::ExplainsRemap). [How to read clauses](crate::definitions).
 pub fn remap_module<A: Allocator + Copy, M: Remap>(
     bytes: &[u8],
     alloc: A,

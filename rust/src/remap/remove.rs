@@ -5,7 +5,7 @@ use crate::vec::Vec;
 use crate::remap::customs::space_of_subsection;
 use crate::remap::imports::imported;
 use crate::remap::indexed::{Remap, RemapError};
-use crate::remap::items::{append_items, remap_items};
+use crate::remap::items::append_mapped;
 use crate::remap::modules::{Change, change_module};
 use crate::remap::places::{found, sections_of};
 use crate::remap::spaces::IndexSpace;
@@ -107,10 +107,10 @@ struct Removal<'r> {
 ///
 /// ```text
 /// mapped = { λ r. by_table r.indices.now }
-/// rejects = { λ r space n _. HasNone r.indices.now space n }
+/// rejects = { λ r space n e. IsUse r.indices.now space n e }
 /// ```
 ///
-/// Definitions: [`by_table`](crate::definitions::remap::removed::by_table), [`HasNone`](crate::definitions::remap::removed::HasNone). [How to read clauses](crate::definitions).
+/// Definitions: [`by_table`](crate::definitions::remap::removed::by_table), [`IsUse`](crate::definitions::remap::removed::IsUse). [How to read clauses](crate::definitions).
 impl Remap for Removal<'_> {
     type Error = RemoveError;
 
@@ -168,12 +168,15 @@ fn trim<A: Allocator + Copy>(items: &mut Items<'_, A>, removed: &[bool], defined
 ///
 /// ```text
 /// changes = { λ r s payload. (m : Mapping)
-///     → Follows (by_table r.indices.now)
-///     (λ space n (e : RemoveError). HasNone r.indices.now space n) m
+///     → Follows (by_table r.indices.now) (IsUse r.indices.now) m
 ///     → IsTrimmed r.removed.now r.defined.now m s payload }
+/// explains = { λ r. ExplainsContent
+///     (λ x. remapped (by_table r.indices.now) (trimmed r.removed.now r.defined.now x))
+///     (IsUse r.indices.now) }
+/// no_offsets = { λ it s offset h. h }
 /// ```
 ///
-/// Definitions: [`Mapping`](crate::definitions::remap::mapping::Mapping), [`Follows`](crate::definitions::remap::mapping::Follows), [`by_table`](crate::definitions::remap::removed::by_table), [`HasNone`](crate::definitions::remap::removed::HasNone), [`IsTrimmed`](crate::definitions::remap::removed::IsTrimmed). [How to read clauses](crate::definitions).
+/// Definitions: [`Mapping`](crate::definitions::remap::mapping::Mapping), [`Follows`](crate::definitions::remap::mapping::Follows), [`by_table`](crate::definitions::remap::removed::by_table), [`IsUse`](crate::definitions::remap::removed::IsUse), [`IsTrimmed`](crate::definitions::remap::removed::IsTrimmed), [`ExplainsContent`](crate::definitions::remap::errors::ExplainsContent), [`remapped`](crate::definitions::remap::sections::remapped), [`trimmed`](crate::definitions::remap::removed::trimmed). [How to read clauses](crate::definitions).
 impl Change for Removal<'_> {
     type Error = RemoveError;
 
@@ -184,9 +187,8 @@ impl Change for Removal<'_> {
     ) -> Result<Vec<u8, A>, RemapError<RemoveError>> {
         let mut items = section.items()?;
         trim(&mut items, self.removed, self.defined);
-        remap_items(&mut items, alloc, self)?;
         let mut payload = Vec::new(alloc);
-        append_items(&items, alloc, &mut payload)?;
+        append_mapped(&mut items, alloc, self, &mut payload)?;
         Ok(payload)
     }
 }
@@ -199,12 +201,13 @@ fn imported_functions<A: Allocator + Copy>(
         None => return Ok(0),
         Some((_, section, _)) => section,
     };
-    match section.items()? {
-        Items::Imports(entries) => match imported(&entries, IndexSpace::Functions) {
-            Some(count) => Ok(count),
-            None => Err(RemapError::Refused(Refused::TooLong)),
-        },
-        _ => Err(RemapError::Refused(Refused::TooLong)),
+    let Items::Imports(entries) = section.items()? else {
+        // Its items are imports.
+        return Err(RemapError::Refused(Refused::Memory));
+    };
+    match imported(&entries, IndexSpace::Functions) {
+        Some(count) => Ok(count),
+        None => Err(RemapError::Refused(Refused::TooLong)),
     }
 }
 
@@ -244,14 +247,16 @@ fn check_imported(removed: &[bool], imported: u32) -> Result<(), RemoveError> {
 ///
 /// # Proved
 ///
-/// After `Ok`: The new module has the sections of the old one without the removed functions, for each mapping that numbers those that stay: so no index that is mapped is that of a removed function. No removed function is imported.
+/// - After `Ok`, `ok`: The new module has the sections of the old one without the removed functions, for each mapping that numbers those that stay: so no index that is mapped is that of a removed function. No removed function is imported.
+/// - After an error, `why`: Why functions are not removed from a module.
 ///
 /// ```text
-/// ensures { IfOk result (λ new. RemovesFunctions removed.now offsets bytes.now new.items)
-///     }
+/// ensures ok { IfOk result
+///     (λ new. RemovesFunctions removed.now offsets bytes.now new.items) }
+/// ensures why { IfErr result (λ e. ExplainsRemoval removed.now offsets bytes.now e) }
 /// ```
 ///
-/// Definitions: [`RemovesFunctions`](crate::definitions::remap::removed::RemovesFunctions). [How to read clauses](crate::definitions).
+/// Definitions: [`RemovesFunctions`](crate::definitions::remap::removed::RemovesFunctions), [`ExplainsRemoval`](crate::definitions::remap::removed::ExplainsRemoval). [How to read clauses](crate::definitions).
 pub fn remove_functions<A: Allocator + Copy>(
     bytes: &[u8],
     alloc: A,

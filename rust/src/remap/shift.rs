@@ -16,15 +16,20 @@ pub struct Shift {
     pub by: u32,
 }
 
-/// An index would pass 4294967295.
+/// The new index of this one would pass 4294967295.
 #[derive(Clone, Copy, PartialEq, Eq, Debug)]
-pub struct IndexTooLarge;
+pub struct IndexTooLarge {
+    /// The index space.
+    pub space: IndexSpace,
+    /// The old index.
+    pub index: u32,
+}
 
 /// # Defined
 ///
 /// ```text
 /// mapped = { shifted }
-/// rejects = { λ s space n _. IsTooLarge s space n }
+/// rejects = { IsTooLarge }
 /// ```
 ///
 /// Definitions: [`shifted`](crate::definitions::remap::shifted::shifted), [`IsTooLarge`](crate::definitions::remap::shifted::IsTooLarge). [How to read clauses](crate::definitions).
@@ -37,7 +42,7 @@ impl Remap for Shift {
         }
         match index.checked_add(self.by) {
             Some(index) => Ok(index),
-            None => Err(IndexTooLarge),
+            None => Err(IndexTooLarge { space, index }),
         }
     }
 }

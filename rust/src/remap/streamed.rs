@@ -4,22 +4,30 @@
 use crate::vec::Sink;
 use crate::remap::indexed::{Remap, RemapError};
 use crate::alloc::Allocator;
-use crate::base::{DecodeError, Encode, Readable, Refused, Standard};
+use crate::base::{DecodeError, Encode, ReadFault, Readable, Refused, Standard};
 
 /// Why a pass stops.
-pub(crate) enum Stopped<E> {
-    /// The bytes do not decode.
-    Read(DecodeError),
-    /// The map rejects an index, an encoding is too long, or there is no memory.
-    Append(RemapError<E>),
+pub(crate) enum Stopped {
+    /// There is no memory.
+    Memory,
+    /// The bytes do not decode, the map rejects an index, or an encoding is too long. The same
+    /// items, decoded to a list, give the error.
+    Other,
 }
 
-impl<E> Stopped<E> {
-    /// Returns the error of a payload that is followed by these bytes.
-    pub(crate) fn before(self, rest: &[u8]) -> Stopped<E> {
-        match self {
-            Stopped::Read(error) => Stopped::Read(error.before(rest)),
-            Stopped::Append(error) => Stopped::Append(error),
+/// # Defined
+///
+/// ```text
+/// from_gives = { λ _ _. Unit }
+/// ```
+///
+/// [How to read clauses](crate::definitions).
+impl From<DecodeError> for Stopped {
+    fn from(error: DecodeError) -> Stopped {
+        if error.cause() == ReadFault::Memory {
+            Stopped::Memory
+        } else {
+            Stopped::Other
         }
     }
 }
@@ -27,39 +35,32 @@ impl<E> Stopped<E> {
 /// # Defined
 ///
 /// ```text
-/// from_gives = { λ error stopped. stopped ≡ stops.Read error }
+/// from_gives = { λ _ _. Unit }
 /// ```
 ///
 /// [How to read clauses](crate::definitions).
-impl<E> From<DecodeError> for Stopped<E> {
-    fn from(error: DecodeError) -> Stopped<E> {
-        Stopped::Read(error)
+impl From<Refused> for Stopped {
+    fn from(refused: Refused) -> Stopped {
+        match refused {
+            Refused::Memory => Stopped::Memory,
+            Refused::TooLong => Stopped::Other,
+        }
     }
 }
 
 /// # Defined
 ///
 /// ```text
-/// from_gives = { λ error stopped. stopped ≡ stops.Append error }
+/// from_gives = { λ _ _. Unit }
 /// ```
 ///
 /// [How to read clauses](crate::definitions).
-impl<E> From<RemapError<E>> for Stopped<E> {
-    fn from(error: RemapError<E>) -> Stopped<E> {
-        Stopped::Append(error)
-    }
-}
-
-/// # Defined
-///
-/// ```text
-/// from_gives = { λ refused stopped. stopped ≡ stops.Append (errors.Refused refused) }
-/// ```
-///
-/// [How to read clauses](crate::definitions).
-impl<E> From<Refused> for Stopped<E> {
-    fn from(refused: Refused) -> Stopped<E> {
-        Stopped::Append(RemapError::Refused(refused))
+impl<E> From<RemapError<E>> for Stopped {
+    fn from(error: RemapError<E>) -> Stopped {
+        match error {
+            RemapError::Refused(refused) => refused.into(),
+            _ => Stopped::Other,
+        }
     }
 }
 
@@ -101,7 +102,7 @@ pub(crate) trait Streamed<A: Allocator + Copy> {
         alloc: A,
         indices: &M,
         sink: &mut B,
-    ) -> Result<&'a [u8], Stopped<M::Error>>;
+    ) -> Result<&'a [u8], Stopped>;
 }
 
 /// Appends the minimal encoding of the vector at the front with each index of its members mapped.
@@ -111,7 +112,7 @@ pub(crate) fn append_many<'a, T: Streamed<A>, A: Allocator + Copy, M: Remap, B: 
     alloc: A,
     indices: &M,
     sink: &mut B,
-) -> Result<&'a [u8], Stopped<M::Error>> {
+) -> Result<&'a [u8], Stopped> {
     let (count, mut rest) = <u32 as Readable<'a, A, Standard>>::read(bytes, alloc)?;
     count.encode(sink)?;
     for _taken in 0..count {

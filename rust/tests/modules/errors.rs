@@ -100,7 +100,8 @@ fn errors_of_maps_are_passed_on() {
     };
     // A start section of the last function.
     let text = next(&[8, 5, 0xFF, 0xFF, 0xFF, 0xFF, 0x0F]);
-    assert_eq!(text, "an index would be more than 4294967295");
+    let expected = "index 4294967295 of Functions would become more than 4294967295";
+    assert_eq!(text, expected);
     let text = next(&[8, 2, 0x80]);
     assert_eq!(text, "unexpected end of input at offset 0xb");
     let text = next(b"\0\x08\x07linking");

@@ -3,6 +3,7 @@
 
 use dolzhytik::fallible::Vec;
 use dolzhytik::fallible::Allocator;
+use core::convert::Infallible;
 use dolzhytik::fallible::Op;
 use dolzhytik::reader::{Items, Offsets, Section};
 use dolzhytik::reader::remap::{IndexSpace, Remap, RemapError, remap_items, remap_module, remap_section, spaces_of};
@@ -51,6 +52,56 @@ pub fn with_room<A: Allocator + Copy>(
     alloc: A,
 ) -> Result<Vec<u8, A>, RemapError<Last>> {
     remap_module(module, alloc, &NextFunction, Offsets::LeaveOut)
+}
+
+/// Exchanges two functions.
+#[derive(Clone, Copy, Debug)]
+struct Exchange(u32, u32);
+
+/// # Defined
+///
+/// ```text
+/// mapped = { λ x space n. exchanged x.0 x.1 space n }
+/// rejects = { λ _ _ _ _. ⊥ }
+/// ```
+impl Remap for Exchange {
+    type Error = Infallible;
+
+    fn index(&self, space: IndexSpace, index: u32) -> Result<u32, Infallible> {
+        if space != IndexSpace::Functions {
+            Ok(index)
+        } else if index == self.0 {
+            Ok(self.1)
+        } else if index == self.1 {
+            Ok(self.0)
+        } else {
+            Ok(index)
+        }
+    }
+}
+
+/// Returns a module in which each use of one function is one of another, and the reverse, without
+/// the custom sections that hold offsets. If its sections decode, there is no error but `Memory`.
+///
+/// # Asks
+///
+/// ```text
+/// requires { IsMappable LeaveOut module.now }
+/// ```
+///
+/// # Proved
+///
+/// ```text
+/// ensures ok { IfOk result (λ new. RemapsModule (exchanged first second) LeaveOut module.now new.items) }
+/// ensures memory { IfErr result (λ e. e ≡ Refused Memory) }
+/// ```
+pub fn with_exchanged<A: Allocator + Copy>(
+    module: &[u8],
+    first: u32,
+    second: u32,
+    alloc: A,
+) -> Result<Vec<u8, A>, RemapError<Infallible>> {
+    remap_module(module, alloc, &Exchange(first, second), Offsets::LeaveOut)
 }
 
 /// Returns the payload of a section in which each function has the next index.

@@ -5,7 +5,7 @@ use crate::checks::{check_bytes, is_want_of_memory};
 use crate::read_back::inserted::{with_calls, with_counter, with_hit, with_start, with_traces};
 use crate::test_support::{MOST, Refusing};
 use dolzhytik::fallible::{RawSection, Refused};
-use dolzhytik::reader::remap::{IndexTooLarge, Position, RemapError, insert_section};
+use dolzhytik::reader::remap::{IndexSpace, IndexTooLarge, Position, RemapError, insert_section};
 
 /// A module whose only function calls itself, is exported and is the start function.
 const CALLS: &[u8] = &[
@@ -69,7 +69,11 @@ fn imports_before_others() {
     let module = with_hit(HIT, rt.alloc()).expect("an import");
     check_bytes(&rt, &module, TWICE);
     let error = with_hit(LAST, rt.alloc()).err();
-    assert_eq!(rt; error, Some(RemapError::Index(IndexTooLarge)));
+    let last = IndexTooLarge {
+        space: IndexSpace::Functions,
+        index: u32::MAX,
+    };
+    assert_eq!(rt; error, Some(RemapError::Index(last)));
 }
 
 /// A module without sections.

@@ -2,7 +2,7 @@
 // Tests of maps of indices, with each request for memory refused in turn.
 
 use crate::checks::{check_bytes, is_want_of_memory};
-use crate::read_back::remapped::{Last, NextFunction, loses_offsets, next_start, payload_with_room, spaces_of_table_copy, with_room};
+use crate::read_back::remapped::{Last, NextFunction, loses_offsets, next_start, payload_with_room, spaces_of_table_copy, with_exchanged, with_room};
 use crate::test_support::{MOST, Refusing};
 use dolzhytik::reader::{Items, Offsets, Sections};
 use dolzhytik::reader::remap::{IndexSpace, RemapError, remap_module};
@@ -34,6 +34,12 @@ const LAST: &[u8] = &[
     0, b'a', b's', b'm', 1, 0, 0, 0, 8, 5, 0xFF, 0xFF, 0xFF, 0xFF, 0x0F,
 ];
 
+/// A module whose body calls the last function, before a byte that is no opcode.
+const WRONG: &[u8] = &[
+    0, b'a', b's', b'm', 1, 0, 0, 0, // header
+    10, 10, 1, 8, 0, 0x10, 0xFF, 0xFF, 0xFF, 0xFF, 0x0F, 0xFF,
+];
+
 #[test]
 fn modules() {
     let rt = crate::host::HostRuntime;
@@ -41,6 +47,24 @@ fn modules() {
     for nth in 1..MOST {
         heap.refuse(nth);
         match with_room(CALLS, &heap) {
+            Ok(module) => {
+                check_bytes(&rt, &module, NEXT);
+                assert!(rt; heap.is_waiting(), "no request was refused");
+                return;
+            }
+            Err(error) => assert!(rt; is_want_of_memory(&error), "another error"),
+        }
+    }
+    panic!(rt; "no call was granted")
+}
+
+#[test]
+fn exchanged() {
+    let rt = crate::host::HostRuntime;
+    let heap = Refusing::new(rt.alloc());
+    for nth in 1..MOST {
+        heap.refuse(nth);
+        match with_exchanged(CALLS, 0, 1, &heap) {
             Ok(module) => {
                 check_bytes(&rt, &module, NEXT);
                 assert!(rt; heap.is_waiting(), "no request was refused");
@@ -87,5 +111,7 @@ fn errors() {
     let offsets = remap_module(CALLS, rt.alloc(), &NextFunction, Offsets::Refuse).err();
     assert_eq!(rt; offsets, Some(RemapError::Offsets(36)));
     let cut = with_room(&CALLS[..9], rt.alloc()).err();
-    assert!(rt; matches!(cut, Some(RemapError::Read(_))), "not a module")
+    assert!(rt; matches!(cut, Some(RemapError::Read(_))), "not a module");
+    let wrong = with_room(WRONG, rt.alloc()).err();
+    assert!(rt; matches!(wrong, Some(RemapError::Read(_))), "not a body")
 }

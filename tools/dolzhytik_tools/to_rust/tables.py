@@ -159,6 +159,7 @@ KEPT_STD = {
 }
 CORE_STD = {
     'std::cell::Cell',
+    'std::convert::Infallible',
     'std::default::Default',
     'std::fmt',
     'std::iter::FusedIterator',

@@ -4,4 +4,4 @@ use Rattle.read_back.proofs.InsertedLaws.{hit_called, ok_gives}
 use Rattle.read_back.proofs.inserted.with_hit.Goals as goal
 
 pub returns : goal.returns
-returns g c = ok_gives {R = λ new. CallsHit c.args.module.now new.items} c.insert_import.result (λ new inserts. hit_called refl refl inserts) c.insert_import.ensures
+returns g c = ok_gives {R = λ new. CallsHit c.args.module.now new.items} c.insert_import.result (λ new inserts. hit_called refl refl inserts) c.insert_import.ensures.ok

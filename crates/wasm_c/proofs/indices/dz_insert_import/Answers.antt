@@ -14,7 +14,7 @@ pub returns-in-Ok : goal.returns-in-Ok
 returns-in-Ok c =
     let from = c.in-Ok-Ok.ensures.cases in
     let name = c.in-Ok-Ok.ensures'.cases in
-    let h = c.in-Ok.ensures in
+    let h = c.in-Ok.ensures.ok in
     let edited = c.in-Ok.module.items in
     let item = imported c.args.module_name.now c.args.name.now c.args.type_index in
     let same = ap₂ (λ a b. imported a b c.args.type_index) from.0 name.0 in

@@ -5,8 +5,8 @@ use Rattle.wasm_remap.specs.Places.{IsFound, sections_in}
 use Rattle.wasm_remap.proofs.BegunLaws.{edited_payload}
 use Rattle.wasm_remap.proofs.code.edit_code.Goals as goal
 
-pub returns : goal.returns
-returns g c =
+pub returns-clause-ok : goal.returns-clause-ok
+returns-clause-ok g c =
     let xs = c.in_ok-sections.sections.items in
     let before = c.in-Some.before.now in
     let after = c.in-Some.after.now in
@@ -15,14 +15,14 @@ returns g c =
     let payload = unsigned_encoding (length entries) ++ joined entries in
     record {
       olds = sections_in xs;
-      has = c.in_ok-sections.ensures;
+      has = c.in_ok-sections.ensures.ok;
       are = inl (record {
         before = sections_in before;
         section = s;
         after = sections_in after;
         found = subst (λ z. IsFound 10 (sections_in before) s (sections_in after) (sections_in z)) c.deref.ensures.value c.in-Some.ensures;
         payload = payload;
-        bodies = λ bodies read. edited_payload entries (each_from (g.C.EditBody.edited c.args.change.now) 0 bodies) c.in_ok-module_of.ensures.fits (c.in_ok-code.ensures bodies read);
+        bodies = λ bodies read. edited_payload entries (each_from (g.C.EditBody.edited c.args.change.now) 0 bodies) c.in_ok-module_of.ensures.fits (c.in_ok-code.ensures.ok bodies read);
         decodes = c.in_ok-module_of.ensures.read payload refl;
       });
     }

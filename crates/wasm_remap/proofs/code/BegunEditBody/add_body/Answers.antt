@@ -4,8 +4,8 @@ use Rattle.wasm_remap.specs.Begun.{begun_body}
 use Rattle.wasm_remap.proofs.BegunLaws.{begun_encodes}
 use Rattle.wasm_remap.proofs.code.BegunEditBody.add_body.Goals as goal
 
-pub returns : goal.returns
-returns g c = λ x h.
+pub returns-clause-ok : goal.returns-clause-ok
+returns-clause-ok g c = λ x h.
     let read = c.in_ok-_runs.ensures in
     let bytes = c.args.body.now.bytes in
     let offset = c.in_ok-_runs.instructions.offset in
