@@ -1,65 +1,24 @@
 // A module whose functions count their calls.
-ghost use Rattle.std.specs.Prelude.{◌≡◌, ◌≢◌, ◌++◌, List, [], ◌∷◌, length, map, replicate, true, false, None, Some, IfOk, IfErr, OnOk};
-ghost use Rattle.std.specs.List.{AllByRecursion, Any};
-ghost use Rattle.wasm_base.specs.Continuing.{RejectsWhole};
-ghost use Rattle.wasm_base.specs.Decoding.{Rejects};
-ghost use Rattle.wasm_base.specs.Formats.{size_prefixed, u32, vec, wasm_module};
-ghost use Rattle.wasm_base.specs.Numbers.{padded, standard};
-ghost use Rattle.wasm_code.specs.Bodies.{Body, body};
-ghost use Rattle.wasm_reader.specs.Kinds.{Contents, content, number_in};
-ghost use Rattle.wasm_reader.specs.Outlines.{IsSection, section_kind_of};
-ghost use Rattle.wasm_reader.specs.Shortening.{contains_offsets, names_code_offsets};
-ghost use Rattle.wasm_sections.specs.Exports.{ExportItem, export, item_of};
-ghost use Rattle.wasm_sections.specs.Globals.{GlobalItem, global_item};
-ghost use Rattle.examples.specs.Coverage.{
-  counter,
-  counter_exports,
-  covered_bodies,
-  has_counter,
-  row,
-  AreSectionsOf,
-  GainsItems,
-  GainsSections,
-  HasDecoding,
-  HasNone,
-  HasNumbers,
-  IsCoverable,
-  IsCovered,
-  IsDecodable,
-  IsKept,
-  IsMalformed,
-  IsObstacle,
-  IsReason,
-  IsSplit,
-  IsTaken,
-  IsUnfit,
-  KeepsSections,
-};
-ghost use Rattle.examples.specs.declared.coverage.CoverageError.TheVariants.{Missing, Read};
+ghost use Rattle.std.specs.Prelude.{◌≡◌, IfOk, IfErr};
+ghost use Rattle.examples.specs.Coverage.{Explains, IsCoverable, IsCovered, IsErrorOf, IsMemory, IsUnfit};
+ghost use Rattle.examples.specs.declared.coverage.CoverageError.TheVariants.{Read};
 
-mod bodies;
 mod counters;
-mod imports;
+mod numbers;
 
-use crate::stripped::copy;
-use bodies::covered_code;
-use counters::{counters, exports as exports_of, extended};
-use imports::imported;
+use crate::stripped::refused_at;
+use counters::{Counting, counters, exports};
+use numbers::numbers_of;
 use std::alloc::Allocator;
-use wasm_base::{Module, RawSection, ReadFault};
-use wasm_reader::{Items, ReadError, Section, Sections};
-use wasm_remap::IndexSpace;
-use wasm_sections::Export;
+use wasm_base::Refused;
+use wasm_reader::ReadError;
+use wasm_remap::{IndexTooLarge, Position, RemapError, insert_code, insert_section};
 
 /// The error of [`covered`].
 #[derive(Clone, Copy, PartialEq, Eq, Debug)]
 pub enum CoverageError {
     /// The bytes are no module, a section does not decode, or an allocation failed.
     Read(ReadError),
-    /// No section of this id follows those that should be before it.
-    Missing { id: u8 },
-    /// The section at this offset repeats one of globals, exports or code, or is out of order.
-    Misplaced { offset: usize },
     /// The custom section at this offset holds offsets into the code, which would become wrong.
     Offsets { offset: usize },
     /// The exports at this offset have a name that begins with `coverage.` already.
@@ -76,23 +35,32 @@ impl From<ReadError> for CoverageError {
     }
 }
 
+/// A number is too large only in a module of [`MAX_LENGTH`] bytes or more, so an allocation failed.
+impl From<Refused> for CoverageError {
+    ghost from_gives = { λ _ covered. IsMemory covered };
+
+    fn from(_: Refused) -> CoverageError {
+        CoverageError::Read(refused_at(0))
+    }
+}
+
+/// The same for an edit, which fails to decode a section or is refused.
+impl From<RemapError<IndexTooLarge>> for CoverageError {
+    ghost from_gives = { IsErrorOf };
+
+    fn from(error: RemapError<IndexTooLarge>) -> CoverageError {
+        match error {
+            RemapError::Read(error) => CoverageError::Read(error),
+            _ => CoverageError::Read(refused_at(0)),
+        }
+    }
+}
+
 /// The length of a module, in bytes, from which [`covered`] does not cover it: 256 MiB.
 ///
 /// A function takes two bytes or more, and adds 26 at most to a section. So no count, length or
 /// index of a shorter module passes 4294967295 when it is covered.
 pub const MAX_LENGTH: usize = 1 << 28;
-
-/// Returns the error of a call that builds, which failed at the section of this offset. That a
-/// number is too large is no cause of it, below [`MAX_LENGTH`].
-fn memory_at(offset: usize) -> CoverageError
-    ensures none { IsMalformed result → ⊥ }
-    ensures unfit { IsUnfit result → ⊥ }
-{
-    CoverageError::Read(ReadError {
-        cause: ReadFault::Memory,
-        offset,
-    })
-}
 
 /// Returns the module with a counter for each function that it defines, a global that is exported
 /// as `coverage.N` for the function of index N. Each function first adds 1 to its counter. Other
@@ -100,313 +68,22 @@ fn memory_at(offset: usize) -> CoverageError
 ///
 /// # Errors
 ///
-/// Returns `Read` if the sections of imports, globals, exports and code do not decode, or if an
-/// allocation fails. Returns `TooLong` if the module has [`MAX_LENGTH`] bytes or more.
-///
-/// It returns another error only if the module cannot be covered: it must have sections of globals,
-/// exports and code, in this order and once each. It must have no custom section that holds offsets
-/// into the code, and no export whose name begins with `coverage.`.
+/// Returns `Read` if the bytes are no module, if the sections of imports, globals, exports and code
+/// do not decode, or if an allocation fails. Returns `TooLong` if the module has [`MAX_LENGTH`]
+/// bytes or more, `Offsets` if a custom section holds offsets into the code, and `Taken` if the
+/// name of an export begins with `coverage.`.
 pub fn covered<A: Allocator + Copy>(bytes: &[u8], alloc: A) -> Result<Vec<u8, A>, CoverageError>
     ensures found { IfOk result (λ new. IsCovered bytes.now new.items) }
-    ensures none { IfErr result (λ e. IsMalformed e → IsDecodable bytes.now → ⊥) }
+    ensures why { IfErr result (λ e. Explains bytes.now e) }
     ensures unfit { IfErr result (λ e. IsUnfit e → IsCoverable bytes.now → ⊥) }
-    ensures reason { IfErr result (λ e. IsReason bytes.now e) }
 {
-    if bytes.len() >= MAX_LENGTH {
-        return Err(CoverageError::TooLong);
-    }
-    let sections = sections_of(bytes, alloc)?;
-    let (before, globals, rest) = split(&sections, 6)?;
-    let (between, exports, rest) = split(rest, 7)?;
-    let (middle, code, after) = split(rest, 10)?;
-    let numbers = numbers_of(&sections, globals, code)?;
-    let mut new = match Module::new(alloc) {
-        Ok(module) => module,
-        Err(_) => return Err(memory_at(0)),
+    let numbers = numbers_of(bytes, alloc)?;
+    let globals = counters(numbers.bodies, alloc)?;
+    let with_globals = insert_section(bytes, alloc, &globals, Position::Last)?;
+    let exports = exports(numbers, alloc)?;
+    let with_exports = insert_section(&with_globals, alloc, &exports, Position::Last)?;
+    let counting = Counting {
+        first: numbers.counter,
     };
-    copy_all(before, &mut new)?;
-    add_globals(globals, numbers, alloc, &mut new)?;
-    copy_all(between, &mut new)?;
-    add_exports(exports, numbers, alloc, &mut new)?;
-    copy_all(middle, &mut new)?;
-    add_code(code, numbers, alloc, &mut new)?;
-    copy_all(after, &mut new)?;
-    Ok(new.finish())
-}
-
-/// Returns the sections of a module.
-fn sections_of<A: Allocator + Copy>(
-    bytes: &[u8],
-    alloc: A,
-) -> Result<Vec<Section<'_, A>, A>, CoverageError>
-    ensures found { IfOk result (λ found. AreSectionsOf bytes.now found.items) }
-    ensures none { IfErr result (λ e. IsMalformed e → RejectsWhole wasm_module padded bytes.now) }
-    ensures unfit { IfErr result (λ e. IsUnfit e → ⊥) }
-{
-    let mut sections = Sections::new(alloc, bytes)?;
-    let mut found = Vec::new(alloc);
-    loop {
-        let section = match sections.next() {
-            None => return Ok(found),
-            Some(section) => section?,
-        };
-        let offset = section.offset();
-        match found.push(section) {
-            Ok(()) => {}
-            Err(_) => return Err(memory_at(offset)),
-        }
-    }
-}
-
-/// Returns the sections before one of this id, that section, and those after it.
-fn split<'s, 'a, A: Allocator + Copy>(
-    sections: &'s [Section<'a, A>],
-    id: u8,
-) -> Result<
-    (
-        &'s [Section<'a, A>],
-        &'s Section<'a, A>,
-        &'s [Section<'a, A>],
-    ),
-    CoverageError,
->
-    ensures found { IfOk result (λ x. IsSplit id sections.now x.0.now x.1.now x.2.now) }
-    ensures none { IfErr result (λ e. IsMalformed e → ⊥) }
-    ensures unfit { IfErr result (λ e. IsUnfit e → HasNone id sections.now) }
-    ensures reason { IfErr result (λ e. (e ≡ Missing id) × HasNone id sections.now) }
-{
-    let mut at = 0;
-    while at < sections.len() {
-        let section = &sections[at];
-        if section.id() == id {
-            return Ok((&sections[..at], section, &sections[at + 1..]));
-        }
-        at += 1;
-    }
-    Err(CoverageError::Missing { id })
-}
-
-/// The numbers of a module that its counters depend on.
-#[derive(Clone, Copy)]
-struct Numbers {
-    /// The index of the first function that the module defines.
-    function: u32,
-    /// The index of the first counter.
-    counter: u32,
-    /// The number of functions that the module defines.
-    bodies: u32,
-}
-
-/// Returns the number of items of a section.
-fn number_of<A: Allocator + Copy>(section: &Section<'_, A>) -> Result<u32, CoverageError>
-    ensures found { IfOk result (λ n. (x : Contents) × content (section_kind_of section.now.section) standard section.now.section.payload x × (number_in x ≡ Some n)) }
-    ensures none { IfErr result (λ e. IsMalformed e → RejectsWhole (content (section_kind_of section.now.section)) standard section.now.section.payload) }
-    ensures unfit { IfErr result (λ e. IsUnfit e → (x : Contents) × content (section_kind_of section.now.section) standard section.now.section.payload x × (number_in x ≡ None)) }
-{
-    match section.count()? {
-        Some(number) => Ok(number),
-        None => Err(CoverageError::Misplaced {
-            offset: section.offset(),
-        }),
-    }
-}
-
-/// Returns the numbers of a module, from all its sections and those of globals and code.
-fn numbers_of<A: Allocator + Copy>(
-    sections: &[Section<'_, A>],
-    globals: &Section<'_, A>,
-    code: &Section<'_, A>,
-) -> Result<Numbers, CoverageError>
-    ensures found { AllByRecursion (λ s. IsSection s.section) sections.now → IsSection globals.now.section → globals.now.section.id ≡ 6 → IsSection code.now.section → code.now.section.id ≡ 10 → IfOk result (λ n. HasNumbers (map row sections.now) globals.now.section.payload code.now.section.payload n) }
-    ensures none { AllByRecursion (λ s. IsSection s.section) sections.now → IsSection globals.now.section → IsSection code.now.section → IfErr result (λ e. IsMalformed e → AllByRecursion HasDecoding (map row sections.now) → globals.now.section.id ≡ 6 → HasDecoding (row globals.now) → code.now.section.id ≡ 10 → HasDecoding (row code.now) → ⊥) }
-    ensures unfit { AllByRecursion (λ s. IsSection s.section) sections.now → IsSection globals.now.section → globals.now.section.id ≡ 6 → IsSection code.now.section → code.now.section.id ≡ 10 → IfErr result (λ e. IsUnfit e → ⊥) }
-{
-    let function = imported(sections, IndexSpace::Functions)?;
-    let imported_globals = imported(sections, IndexSpace::Globals)?;
-    let offset = globals.offset();
-    let Some(counter) = imported_globals.checked_add(number_of(globals)?) else {
-        return Err(memory_at(offset));
-    };
-    let bodies = number_of(code)?;
-    Ok(Numbers {
-        function,
-        counter,
-        bodies,
-    })
-}
-
-/// Appends the sections as they are.
-fn copy_all<A: Allocator + Copy>(
-    sections: &[Section<'_, A>],
-    new: &mut Module<A>,
-) -> Result<(), CoverageError>
-    ensures found { AllByRecursion (λ s. IsSection s.section) sections.now → OnOk result (KeepsSections (map row sections.now) new.old new.new) }
-    ensures none { IfErr result (λ e. IsMalformed e → ⊥) }
-    ensures unfit { AllByRecursion (λ s. IsSection s.section) sections.now → IfErr result (λ e. IsUnfit e → AllByRecursion IsKept (map row sections.now) → ⊥) }
-    ensures reason { IfErr result (λ e. Any (λ s. IsObstacle s e) sections.now) }
-{
-    for section in sections {
-        keep(section, new)?;
-    }
-    Ok(())
-}
-
-/// Appends a section as it is, which must be none of globals, exports and code, and hold no
-/// offsets.
-fn keep<A: Allocator + Copy>(
-    section: &Section<'_, A>,
-    new: &mut Module<A>,
-) -> Result<(), CoverageError>
-    ensures found { IsSection section.now.section → OnOk result (IsKept (row section.now) × GainsSections (row section.now ∷ []) new.old new.new) }
-    ensures none { IfErr result (λ e. IsMalformed e → ⊥) }
-    ensures unfit { IsSection section.now.section → IfErr result (λ e. IsUnfit e → IsKept (row section.now) → ⊥) }
-    ensures reason { IfErr result (λ e. IsObstacle section.now e) }
-{
-    let offset = section.offset();
-    let id = section.id();
-    if id == 6 || id == 7 || id == 10 {
-        return Err(CoverageError::Misplaced { offset });
-    }
-    if holds_offsets(section) {
-        return Err(CoverageError::Offsets { offset });
-    }
-    copy(section, new)?;
-    Ok(())
-}
-
-/// Returns `true` if the section is a custom section whose name says that it holds offsets.
-fn holds_offsets<A: Allocator + Copy>(section: &Section<'_, A>) -> bool
-    ensures { result ≡ contains_offsets section.now.section.name }
-{
-    match section.name() {
-        Some(name) => is_of_offsets(name),
-        None => false,
-    }
-}
-
-/// Returns `true` if a custom section of this name holds offsets into the code.
-fn is_of_offsets(name: &str) -> bool
-    ensures { result ≡ contains_offsets (Some name.now) }
-{
-    name.as_bytes().starts_with(b"reloc.") || name == "sourceMappingURL" || is_of_code(name)
-}
-
-/// Returns `true` if a custom section of this name holds offsets into code and data.
-fn is_of_code(name: &str) -> bool
-    ensures { result ≡ names_code_offsets name.now }
-{
-    let bytes = name.as_bytes();
-    name == "linking"
-        || name == "external_debug_info"
-        || name == "build_id"
-        || bytes.starts_with(b".debug_")
-        || name == ".gdb_index"
-        || bytes.starts_with(b".apple_")
-        || bytes.starts_with(b"metadata.code.")
-}
-
-/// Appends a section of this payload, which replaces that at the offset.
-fn add_payload<A: Allocator>(
-    id: u8,
-    payload: &[u8],
-    offset: usize,
-    new: &mut Module<A>,
-) -> Result<(), CoverageError>
-    ensures found { OnOk result (GainsSections ((id, payload.now) ∷ []) new.old new.new) }
-    ensures none { IfErr result (λ e. IsMalformed e → ⊥) }
-    ensures unfit { IfErr result (λ e. IsUnfit e → ⊥) }
-{
-    match new.section(&RawSection { id, bytes: payload }) {
-        Ok(()) => Ok(()),
-        Err(_) => Err(memory_at(offset)),
-    }
-}
-
-/// Appends the globals, and a counter for each body.
-fn add_globals<A: Allocator + Copy>(
-    section: &Section<'_, A>,
-    numbers: Numbers,
-    alloc: A,
-    new: &mut Module<A>,
-) -> Result<(), CoverageError>
-    ensures found { (globals : List GlobalItem) → vec global_item standard section.now.section.payload globals → OnOk result (GainsItems 6 (vec global_item) (globals ++ replicate numbers.bodies counter) new.old new.new) }
-    ensures none { IfErr result (λ e. IsMalformed e → Rejects u32 standard section.now.section.payload) }
-    ensures unfit { IfErr result (λ e. IsUnfit e → ⊥) }
-{
-    let offset = section.offset();
-    let added = match counters(numbers.bodies, alloc) {
-        Ok(added) => added,
-        Err(_) => return Err(memory_at(offset)),
-    };
-    let payload = extended(section, numbers.bodies, &added, alloc)?;
-    add_payload(6, &payload, offset, new)
-}
-
-/// Returns `true` if an export has a name that begins as the names of counters.
-fn has_counter(exports: &[Export<'_>]) -> bool
-    ensures { result ≡ has_counter (map item_of exports.now) }
-{
-    for export in exports {
-        if export.name.as_bytes().starts_with(b"coverage.") {
-            return true;
-        }
-    }
-    false
-}
-
-/// Decodes the exports, whose names must not begin as those of counters.
-fn check_exports<A: Allocator + Copy>(section: &Section<'_, A>) -> Result<(), CoverageError>
-    ensures found { IsSection section.now.section → section.now.section.id ≡ 7 → OnOk result ((exports : List ExportItem) × vec export standard section.now.section.payload exports × (has_counter exports ≡ false)) }
-    ensures none { IfErr result (λ e. IsMalformed e → RejectsWhole (content (section_kind_of section.now.section)) standard section.now.section.payload) }
-    ensures unfit { IsSection section.now.section → section.now.section.id ≡ 7 → IfErr result (λ e. IsUnfit e → (exports : List ExportItem) → vec export standard section.now.section.payload exports → has_counter exports ≡ true) }
-    ensures reason { IsSection section.now.section → section.now.section.id ≡ 7 → IfErr result (λ e. IsTaken section.now e) }
-{
-    let offset = section.offset();
-    let Items::Exports(exports) = section.items()? else {
-        return Err(CoverageError::Misplaced { offset });
-    };
-    if has_counter(&exports) {
-        return Err(CoverageError::Taken { offset });
-    }
-    Ok(())
-}
-
-/// Appends the exports, and that of the counter of each body.
-fn add_exports<A: Allocator + Copy>(
-    section: &Section<'_, A>,
-    numbers: Numbers,
-    alloc: A,
-    new: &mut Module<A>,
-) -> Result<(), CoverageError>
-    ensures found { IsSection section.now.section → section.now.section.id ≡ 7 → OnOk result ((exports : List ExportItem) × vec export standard section.now.section.payload exports × (has_counter exports ≡ false) × GainsItems 7 (vec export) (exports ++ counter_exports numbers.function numbers.counter numbers.bodies) new.old new.new) }
-    ensures none { IsSection section.now.section → section.now.section.id ≡ 7 → IfErr result (λ e. IsMalformed e → HasDecoding (row section.now) → ⊥) }
-    ensures unfit { IsSection section.now.section → section.now.section.id ≡ 7 → IfErr result (λ e. IsUnfit e → (exports : List ExportItem) → vec export standard section.now.section.payload exports → has_counter exports ≡ true) }
-    ensures reason { IsSection section.now.section → section.now.section.id ≡ 7 → IfErr result (λ e. IsTaken section.now e) }
-{
-    let offset = section.offset();
-    check_exports(section)?;
-    let added = match exports_of(numbers.function, numbers.counter, numbers.bodies, alloc) {
-        Ok(added) => added,
-        Err(_) => return Err(memory_at(offset)),
-    };
-    let payload = extended(section, numbers.bodies, &added, alloc)?;
-    add_payload(7, &payload, offset, new)
-}
-
-/// Appends the code section of the covered bodies.
-fn add_code<A: Allocator + Copy>(
-    section: &Section<'_, A>,
-    numbers: Numbers,
-    alloc: A,
-    new: &mut Module<A>,
-) -> Result<(), CoverageError>
-    ensures found { (bodies : List Body) → vec (size_prefixed body) standard section.now.section.payload bodies → OnOk result (GainsItems 10 (vec (size_prefixed body)) (covered_bodies numbers.counter bodies) new.old new.new) }
-    ensures none { section.now.section.id ≡ 10 → IfErr result (λ e. IsMalformed e → HasDecoding (row section.now) → ⊥) }
-    ensures unfit { IfErr result (λ e. IsUnfit e → ⊥) }
-{
-    let code = covered_code(section, numbers.counter, alloc)?;
-    match new.section(&code) {
-        Ok(()) => Ok(()),
-        Err(_) => Err(memory_at(section.offset())),
-    }
+    Ok(insert_code(&with_exports, alloc, &counting)?)
 }

@@ -42,8 +42,8 @@ pub fn without_custom<A: Allocator + Copy>(bytes: &[u8], alloc: A) -> Result<Vec
     }
 }
 
-/// The error of a failed allocation at the section of this offset.
-fn refused_at(offset: usize) -> ReadError
+/// Returns the error of a failed allocation at the section of this offset.
+pub(crate) fn refused_at(offset: usize) -> ReadError
     ensures { result.cause ≡ Memory }
 {
     ReadError {
@@ -53,7 +53,7 @@ fn refused_at(offset: usize) -> ReadError
 }
 
 /// Appends a section to the module, with the same payload.
-pub(crate) fn copy<A: Allocator + Copy>(
+fn copy<A: Allocator + Copy>(
     section: &Section<'_, A>,
     module: &mut Module<A>,
 ) -> Result<(), ReadError>

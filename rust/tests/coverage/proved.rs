@@ -81,20 +81,27 @@ fn error_of(sections: &[&[u8]]) -> CoverageError {
     covered(&module, Global).expect_err("an error")
 }
 
-#[test]
-fn a_section_is_missing() {
-    let missing = |id| CoverageError::Missing { id };
-    assert_eq!(error_of(&[BEFORE, EXPORTS, CODE]), missing(6));
-    assert_eq!(error_of(&[BEFORE, GLOBALS, CODE]), missing(7));
-    assert_eq!(error_of(&[BEFORE, GLOBALS, EXPORTS]), missing(10));
-    assert_eq!(error_of(&[EXPORTS, GLOBALS, CODE]), missing(7));
+/// Checks that the module of these sections becomes that of the example by hand.
+#[track_caller]
+fn check_example(sections: &[&[u8]]) {
+    let module = [HEADER, &sections.concat()].concat();
+    let by_hand = example::covered(&module, false).expect("a module");
+    let new = covered(&module, Global).expect("a module");
+    assert_eq!(&new[..], by_hand);
 }
 
 #[test]
-fn a_section_is_repeated() {
-    let offset = HEADER.len() + GLOBALS.len();
-    let error = error_of(&[GLOBALS, GLOBALS, EXPORTS, CODE]);
-    assert_eq!(error, CoverageError::Misplaced { offset });
+fn missing_sections_are_inserted() {
+    check_example(&[BEFORE, EXPORTS, CODE]);
+    check_example(&[BEFORE, GLOBALS, CODE]);
+    check_example(&[BEFORE, CODE, AFTER]);
+    check_example(&[AFTER, BEFORE]);
+    check_example(&[]);
+}
+
+#[test]
+fn import_sections_are_counted_together() {
+    check_example(&[BEFORE, BEFORE, GLOBALS, EXPORTS, CODE]);
 }
 
 #[test]

@@ -42,14 +42,14 @@ pub fn without_custom<A: Allocator + Copy>(bytes: &[u8], alloc: A) -> Result<Vec
     }
 }
 
-/// The error of a failed allocation at the section of this offset.
+/// Returns the error of a failed allocation at the section of this offset.
 ///
 /// # Proved
 ///
 /// ```text
 /// ensures { result.cause ≡ Memory }
 /// ```
-fn refused_at(offset: usize) -> ReadError {
+pub(crate) fn refused_at(offset: usize) -> ReadError {
     ReadError {
         cause: ReadFault::Memory,
         offset,
@@ -64,7 +64,7 @@ fn refused_at(offset: usize) -> ReadError {
 /// ensures ok { OnOk result (DecodesOneMore (λ payload. payload ≡ section.now.section.payload) section.now.section.id module.old module.new) }
 /// ensures memory { IfErr result (λ e. e.cause ≡ Memory) }
 /// ```
-pub(crate) fn copy<A: Allocator + Copy>(
+fn copy<A: Allocator + Copy>(
     section: &Section<'_, A>,
     module: &mut Module<A>,
 ) -> Result<(), ReadError> {

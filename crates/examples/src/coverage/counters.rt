@@ -1,131 +1,82 @@
-// Counters and their exports.
-ghost use Rattle.std.specs.Prelude.{◌≡◌, ◌++◌, replicate, decimal, IfOk, IfErr, OnOk};
-ghost use Rattle.wasm_base.specs.Decoding.{Rejects};
-ghost use Rattle.wasm_base.specs.Formats.{members, u32};
-ghost use Rattle.wasm_base.specs.Numbers.{standard, unsigned_encoding};
-ghost use Rattle.wasm_sections.specs.Exports.{export};
-ghost use Rattle.wasm_sections.specs.Globals.{global_item};
-ghost use Rattle.examples.specs.Coverage.{counter, counter_export, counter_exports, GainsEncoding, IsExtended, IsMalformed, IsUnfit};
+// Counters, their exports, and the instructions that count.
+ghost use Rattle.std.specs.Prelude.{◌≡◌, ◌+◌, ◌++◌, IfOk, codes, decimal, replicate, string_bytes};
+ghost use Rattle.std.proofs.Common.{refl};
+ghost use Rattle.wasm_sections.specs.Exports.{ContainsExports};
+ghost use Rattle.wasm_sections.specs.Globals.{ContainsGlobals};
+ghost use Rattle.examples.specs.Coverage.{counter, counter_exports, counting};
 
-use super::{CoverageError, memory_at};
+use super::numbers::Numbers;
 use std::alloc::Allocator;
-use wasm_base::{
-    Encode, Readable, Refused, Result as Encoded, Standard, ValType, encode_size_prefixed,
-};
+use wasm_base::{Refused, Result as Written, ValType};
 use wasm_code::ConstExpr;
-use wasm_reader::{ReadError, Section};
-use wasm_sections::{ExportKind, GlobalType};
+use wasm_insn::InstructionSink;
+use wasm_remap::Prologue;
+use wasm_sections::{ExportKind, ExportSection, GlobalSection, GlobalType};
 
-/// Returns the encoding of a counter.
-fn counter<A: Allocator + Copy>(alloc: A) -> Encoded<Vec<u8, A>>
-    ensures { IfOk result (λ bytes. global_item standard bytes.items counter) }
+/// Returns this many counters: mutable globals of 32 bits, initially 0.
+pub(super) fn counters<A: Allocator + Copy>(number: u32, alloc: A) -> Written<GlobalSection<A>>
+    ensures { IfOk result (λ section. ContainsGlobals section (replicate number counter)) }
 {
     let global_type = GlobalType {
         val_type: ValType::I32,
         mutable: true,
         shared: false,
     };
-    let init = ConstExpr::i32_const(alloc, 0)?;
-    let mut bytes = Vec::new(alloc);
-    global_type.encode(&mut bytes)?;
-    init.encode(&mut bytes)?;
-    Ok(bytes)
-}
-
-/// Returns the encodings of this many counters.
-pub(super) fn counters<A: Allocator + Copy>(number: u32, alloc: A) -> Encoded<Vec<u8, A>>
-    ensures { IfOk result (λ bytes. members global_item standard bytes.items (replicate number counter)) }
-{
-    let one = counter(alloc)?;
-    let mut bytes = Vec::new(alloc);
+    let zero = ConstExpr::i32_const(alloc, 0)?;
+    let mut section = GlobalSection::new(alloc);
     for _done in 0..number {
-        bytes.extend_from_slice(&one)?;
+        section.global(global_type, &zero)?;
     }
-    Ok(bytes)
+    Ok(section)
 }
 
-/// Appends the decimal digits of the number.
-fn append_decimal<A: Allocator>(n: u32, text: &mut Vec<u8, A>) -> Encoded<()>
-    ensures { OnOk result (text.new.items ≡ text.old.items ++ decimal n) }
+/// Returns the name of the counter of a function.
+fn counter_name<A: Allocator>(function: u32, alloc: A) -> Written<String<A>>
+    ensures { IfOk result (λ name. string_bytes name ≡ codes "coverage." ++ decimal function) }
 {
-    if n >= 10 {
-        append_decimal(n / 10, text)?;
-    }
-    text.push(b'0' + (n % 10) as u8)?;
-    Ok(())
+    let mut name = String::new(alloc);
+    write!(name, "coverage.{function}")?;
+    Ok(name)
 }
 
-/// Appends the export of the counter of a function.
-fn append_export<A: Allocator + Copy>(
-    function: u32,
-    index: u32,
-    bytes: &mut Vec<u8, A>,
-) -> Encoded<()>
-    ensures { OnOk result (GainsEncoding export (counter_export function index) bytes.old.items bytes.new.items) }
+/// Returns the exports of the counters, one for each body.
+pub(super) fn exports<A: Allocator + Copy>(numbers: Numbers, alloc: A) -> Written<ExportSection<A>>
+    ensures { IfOk result (λ section. ContainsExports section (counter_exports numbers.function numbers.counter numbers.bodies)) }
 {
-    let mut name = Vec::from_slice(*bytes.allocator(), b"coverage.")?;
-    append_decimal(function, &mut name)?;
-    encode_size_prefixed(bytes, &name)?;
-    (ExportKind::Global, index).encode(bytes)
-}
-
-/// Returns the encodings of the exports of this many counters: that of a function and an index, and
-/// those after it.
-pub(super) fn exports<A: Allocator + Copy>(
-    function: u32,
-    index: u32,
-    number: u32,
-    alloc: A,
-) -> Encoded<Vec<u8, A>>
-    ensures { IfOk result (λ bytes. members export standard bytes.items (counter_exports function index number)) }
-{
-    let mut bytes = Vec::new(alloc);
-    for i in 0..number {
-        let (Some(function), Some(index)) = (function.checked_add(i), index.checked_add(i)) else {
+    let mut section = ExportSection::new(alloc);
+    for body in 0..numbers.bodies {
+        let (Some(function), Some(counter)) = (
+            numbers.function.checked_add(body),
+            numbers.counter.checked_add(body),
+        ) else {
             return Err(Refused::TooLong);
         };
-        append_export(function, index, &mut bytes)?;
+        let name = counter_name(function, alloc)?;
+        section.export(name.as_str(), ExportKind::Global, counter)?;
     }
-    Ok(bytes)
+    Ok(section)
 }
 
-/// Returns a count, and bytes after it.
-fn counted<A: Allocator>(count: u32, front: &[u8], back: &[u8], alloc: A) -> Encoded<Vec<u8, A>>
-    ensures { IfOk result (λ new. new.items ≡ unsigned_encoding count ++ (front.now ++ back.now)) }
-{
-    let mut new = Vec::new(alloc);
-    count.encode(&mut new)?;
-    new.extend_from_slice(front)?;
-    new.extend_from_slice(back)?;
-    Ok(new)
+/// Adds 1 to the counter of each body.
+#[derive(Clone, Copy)]
+pub(super) struct Counting {
+    /// The index of the first counter.
+    pub(super) first: u32,
 }
 
-/// Returns the payload of a section of counted items, with `added` more items at the end.
-pub(super) fn extended<A: Allocator + Copy>(
-    section: &Section<'_, A>,
-    added: u32,
-    items: &[u8],
-    alloc: A,
-) -> Result<Vec<u8, A>, CoverageError>
-    ensures found { IfOk result (λ new. IsExtended section.now.section.payload added items.now new.items) }
-    ensures none { IfErr result (λ e. IsMalformed e → Rejects u32 standard section.now.section.payload) }
-    ensures unfit { IfErr result (λ e. IsUnfit e → ⊥) }
-{
-    let offset = section.offset();
-    let (count, rest) = match <u32 as Readable<'_, A, Standard>>::read(section.payload(), alloc) {
-        Ok(read) => read,
-        Err(error) => {
-            return Err(CoverageError::Read(ReadError {
-                cause: error.cause(),
-                offset,
-            }));
-        }
-    };
-    let Some(count) = count.checked_add(added) else {
-        return Err(memory_at(offset));
-    };
-    match counted(count, rest, items, alloc) {
-        Ok(new) => Ok(new),
-        Err(_) => Err(memory_at(offset)),
+impl Prologue for Counting {
+    ghost code = { λ it body. counting (it.first + body) };
+
+    ghost closed = { λ _ _. refl };
+
+    fn append<A: Allocator>(&self, body: u32, sink: &mut Vec<u8, A>) -> Written<()> {
+        let Some(counter) = self.first.checked_add(body) else {
+            return Err(Refused::TooLong);
+        };
+        let mut sink = InstructionSink::new(sink);
+        sink.global_get(counter)?;
+        sink.i32_const(1)?;
+        sink.i32_add()?;
+        sink.global_set(counter)
     }
 }

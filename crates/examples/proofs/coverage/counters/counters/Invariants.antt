@@ -1,5 +1,7 @@
-use Rattle.examples.proofs.Common.{members, standard, replicate, global_item, counter}
+use Rattle.std.proofs.Common.{replicate}
+use Rattle.wasm_sections.specs.Globals.{ContainsGlobals}
+use Rattle.examples.specs.Coverage.{counter}
 use Rattle.examples.proofs.coverage.counters.counters.Given as goal
 
 abbrev pub invariant-loop-done : goal.invariant-loop-done
-invariant-loop-done g l = members global_item standard l.bytes.items (replicate l._done counter)
+invariant-loop-done g l = ContainsGlobals l.section (replicate l._done counter)

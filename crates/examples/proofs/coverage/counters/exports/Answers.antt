@@ -1,7 +1,16 @@
-use Rattle.examples.proofs.Common.{subst, members, standard, export, members_gain, exports_push}
+use Rattle.wasm_base.proofs.Words.{arith, subst, ◌∙◌}
+use Rattle.wasm_sections.proofs.Words.{new_exports}
+use Rattle.wasm_sections.specs.Exports.{ContainsExports}
+use Rattle.examples.proofs.CoverageLaws.{adds_counter, exports_push}
 use Rattle.examples.proofs.coverage.counters.exports.Goals as goal
 
-pub loop-i-preserved : goal.loop-i-preserved
-loop-i-preserved g c =
-    subst (λ xs. members export standard c.append_export.new.bytes.items xs) (exports_push c.loop-i.i c.args.function c.args.index _ _ c.in-Some-Some.ensures.1 c.in-Some-Some.ensures'.1)
-    (members_gain export _ c.loop-i.invariant c.in_ok-append_export.ensures)
+pub loop-body-init : goal.loop-body-init
+loop-body-init g c = new_exports c.new-section.ensures
+
+pub loop-body-preserved : goal.loop-body-preserved
+loop-body-preserved g c =
+    let f = c.in-Some-Some.function in
+    let i = c.in-Some-Some.counter in
+    let name = c.as_str.ensures.value ∙ c.in_ok-name.ensures in
+    subst (ContainsExports c.export.new.self) (exports_push c.loop-body.body c.args.numbers.function c.args.numbers.counter f i c.in-Some-Some.ensures.1 c.in-Some-Some.ensures'.1)
+    (adds_counter f i c.as_str.result.now c.loop-body.invariant name c.in_ok-export.ensures.ok c.in_ok-export.ensures.was_encodable (omega (arith, c.in-Some-Some.ensures.0)) (omega (arith, c.in-Some-Some.ensures'.0)))

@@ -1,4 +1,0 @@
-use Rattle.examples.proofs.coverage.counters.+append_decimal.Given as goal
-
-abbrev pub decreases-append_decimal : goal.decreases-append_decimal
-decreases-append_decimal g l = l.n
