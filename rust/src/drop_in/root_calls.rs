@@ -16,13 +16,12 @@ use super::bytes::Bytes;
 use super::const_expr::encodings;
 use super::custom::MARK;
 use super::sections::{Front, Given, Later};
-use super::short::{Few, Tested};
+use super::short::Tested;
 use crate::{base, code, custom, types};
 use crate::alloc::Global;
 use crate::base::{Lent, Store, bytes_of};
 use crate::code::first::First;
 use crate::ending::Root;
-use crate::sections::data::PASSIVE;
 use crate::sections::table::BEFORE_INIT;
 use crate::types::types::FUNC;
 use alloc_crate::string::String;
@@ -890,6 +889,8 @@ impl DataSection {
 
     /// Adds a segment whose bytes are copied to a memory by an instruction.
     ///
+    /// If there are more than 4294967295 bytes, the call panics.
+    ///
     /// The instructions are `memory.init` and `array.new_data`.
     ///
     /// # Panics
@@ -911,9 +912,9 @@ impl DataSection {
     /// # Proved
     ///
     /// The contract of
-    /// [`fallible::DataSection::passive`](crate::fallible::DataSection#method.passive). This call
-    /// does the same, as tests show. Where that returns an error, this call panics. In the clauses,
-    /// `S` is [`Entries`](crate::fallible::Entries), and `bytes` is `data`.
+    /// [`fallible::DataSection::passive`](crate::fallible::DataSection#method.passive), which this
+    /// call makes. Where that returns an error, this call panics. In the clauses, `S` is
+    /// [`Entries`](crate::fallible::Entries), and `bytes` is `data`.
     ///
     /// The section gains one entry with the bytes that the iterator yields, or the call returns an error and changes nothing. It returns `TooLong` if the section is full or the iterator reports more than 2^32 - 1 remaining bytes, and otherwise not.
     ///
@@ -928,7 +929,7 @@ impl DataSection {
         D: IntoIterator<Item = u8>,
         D::IntoIter: ExactSizeIterator,
     {
-        done(self.0.add_once(Few([PASSIVE], data)));
+        done(self.0.passive(data));
         self
     }
 
@@ -2106,7 +2107,7 @@ impl CoreTypeEncoder<'_> {
         R: IntoIterator<Item = ValType>,
         R::IntoIter: ExactSizeIterator,
     {
-        done(self.0.section.entries.add_item_once(([], Later([FUNC], params.into_iter().map(Tested)), Later([], results.into_iter().map(Tested)))))
+        done(self.0.section.entries.add_item_once((FUNC, Later(params.into_iter().map(Tested)), Later(results.into_iter().map(Tested)))))
     }
 
     /// Adds a function type.
@@ -3494,7 +3495,7 @@ impl CoreDumpInstancesSection {
         G: IntoIterator<Item = u32>,
         <G as IntoIterator>::IntoIter: ExactSizeIterator,
     {
-        done(self.0.add_once(((MARK, module_index), Later([], memories), Later([], globals))));
+        done(self.0.add_once(((MARK, module_index), Later(memories), Later(globals))));
         self
     }
 }
@@ -3616,7 +3617,7 @@ impl CoreDumpStackSection {
         S: IntoIterator<Item = CoreDumpValue>,
         <S as IntoIterator>::IntoIter: ExactSizeIterator,
     {
-        done(self.0.frames.add_item_once(((MARK, (instanceidx, funcidx, codeoffset)), Later([], locals), Later([], stack))));
+        done(self.0.frames.add_item_once(((MARK, (instanceidx, funcidx, codeoffset)), Later(locals), Later(stack))));
         self
     }
 

@@ -1,7 +1,6 @@
 //! Entries of sections as the proved calls take them.
-use super::short::put_front;
 use super::{DataSegmentMode, ElementMode, Elements, NONE};
-use crate::base::{CowSlice, Encode, EncodeOnce, Lent, Refused, Result, encode_vec};
+use crate::base::{CowSlice, Encode, EncodeOnce, Lent, Result, encode_vec, vec_of};
 use crate::sections::data::{ACTIVE, ACTIVE_IN_MEMORY, PASSIVE};
 use crate::sections::{self, CountedSection};
 use crate::vec::Sink;
@@ -20,25 +19,17 @@ builders! {
     DataSection { Clone } { Default } { Section Data } { Debug bytes num_added }
 }
 
-/// A front and a vector of the items of an iterator, which is made and measured when the vector is
-/// encoded, and not before: an iterator may share its state with one that is finished first.
-pub struct Later<const N: usize, V>(pub [u8; N], pub V);
+/// A vector of the items of an iterator, which is made and measured when the vector is encoded, and
+/// not before: an iterator may share its state with one that is finished first.
+pub struct Later<V>(pub V);
 
-impl<const N: usize, V> EncodeOnce for Later<N, V>
+impl<V> EncodeOnce for Later<V>
 where
     V: IntoIterator<Item: Encode, IntoIter: ExactSizeIterator>,
 {
     #[inline(always)]
     fn encode_once<A: Sink>(self, sink: &mut A) -> Result<()> {
-        let items = self.1.into_iter();
-        let Ok(count) = u32::try_from(items.len()) else {
-            return Err(Refused::TooLong);
-        };
-        put_front(self.0, count, sink)?;
-        for item in items {
-            item.encode(sink)?;
-        }
-        Ok(())
+        vec_of(self.0)?.encode_once(sink)
     }
 }
 

@@ -1,10 +1,8 @@
 //! Instructions of few bytes. Their proved encoders append to an array on the stack, where the
 //! compiler needs no test of a length and no path for an error, and the array is copied at once.
-use super::{done, refuse};
+use super::done;
 use crate::alloc::AllocError;
-use crate::base::{
-    AbstractHeapType, Encode, EncodeOnce, HeapType, Lent, Refused, Result, ValType, bytes_of,
-};
+use crate::base::{AbstractHeapType, Encode, HeapType, Lent, Result, ValType};
 use crate::ending::{Growing, grow};
 use crate::immediates::{Ieee32, Ieee64, Lane, MemArg, MemArgTarget, Ordering};
 use crate::sections::{DataCountSection, StartSection};
@@ -177,75 +175,6 @@ fn put_tight<P: Short>(number: P, list: &mut Vec<u8>) {
         grow(list, P::MOST);
     }
     done(number.long().encode(&mut Growing(list)));
-}
-
-/// Appends a front and a count, at once if that is short.
-#[inline(always)]
-pub fn put_front<const N: usize, A: Sink>(front: [u8; N], count: u32, sink: &mut A) -> Result<()> {
-    if count.is_short() && sink.capacity() - sink.len() > N {
-        let bytes = &mut [0; SPACE];
-        let mut slots = Slots { bytes, len: 0 };
-        (front, count.short()).encode(&mut slots)?;
-        if slots.len == N + 1 {
-            return Ok(sink.extend_from_slice(&slots.bytes[..N + 1])?);
-        }
-    }
-    (front, count).encode(sink)
-}
-
-/// The bytes that an iterator yields, with their number and a front before them. A few bytes are
-/// appended as a block.
-pub struct Few<const N: usize, V>(pub [u8; N], pub V);
-
-impl<const N: usize, V> EncodeOnce for Few<N, V>
-where
-    V: IntoIterator<Item = u8, IntoIter: ExactSizeIterator>,
-{
-    #[inline(always)]
-    fn encode_once<A: Sink>(self, sink: &mut A) -> Result<()> {
-        let Few(front, bytes) = self;
-        let bytes = bytes.into_iter();
-        if size_of_val(&bytes) > BORROWED {
-            return (front, bytes_of(bytes)?).encode_once(sink);
-        }
-        let count = bytes.len();
-        if count >= BLOCK - 1 - N || sink.capacity() - sink.len() < BLOCK {
-            many(front, count, bytes, sink);
-            return Ok(());
-        }
-        let mut end = sink.len();
-        sink.extend_from_slice(&[0; BLOCK]).ok();
-        if let Some(block) = sink.last_chunk_mut() {
-            let mut slots = Slots::<BLOCK> {
-                bytes: block,
-                len: 0,
-            };
-            done((front, count as u32).encode(&mut slots));
-            for byte in bytes {
-                slots.push(byte).ok();
-            }
-            end += slots.len;
-        }
-        sink.truncate(end);
-        Ok(())
-    }
-}
-
-/// The size of the iterator of a borrowed slice. A larger one costs more to pass than [`Few`] saves.
-const BORROWED: usize = size_of::<core::slice::Iter<'_, u8>>();
-
-/// Appends this many bytes, which are not few or have no block.
-#[inline(never)]
-fn many<const N: usize, I, A: Sink>(front: [u8; N], count: usize, bytes: I, sink: &mut A)
-where
-    I: Iterator<Item = u8>,
-{
-    let Ok(number) = u32::try_from(count) else {
-        refuse(Refused::TooLong)
-    };
-    sink.reserve(count.saturating_add(BLOCK)).ok();
-    done(put_front(front, number, sink));
-    sink.extend(bytes).ok();
 }
 
 /// Implements [`Short`] for types: the sizes, which values are short, a value after that test, of

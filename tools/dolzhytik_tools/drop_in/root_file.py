@@ -192,7 +192,6 @@ def impls(calls: list[Call], items: list[str]) -> Iterator[str]:
 # The modules of names in the code that the root does not export.
 ELSEWHERE = {
     "BEFORE_INIT": "crate::sections::table",
-    "PASSIVE": "crate::sections::data",
     "Bytes": "super::bytes",
     "FUNC": "crate::types::types",
     "First": "crate::code::first",
@@ -206,7 +205,6 @@ ELSEWHERE = {
     "Store": "crate::base",
     "String": "alloc_crate::string",
     "Tested": "super::short",
-    "Few": "super::short",
     "bytes_of": "crate::base",
     "encodings": "super::const_expr",
     "Vec": "alloc_crate::vec",
