@@ -30,7 +30,7 @@ use Rattle.wasm_remap.specs.Begun.{GainsCode, InsertsCode}
 use Rattle.wasm_remap.specs.Errors.{ExplainsCode, ExplainsInsert, HasFirst, HasSection}
 use Rattle.wasm_remap.specs.Imported.{imported}
 use Rattle.wasm_remap.specs.Inserted.{GainsMembers, InsertsSection, between, is_number}
-use Rattle.wasm_remap.specs.Places.{copied}
+use Rattle.wasm_remap.specs.Places.{IsFound, copied}
 use Rattle.wasm_remap.specs.declared.indexed.RemapError.{RemapError}
 use Rattle.wasm_remap.specs.declared.indexed.RemapError.TheVariants as edits
 use Rattle.wasm_remap.specs.declared.insert.Position.TheVariants.{Last}
@@ -476,9 +476,9 @@ module _ {id : ℕ} {P : List ℕ → Type 0} {bytes : List ℕ} (h : Each id P 
         each = All-append Has (map copied g.before) ((other, g.payload) ∷ map copied g.after) parts.0 (λ e. absurd (differs e), parts.1);
       }
     where
-      go : {M N : Section → Type 0} {O : Type 0} → ((section : Section) × (g.olds ≡ g.before ++ section ∷ g.after) × M section × N section) ⊎ ((g.olds ≡ g.before ++ g.after) × O) → AllByRecursion Has (map copied g.before) × AllByRecursion Has (map copied g.after)
+      go : {M : Section → Type 0} {N O : Type 0} → ((section : Section) × IsFound other g.before section g.after g.olds × M section) ⊎ ((g.olds ≡ g.before ++ g.after) × N × O) → AllByRecursion Has (map copied g.before) × AllByRecursion Has (map copied g.after)
       go (inl m) =
-          let parts = each_split g.before (m.0 ∷ g.after) g.has m.1 in
+          let parts = each_split g.before (m.0 ∷ g.after) g.has m.1.split in
           (parts.0, parts.1.1)
       go (inr m) = each_split g.before g.after g.has m.0
 

@@ -311,17 +311,12 @@ fn bytes_that_do_not_decode() {
     assert!(matches!(no_module, RemapError::Read(_)));
 }
 
-/// Code is mapped while it is decoded.
+/// In code that does not decode, no rejected index is reported.
 #[test]
-fn an_index_before_a_wrong_byte() {
+fn a_wrong_byte_in_code() {
     let none = |space, index| (space != IndexSpace::Functions).then_some(index);
-    let rejected = error(
-        none,
-        &module(&["0a 06 01 04 00 1000 ff"]),
-        Offsets::LeaveOut,
-    );
-    assert_eq!(rejected, RemapError::Index((IndexSpace::Functions, 0)));
     let wrong = [
+        ("0a 06 01 04 00 1000 ff", ReadFault::UnknownOpcode, 15),
         ("0a 07 01 05 00 ff 1000 0b", ReadFault::UnknownOpcode, 13),
         ("0a 07 01 04 00 01010b 0b", ReadFault::SizeMismatch, 16),
         ("0a 05 02 03 00 010b", ReadFault::Ended, 15),
