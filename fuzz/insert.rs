@@ -8,8 +8,8 @@ use dolzhytik::fallible::{
     self, EntityType, Global, Import, InstructionSink, Op, RawSection, Refused,
 };
 use dolzhytik::reader::remap::{
-    IndexSpace, IndexTooLarge, Instrument, Position, Prologue, RemapError, Visited, insert_code, insert_import,
-    insert_section, instrument_code,
+    IndexSpace, IndexTooLarge, Instrument, Position, Prologue, RemapError, Visited, insert_code,
+    insert_import, insert_section, instrument_code,
 };
 use dolzhytik::reader::{Body, Items, Offsets, Plain as Decoded, Section, Sections};
 

@@ -49,7 +49,10 @@ impl<E: Error> Error for RemapError<E> {
 impl fmt::Display for IndexTooLarge {
     fn fmt(&self, f: &mut fmt::Formatter<'_>) -> fmt::Result {
         let Self { space, index } = self;
-        write!(f, "index {index} of {space:?} would become more than 4294967295")
+        write!(
+            f,
+            "index {index} of {space:?} would become more than 4294967295"
+        )
     }
 }
 
