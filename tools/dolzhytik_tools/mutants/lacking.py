@@ -13,14 +13,15 @@ from .say import say
 
 # Functions whose type leaves one result, or whose contract allows any: `Refusing::new` has one
 # value of the type parameter, an instruction that is passed by value is in the range of its type,
-# no contract says what `{:?}` writes, any number is a mark of `Discard`, and an effect may hide that
-# it is idle.
+# no contract says what `{:?}` writes, any number is a mark of `Discard`, an effect may hide that
+# it is idle, and a pass over code that stops gives no error itself.
 SETTLED = {
     ("test_support", "src/memory.rt", "new"),
     ("wasm_base", "src/effect.rt", "is_idle"),
     ("wasm_base", "src/effect.rt", "position"),
     ("wasm_base", "src/fault.rt", "fmt"),
     ("wasm_insn", "src/ranged.rt", "ranged"),
+    ("wasm_remap", "src/streamed.rt", "from"),
 }
 # Crates whose results a driver compares with those of its own encoder: their mutants may be in
 # inner/.
