@@ -1,8 +1,6 @@
 """The file of the enum: its cases, their conversion to proved values, and their encoding."""
 from __future__ import annotations
 
-from collections.abc import Iterable
-
 from ..errors import Stop
 from .cases import HEAD, Case, item_of
 from .standard import alias, field, said
@@ -99,33 +97,10 @@ def written(case: Case) -> str:
 
 def encode_arms(cases: list[Case]) -> str:
     """Returns an arm for the cases with immediates of the same types that the same call encodes."""
-    return arms((tuple(case.types), written(case), case) for case in cases)
-
-
-def name_arm(case: Case) -> str:
-    """Returns the arm of a case's name."""
-    return "            Instruction::%s => \"%s\",\n" % (case.pattern(), case.name)
-
-
-def shown(case: Case) -> str:
-    """Returns the call that shows the fields of a case, in the order of their declaration."""
-    letter = dict(zip(case.fields, case.letters()))
-    fields = ["\"%s\", %s" % (name, letter[name]) for name, _ in case.declared] or case.letters()
-    return "f.debug_%s(name)%s.finish()" % ("struct" if case.declared else "tuple", "".join(".field(%s)" % it for it in fields))
-
-
-def debug_arms(cases: list[Case]) -> str:
-    """Returns an arm for the cases with fields of the same names and types."""
-    return arms((tuple(case.types), shown(case), case) for case in cases if case.types)
-
-
-def arms(ways: Iterable[tuple[tuple[str, ...], str, Case]]) -> str:
-    """Returns an arm for the cases of the same types and the same expression."""
-    patterns: dict[tuple[tuple[str, ...], str], list[str]] = {}
-    for types, way, case in ways:
-        of = case.pattern() if "self" in way else case.of(case.letters())
-        patterns.setdefault((types, way), []).append("Instruction::" + of)
-    return "".join("            %s => %s,\n" % ("\n            | ".join(of), way) for (_, way), of in patterns.items())
+    arms: dict[tuple[tuple[str, ...], str], list[str]] = {}
+    for case in cases:
+        arms.setdefault((tuple(case.types), written(case)), []).append("Instruction::" + (case.pattern() if case.shape == "k" else case.of(case.letters())))
+    return "".join("            %s => %s,\n" % ("\n            | ".join(patterns), way) for (_, way), patterns in arms.items())
 
 
 TEMPLATE = """//! The instructions, as cases of one enum.
@@ -139,7 +114,6 @@ use crate::insn::{self, BlockType, Catch, Handle, Ieee32, Ieee64, Lane, MemArg, 
 use crate::reader::{Arg, Decoded, Plain, ReadFault};
 use alloc_crate::borrow::Cow;
 use alloc_crate::vec::Vec;
-use core::fmt;
 
 /// An instruction as a value, with its immediates.
 ///
@@ -175,31 +149,10 @@ use core::fmt;
 /// ```
 ///
 /// [Instructions]: https://webassembly.github.io/spec/core/binary/instructions.html
-#[derive(Clone)]
+#[derive(Clone, Debug)]
 #[non_exhaustive]
 pub enum Instruction<'a> {
 %s}
-
-impl Instruction<'_> {
-    /// Returns the name of the case.
-    #[inline]
-    fn name(&self) -> &'static str {
-        match self {
-%s        }
-    }
-}
-
-// As `derive` writes it. That has an arm for each case, and would be the function of the package
-// that takes longest to compile.
-impl fmt::Debug for Instruction<'_> {
-    #[inline]
-    fn fmt(&self, f: &mut fmt::Formatter<'_>) -> fmt::Result {
-        let name = self.name();
-        match self {
-%s            _ => f.write_str(name),
-        }
-    }
-}
 
 /// Converts an instruction to the one that the proved calls take. Its lists are borrowed.
 impl<'a> From<&'a Instruction<'_>> for insn::Instruction<'a> {
@@ -436,8 +389,6 @@ def instruction_file(cases: list[Case]) -> str:
     """Returns the file."""
     return HEAD + TEMPLATE % (
         "".join(map(declaration, cases)),
-        "".join(map(name_arm, cases)),
-        debug_arms(cases),
         "".join(map(conversion, cases)),
         "".join(map(decoded_arm, cases)),
         "".join(map(op_arm, cases)),
